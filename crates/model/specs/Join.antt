@@ -1,0 +1,206 @@
+-- Founding and joining: document 01, "The join, step by step".
+use Prim.Native.Nat.{ℕ, suc, _+_}
+use mathlib.Core.Bool.{Bool, cond, not, _&&_, _||_}
+use mathlib.Core.List.{List}
+use lib.ListN.{getD, set}
+use lib.Dec.{leb, ltb, eqb}
+use Rattle.model.specs.Loops.{allBelow, firstBelow, eachBelow}
+use Rattle.model.specs.Ids.{digitOf}
+use Rattle.model.specs.Memory.{stateLength, tablesLength, digits, depth, nodeCount, zeroed, Node, idOf, statusOf, levelOf, targetOf}
+use Rattle.model.specs.Memory.{pendingOf, notifiedOf, withNode, inSystem, copying, waiting, notifying, isInSystem, isJoining}
+use Rattle.model.specs.Memory.{hasNode, addNode, removeNode, tableOf, withTable}
+use Rattle.model.specs.Tables.{entrySize, firstOf, ownTable}
+use Rattle.model.specs.Sound.{suffixOf}
+use Rattle.model.specs.Learning.{learn, learnTable}
+
+-- state and table memory
+pub record Memory : Type 0 where
+  pub state : List ℕ
+  pub tables : List ℕ
+
+-- ---- founding and beginning
+
+-- the settings and the number of nodes, in words 0 to 3
+abbrev pub withSettings : List ℕ → ℕ → ℕ → ℕ → ℕ → List ℕ
+withSettings s b d K n = set (set (set (set s 0 b) 1 d) 2 K) 3 n
+
+-- the record of a node at rest
+abbrev pub inSystemNode : ℕ → Node
+inSystemNode id = record { id = id; status = inSystem; level = 0; target = 0; pending = 0; notified = 0 }
+
+-- the record of a node that copies or waits, by its status and target
+abbrev pub joiningNode : ℕ → ℕ → ℕ → Node
+joiningNode id status target =
+    record { id = id; status = status; level = 0; target = target; pending = 0; notified = 0 }
+
+-- "Founding makes member 1, settled, with only its own entries." Every place of the fixed lengths is decided.
+unfoldable pub founded : List ℕ → List ℕ → ℕ → ℕ → ℕ → ℕ → Memory
+founded s t b d K id =
+    record {
+      state = withNode (withSettings (zeroed stateLength s) b d K 1) 1 (inSystemNode id);
+      tables = withTable (zeroed tablesLength t) 1 (ownTable d id 1);
+    }
+
+-- "Beginning a join adds the next number, copying, own entries only, target the gateway."
+unfoldable pub begun : List ℕ → List ℕ → ℕ → ℕ → Memory
+begun s t id gateway =
+    let x = nodeCount s + 1 in
+    record {
+      state = withNode (set s 3 x) x (joiningNode id copying gateway);
+      tables = withTable t x (ownTable (digits s) id x);
+    }
+
+-- ---- requests: "A copying member's request is a copy request, a waiting one's a wait request."
+
+-- "The outstanding requests are one to the target of each copying or waiting member and one to each member of each asked set."
+unfoldable pub outstanding : List ℕ → ℕ → ℕ → Bool
+outstanding s x y = isJoining s x && eqb (targetOf s x) y || hasNode (pendingOf s x) y
+
+-- ---- a delivery: x sends to y. Tx and Ty are their tables before the step, h their match.
+
+-- the kinds that a delivery answers: "copied .., sent on .., attached with its level, or notified"
+abbrev pub copied : ℕ
+copied = 1
+
+abbrev pub sentOn : ℕ
+sentOn = 2
+
+abbrev pub attached : ℕ
+attached = 3
+
+abbrev pub notified : ℕ
+notified = 4
+
+-- what a delivery does: x's record, x's table and y's table after it, and what it was, with the level if it attached
+pub record Delivery : Type 0 where
+  pub sender : Node
+  pub senderTable : List ℕ
+  pub receiverTable : List ℕ
+  pub kind : ℕ
+  pub level : ℕ
+
+-- "y entry (i, digit i of x) .. holds fewer than K"
+abbrev pub hasRoom : List ℕ → List ℕ → ℕ → ℕ → Bool
+hasRoom s Ty x i = ltb (entrySize (depth s) Ty i (digitOf (idOf s x) i)) (depth s)
+
+-- "E holds fewer than K", E being "y's entry (h, digit h of x) before the step"
+abbrev pub roomAtSuffix : List ℕ → List ℕ → ℕ → ℕ → Bool
+roomAtSuffix s Ty x y = hasRoom s Ty x (suffixOf s x y)
+
+-- the first of E
+abbrev pub firstAtSuffix : List ℕ → List ℕ → ℕ → ℕ → ℕ
+firstAtSuffix s Ty x y = firstOf Ty (suffixOf s x y) (digitOf (idOf s x) (suffixOf s x y))
+
+-- "Copying. x learns y's table. If E holds fewer than K, x becomes waiting with target y. Otherwise the target is the first of E: x
+-- stays copying if that member is settled, else becomes waiting."
+unfoldable pub deliverCopying : List ℕ → ℕ → ℕ → List ℕ → List ℕ → Delivery
+deliverCopying s x y Tx Ty =
+    let next = firstAtSuffix s Ty x y in
+    record {
+      sender =
+          cond (roomAtSuffix s Ty x y) (joiningNode (idOf s x) waiting y)
+          (joiningNode (idOf s x) (cond (isInSystem s next) copying waiting) next);
+      senderTable = learnTable s x Ty Tx;
+      receiverTable = Ty;
+      kind = copied;
+      level = 0;
+    }
+
+-- "If E holds K, x learns y's table and the target becomes the first of E."
+unfoldable pub deliverSentOn : List ℕ → ℕ → ℕ → List ℕ → List ℕ → Delivery
+deliverSentOn s x y Tx Ty =
+    record {
+      sender = joiningNode (idOf s x) waiting (firstAtSuffix s Ty x y);
+      senderTable = learnTable s x Ty Tx;
+      receiverTable = Ty;
+      kind = sentOn;
+      level = 0;
+    }
+
+-- level i has room, or lies below k
+abbrev pub belowOrRoom : List ℕ → List ℕ → ℕ → ℕ → ℕ → Bool
+belowOrRoom s Ty x k i = ltb i k || hasRoom s Ty x i
+
+-- "each y entry (i, digit i of x), k to h, holds fewer than K"
+abbrev pub roomFrom : List ℕ → List ℕ → ℕ → ℕ → ℕ → Bool
+roomFrom s Ty x h k = allBelow (suc h) (belowOrRoom s Ty x k)
+
+-- "the attach level is the lowest k such that each y entry (i, digit i of x), k to h, holds fewer than K"
+unfoldable pub attachLevel : List ℕ → List ℕ → ℕ → ℕ → ℕ
+attachLevel s Ty x h = firstBelow (suc h) (roomFrom s Ty x h)
+
+-- u may join x's pending set: it "matches x in k digits or more and isn't x or told"
+abbrev pub toNotify : List ℕ → ℕ → ℕ → ℕ → ℕ → Bool
+toNotify s x k told u = not (eqb u 0) && (not (eqb u x) && (leb k (suffixOf s x u) && not (hasNode told u)))
+
+abbrev pub gatherPlace : List ℕ → ℕ → ℕ → ℕ → List ℕ → ℕ → ℕ → ℕ
+gatherPlace s x k told T p nodes = let u = getD T p 0 in cond (toNotify s x k told u) (addNode nodes u) nodes
+
+-- the set with every such node of the table T added
+unfoldable pub gather : List ℕ → ℕ → ℕ → ℕ → List ℕ → ℕ → ℕ
+gather s x k told T nodes = eachBelow 512 (gatherPlace s x k told T) nodes
+
+-- "A notifying member whose asked set is empty settles in the same step: attach level, target and both sets become zero."
+unfoldable pub settle : Node → Node
+settle r = cond (eqb (r .status) notifying && eqb (r .pending) 0) (inSystemNode (r .id)) r
+
+-- a notifying node's record, settled where nothing is pending
+abbrev pub notifyingNode : ℕ → ℕ → ℕ → ℕ → Node
+notifyingNode id level pending told =
+    settle
+    (record { id = id; status = notifying; level = level; target = 0; pending = pending; notified = told })
+
+-- "x becomes notifying with it and target zero, learns y's table, and y learns x. The told set is y. The asked set is every member of
+-- x's table or y's that matches x in k digits or more and isn't x or told." s′ has x notifying: y learns x from that level on.
+unfoldable pub deliverAttached : List ℕ → ℕ → ℕ → List ℕ → List ℕ → Delivery
+deliverAttached s x y Tx Ty =
+    let k = attachLevel s Ty x (suffixOf s x y) in
+    let told = addNode 0 y in
+    let s′ =
+    withNode s x
+    (record { id = idOf s x; status = notifying; level = k; target = 0; pending = 0; notified = told }) in
+    let Tx′ = learnTable s′ x Ty Tx in
+    let Ty′ = learn s′ y x Ty in
+    record {
+      sender = notifyingNode (idOf s x) k (gather s x k told Ty′ (gather s x k told Tx′ 0)) told;
+      senderTable = Tx′;
+      receiverTable = Ty′;
+      kind = attached;
+      level = k;
+    }
+
+-- "Waiting, y settled."
+unfoldable pub deliverWaiting : List ℕ → ℕ → ℕ → List ℕ → List ℕ → Delivery
+deliverWaiting s x y Tx Ty =
+    cond (roomAtSuffix s Ty x y) (deliverAttached s x y Tx Ty) (deliverSentOn s x y Tx Ty)
+
+-- "Notifying. y learns x, x learns y's table, y moves from asked to told, and members of y's table that match x in at least the attach
+-- level, aren't x, told or asked, join the asked set."
+unfoldable pub deliverNotifying : List ℕ → ℕ → ℕ → List ℕ → List ℕ → Delivery
+deliverNotifying s x y Tx Ty =
+    let k = levelOf s x in
+    let told = addNode (notifiedOf s x) y in
+    let Ty′ = learn s y x Ty in
+    record {
+      sender = notifyingNode (idOf s x) k (gather s x k told Ty′ (removeNode (pendingOf s x) y)) told;
+      senderTable = learnTable s x Ty′ Tx;
+      receiverTable = Ty′;
+      kind = notified;
+      level = 0;
+    }
+
+-- "What a delivery does is decided by the sender's status."
+unfoldable pub delivery : List ℕ → List ℕ → ℕ → ℕ → Delivery
+delivery s t x y =
+    let Tx = tableOf t x in
+    let Ty = tableOf t y in
+    cond (eqb (statusOf s x) copying) (deliverCopying s x y Tx Ty)
+    (cond (eqb (statusOf s x) waiting) (deliverWaiting s x y Tx Ty) (deliverNotifying s x y Tx Ty))
+
+-- the memory after it: x's record and the two tables, and nothing else, are new
+unfoldable pub delivered : List ℕ → List ℕ → ℕ → ℕ → Delivery → Memory
+delivered s t x y r =
+    record {
+      state = withNode s x (r .sender);
+      tables = withTable (withTable t y (r .receiverTable)) x (r .senderTable);
+    }

@@ -1,0 +1,17 @@
+-- The definitions of document 01, a file for each of its subjects, to be read beside it.
+-- Every definition computes. Settings are parameters everywhere: b the base, d the digits, K the depth.
+-- The paper's words, where ours differ: member is node, match is common suffix, settled is in system, asked set is pending,
+-- told set is notified.
+pub mod Loops
+pub mod Ids
+pub mod Memory
+pub mod Tables
+pub mod Sound
+pub mod Learning
+pub mod Join
+pub mod Lookup
+pub mod Consistency
+pub mod Image
+pub mod Refusals
+pub mod Calls
+pub mod Run

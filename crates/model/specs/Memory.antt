@@ -1,0 +1,116 @@
+-- The lent memory: document 01, "A member's record ..", and the places that docs/MEMORY.md fixes.
+-- s is the state, a list of words; t the table memory, a list of bytes; x, y, u, z are node numbers.
+use Prim.Native.Nat.{ℕ, _+_, _-_, _*_, _/_, _%_, _^_}
+use mathlib.Core.Bool.{Bool, cond, _||_}
+use mathlib.Core.List.{List, _++_}
+use lib.ListN.{getD, set, take, drop, replicate}
+use lib.Dec.{eqb}
+
+-- the fixed lengths of the state in words and of the table memory in bytes
+abbrev pub stateLength : ℕ
+stateLength = 520
+
+abbrev pub tablesLength : ℕ
+tablesLength = 32768
+
+-- words 0 to 3: the settings and the number of nodes
+abbrev pub base : List ℕ → ℕ
+base s = getD s 0 0
+
+abbrev pub digits : List ℕ → ℕ
+digits s = getD s 1 0
+
+abbrev pub depth : List ℕ → ℕ
+depth s = getD s 2 0
+
+abbrev pub nodeCount : List ℕ → ℕ
+nodeCount s = getD s 3 0
+
+-- "A member's record is its id, status, attach level, target, asked set and told set": words 8x to 8x + 5 for node x
+pub record Node : Type 0 where
+  pub id : ℕ
+  pub status : ℕ
+  pub level : ℕ
+  pub target : ℕ
+  pub pending : ℕ
+  pub notified : ℕ
+
+abbrev pub idOf : List ℕ → ℕ → ℕ
+idOf s x = getD s (8 * x) 0
+
+abbrev pub statusOf : List ℕ → ℕ → ℕ
+statusOf s x = getD s (8 * x + 1) 0
+
+abbrev pub levelOf : List ℕ → ℕ → ℕ
+levelOf s x = getD s (8 * x + 2) 0
+
+abbrev pub targetOf : List ℕ → ℕ → ℕ
+targetOf s x = getD s (8 * x + 3) 0
+
+-- the asked set
+abbrev pub pendingOf : List ℕ → ℕ → ℕ
+pendingOf s x = getD s (8 * x + 4) 0
+
+-- the told set
+abbrev pub notifiedOf : List ℕ → ℕ → ℕ
+notifiedOf s x = getD s (8 * x + 5) 0
+
+-- the state with r as node x's record
+unfoldable pub withNode : List ℕ → ℕ → Node → List ℕ
+withNode s x r =
+    set
+    (set
+    (set (set (set (set s (8 * x) (r .id)) (8 * x + 1) (r .status)) (8 * x + 2) (r .level)) (8 * x + 3) (r .target))
+    (8 * x + 4)
+    (r .pending))
+    (8 * x + 5)
+    (r .notified)
+
+-- "the four statuses have fixed numbers: 0 settled, 1 copying, 2 waiting, 3 notifying"
+abbrev pub inSystem : ℕ
+inSystem = 0
+
+abbrev pub copying : ℕ
+copying = 1
+
+abbrev pub waiting : ℕ
+waiting = 2
+
+abbrev pub notifying : ℕ
+notifying = 3
+
+abbrev pub isInSystem : List ℕ → ℕ → Bool
+isInSystem s x = eqb (statusOf s x) inSystem
+
+-- copying or waiting
+abbrev pub isJoining : List ℕ → ℕ → Bool
+isJoining s x = eqb (statusOf s x) copying || eqb (statusOf s x) waiting
+
+-- settled or notifying
+abbrev pub isAttached : List ℕ → ℕ → Bool
+isAttached s x = eqb (statusOf s x) inSystem || eqb (statusOf s x) notifying
+
+-- sets of nodes, "64 bits each, bit n−1 for member n"; u counts from 1
+unfoldable pub hasNode : ℕ → ℕ → Bool
+hasNode nodes u = eqb (nodes / 2 ^ (u - 1) % 2) 1
+
+unfoldable pub addNode : ℕ → ℕ → ℕ
+addNode nodes u = cond (hasNode nodes u) nodes (nodes + 2 ^ (u - 1))
+
+unfoldable pub removeNode : ℕ → ℕ → ℕ
+removeNode nodes u = cond (hasNode nodes u) (nodes - 2 ^ (u - 1)) nodes
+
+-- "the answering member's table is one run of the lent table memory, 512 bytes from 512 times (number − 1)"
+abbrev pub tableStart : ℕ → ℕ
+tableStart x = 512 * (x - 1)
+
+unfoldable pub tableOf : List ℕ → ℕ → List ℕ
+tableOf t x = take 512 (drop (tableStart x) t)
+
+-- the table memory with T as node x's table
+unfoldable pub withTable : List ℕ → ℕ → List ℕ → List ℕ
+withTable t x T = take (tableStart x) t ++ (T ++ drop (tableStart x + 512) t)
+
+-- memory whose first n places are zero, and the places past them as they were
+abbrev pub zeroed : ℕ → List ℕ → List ℕ
+zeroed n xs = replicate n 0 ++ drop n xs

@@ -1,0 +1,101 @@
+-- Runs: document 01, "A run is a taken founding or reading, then any list of calls on that state with any arguments, taken or refused".
+use Prim.Native.Nat.{ℕ, _+_}
+use mathlib.Core.Bool.{Bool, true, false, cond, not, _&&_, _||_}
+use mathlib.Core.List.{List, [], _∷_}
+use lib.ListN.{getD}
+use lib.Dec.{eqb}
+use Rattle.model.specs.Join.{Memory, copied, sentOn}
+use Rattle.model.specs.Calls.{Outcome, foundCall, readCall, beginCall, deliverCall, lookupCall, verdictCall, writeCall}
+
+-- a call with its arguments
+pub data Call : Type 0 where
+  -- base, digits, depth, id
+  found : ℕ → ℕ → ℕ → ℕ → Call
+  -- the image
+  read : List ℕ → Call
+  -- id, gateway
+  begin : ℕ → ℕ → Call
+  -- sender, receiver
+  deliver : ℕ → ℕ → Call
+  -- from, to
+  lookup : ℕ → ℕ → Call
+  verdict : Call
+  -- the memory for output
+  write : List ℕ → Call
+
+-- "Each call gets the state and table memory as the one before left it"
+unfoldable pub step : Memory → Call → Outcome
+step m (found b d K id) = foundCall (m .state) (m .tables) b d K id
+step m (read im) = readCall (m .state) (m .tables) im
+step m (begin id gateway) = beginCall (m .state) (m .tables) id gateway
+step m (deliver x y) = deliverCall (m .state) (m .tables) x y
+step m (lookup u z) = lookupCall (m .state) (m .tables) u z
+step m verdict = verdictCall (m .state) (m .tables)
+step m (write out) = writeCall (m .state) (m .tables) out
+
+-- the memory after a call
+unfoldable pub after : Memory → Call → Memory
+after m c = let o = step m c in record { state = o .state; tables = o .tables }
+
+-- the memory after a list of calls
+unfoldable pub play : Memory → List Call → Memory
+play m [] = m
+play m (c ∷ cs) = play (after m c) cs
+
+-- "The run's history is its calls with their answers."
+pub record Event : Type 0 where
+  pub call : Call
+  pub answer : List ℕ
+
+unfoldable pub history : Memory → List Call → List Event
+history m [] = []
+history m (c ∷ cs) = record { call = c; answer = step m c .answer } ∷ history (after m c) cs
+
+-- the call was taken: its refusal is 0
+abbrev pub isTaken : List ℕ → Bool
+isTaken answer = eqb (getD answer 0 0) 0
+
+-- a founding or a reading
+abbrev pub isStart : Call → Bool
+isStart (found b d K id) = true
+isStart (read im) = true
+isStart (begin id gateway) = false
+isStart (deliver x y) = false
+isStart (lookup u z) = false
+isStart verdict = false
+isStart (write out) = false
+
+-- "a taken founding or reading"
+unfoldable pub starts : Memory → Call → Bool
+starts m c = isStart c && isTaken (step m c .answer)
+
+-- no call of the list starts a new run
+unfoldable pub goesOn : Memory → List Call → Bool
+goesOn m [] = true
+goesOn m (c ∷ cs) = not (starts m c) && goesOn (after m c) cs
+
+-- the first call starts a run, and the others go on with it
+unfoldable pub isRun : Memory → Call → List Call → Bool
+isRun m c cs = starts m c && goesOn (after m c) cs
+
+-- ---- what a node has sent
+
+-- "copied or sent on"
+abbrev pub keepsAsking : ℕ → Bool
+keepsAsking kind = eqb kind copied || eqb kind sentOn
+
+-- "A taken beginning sends one request, its new member's, and each taken delivery that leaves its sender copying or waiting sends one,
+-- that sender's; its answer then is copied or sent on."
+abbrev pub isSentBy : ℕ → Call → List ℕ → Bool
+isSentBy x (found b d K id) answer = false
+isSentBy x (read im) answer = false
+isSentBy x (begin id gateway) answer = eqb (getD answer 1 0) x
+isSentBy x (deliver y z) answer = eqb y x && keepsAsking (getD answer 1 0)
+isSentBy x (lookup u z) answer = false
+isSentBy x verdict answer = false
+isSentBy x (write out) answer = false
+
+-- "What a member has sent is the number of its own among these over the history, 0 for one that sent none in this run."
+unfoldable pub sent : ℕ → List Event → ℕ
+sent x [] = 0
+sent x (e ∷ es) = cond (isTaken (e .answer) && isSentBy x (e .call) (e .answer)) 1 0 + sent x es

@@ -1,0 +1,174 @@
+-- Soundness: document 01, "A state is sound when: ..", a definition for each clause of that sentence.
+use Prim.Native.Nat.{ℕ, _+_, _-_, _*_, _/_, _%_, _^_}
+use mathlib.Core.Bool.{Bool, true, false, not, _&&_, _||_}
+use mathlib.Core.List.{List, [], _∷_}
+use lib.ListN.{getD, take, drop}
+use lib.Dec.{leb, ltb, eqb}
+use Rattle.model.specs.Loops.{allBelow, anyBelow, node}
+use Rattle.model.specs.Ids.{settingsInRange, validId, digitOf, commonSuffix}
+use Rattle.model.specs.Memory.{stateLength, tablesLength, base, digits, depth, nodeCount, idOf, statusOf, levelOf, targetOf}
+use Rattle.model.specs.Memory.{pendingOf, notifiedOf, inSystem, copying, waiting, notifying, isInSystem, isAttached, hasNode}
+use Rattle.model.specs.Memory.{tableOf}
+use Rattle.model.specs.Tables.{qualified, slotAt, firstOf}
+
+-- x is the number of a node
+abbrev pub isNode : List ℕ → ℕ → Bool
+isNode s x = leb 1 x && leb x (nodeCount s)
+
+-- the match of two nodes
+abbrev pub suffixOf : List ℕ → ℕ → ℕ → ℕ
+suffixOf s x y = commonSuffix (digits s) (idOf s x) (idOf s y)
+
+-- node y is qualified for entry (i, j) of node x
+abbrev pub qualifies : List ℕ → ℕ → ℕ → ℕ → ℕ → Bool
+qualifies s x i j y = qualified (idOf s x) (idOf s y) i j
+
+-- ---- "there are 1 to 64 members with valid, different ids"
+
+abbrev pub countInRange : ℕ → Bool
+countInRange n = leb 1 n && leb n 64
+
+abbrev pub hasValidId : List ℕ → ℕ → Bool
+hasValidId s x = validId (base s) (digits s) (idOf s x)
+
+abbrev pub idDiffers : List ℕ → ℕ → ℕ → Bool
+idDiffers s x k = not (eqb (idOf s (k + 1)) (idOf s x))
+
+-- no node before x has its id
+unfoldable pub hasNewId : List ℕ → ℕ → Bool
+hasNewId s x = allBelow (x - 1) (idDiffers s x)
+
+-- ---- "tables obey the paragraphs above"
+
+-- copying and waiting nodes "stand in no table but their own": in x's table stand x and attached nodes
+abbrev pub mayStand : List ℕ → ℕ → ℕ → Bool
+mayStand s x u = eqb u x || isAttached s u
+
+abbrev pub slotDiffers : List ℕ → ℕ → ℕ → ℕ → ℕ → Bool
+slotDiffers T i j u e = not (eqb (slotAt T i j e) u)
+
+-- "without a gap": the slot before k is filled
+abbrev pub noGapBefore : List ℕ → ℕ → ℕ → ℕ → Bool
+noGapBefore T i j k = eqb k 0 || not (eqb (slotAt T i j (k - 1)) 0)
+
+-- slot k is empty, or follows a filled one and holds a node that may stand there, is qualified and is in no slot before it
+unfoldable pub slotSound : List ℕ → ℕ → List ℕ → ℕ → ℕ → ℕ → Bool
+slotSound s x T i j k =
+    let u = slotAt T i j k in
+    eqb u 0
+    || (leb u (nodeCount s)
+    && (mayStand s x u && (qualifies s x i j u && (noGapBefore T i j k && allBelow k (slotDiffers T i j u)))))
+
+-- "at most K different qualified members .. without a gap"
+unfoldable pub entrySound : List ℕ → ℕ → List ℕ → ℕ → ℕ → Bool
+entrySound s x T i j = allBelow (depth s) (slotSound s x T i j)
+
+unfoldable pub levelSound : List ℕ → ℕ → List ℕ → ℕ → Bool
+levelSound s x T i = allBelow (base s) (entrySound s x T i)
+
+-- "Member x stands first in each of its own entries (i, x's digit i)"
+abbrev pub ownerFirst : List ℕ → ℕ → List ℕ → ℕ → Bool
+ownerFirst s x T i = eqb (firstOf T i (digitOf (idOf s x) i)) x
+
+-- ---- the statuses
+
+-- "a settled member's attach level, target and sets are zero"
+unfoldable pub inSystemSound : List ℕ → ℕ → Bool
+inSystemSound s x =
+    eqb (levelOf s x) 0 && (eqb (targetOf s x) 0 && (eqb (pendingOf s x) 0 && eqb (notifiedOf s x) 0))
+
+-- "both have zero attach level and sets"
+unfoldable pub joiningSound : List ℕ → ℕ → Bool
+joiningSound s x = eqb (levelOf s x) 0 && (eqb (pendingOf s x) 0 && eqb (notifiedOf s x) 0)
+
+-- "a copying member's target is settled"
+unfoldable pub copyingSound : List ℕ → ℕ → Bool
+copyingSound s x = isNode s (targetOf s x) && (isInSystem s (targetOf s x) && joiningSound s x)
+
+-- "a waiting one's settled or notifying"
+unfoldable pub waitingSound : List ℕ → ℕ → Bool
+waitingSound s x = isNode s (targetOf s x) && (isAttached s (targetOf s x) && joiningSound s x)
+
+-- a node of the pending set is "settled or notifying .., matching it in at least as many digits as its attach level, not itself and
+-- not in its told set"
+unfoldable pub pendingSound : List ℕ → ℕ → ℕ → Bool
+pendingSound s x u =
+    not (hasNode (pendingOf s x) u)
+    || (isAttached s u
+    && (leb (levelOf s x) (suffixOf s x u) && (not (eqb u x) && not (hasNode (notifiedOf s x) u))))
+
+-- "its told set names only settled or notifying others"
+unfoldable pub notifiedSound : List ℕ → ℕ → ℕ → Bool
+notifiedSound s x u = not (hasNode (notifiedOf s x) u) || (isAttached s u && not (eqb u x))
+
+-- a set that names no number above the node count
+abbrev pub onlyNodes : List ℕ → ℕ → Bool
+onlyNodes s nodes = ltb nodes (2 ^ nodeCount s)
+
+-- "a notifying member has target zero, attach level below d, a nonempty asked set .."
+unfoldable pub notifyingSound : List ℕ → ℕ → Bool
+notifyingSound s x =
+    eqb (targetOf s x) 0
+    && (ltb (levelOf s x) (digits s)
+    && (ltb 0 (pendingOf s x)
+    && (onlyNodes s (pendingOf s x)
+    && (onlyNodes s (notifiedOf s x)
+    && (allBelow (nodeCount s) (node (pendingSound s x)) && allBelow (nodeCount s) (node (notifiedSound s x)))))))
+
+-- the rules of x's status; a number above 3 is no status
+unfoldable pub statusSound : List ℕ → ℕ → Bool
+statusSound s x =
+    eqb (statusOf s x) inSystem && inSystemSound s x
+    || (eqb (statusOf s x) copying && copyingSound s x
+    || (eqb (statusOf s x) waiting && waitingSound s x || eqb (statusOf s x) notifying && notifyingSound s x))
+
+-- ---- "unused places are zero"
+
+unfoldable pub allZero : List ℕ → Bool
+allZero [] = true
+allZero (w ∷ ws) = eqb w 0 && allZero ws
+
+-- the two spare words of x's record
+abbrev pub spareZero : List ℕ → ℕ → Bool
+spareZero s x = eqb (getD s (8 * x + 6) 0) 0 && eqb (getD s (8 * x + 7) 0) 0
+
+-- place p of a table is a slot below K of an entry with level below d and digit below b
+abbrev pub placeUsed : List ℕ → ℕ → Bool
+placeUsed s p = ltb (p / 64) (digits s) && (ltb (p % 64 / 4) (base s) && ltb (p % 4) (depth s))
+
+abbrev pub placeSound : List ℕ → List ℕ → ℕ → Bool
+placeSound s T p = placeUsed s p || eqb (getD T p 0) 0
+
+-- words 4 to 7, and the records of no node
+unfoldable pub stateRestZero : List ℕ → Bool
+stateRestZero s =
+    allZero (take 4 (drop 4 s)) && allZero (take (stateLength - (8 * nodeCount s + 8)) (drop (8 * nodeCount s + 8) s))
+
+-- the tables of no node
+unfoldable pub tablesRestZero : List ℕ → List ℕ → Bool
+tablesRestZero s t = allZero (take (tablesLength - 512 * nodeCount s) (drop (512 * nodeCount s) t))
+
+-- the two spare words of each record, words 4 to 7, the records and the tables of no node
+unfoldable pub unusedZero : List ℕ → List ℕ → Bool
+unusedZero s t = allBelow (nodeCount s) (node (spareZero s)) && (stateRestZero s && tablesRestZero s t)
+
+-- ---- the whole
+
+-- the rules for x's table
+unfoldable pub tableSound : List ℕ → ℕ → List ℕ → Bool
+tableSound s x T =
+    allBelow (digits s) (levelSound s x T)
+    && (allBelow (digits s) (ownerFirst s x T) && allBelow 512 (placeSound s T))
+
+abbrev pub hasSoundTable : List ℕ → List ℕ → ℕ → Bool
+hasSoundTable s t x = tableSound s x (tableOf t x)
+
+-- "A state is sound when .."
+unfoldable pub sound : List ℕ → List ℕ → Bool
+sound s t =
+    settingsInRange (base s) (digits s) (depth s)
+    && (countInRange (nodeCount s)
+    && (allBelow (nodeCount s) (node (hasValidId s))
+    && (allBelow (nodeCount s) (node (hasNewId s))
+    && (allBelow (nodeCount s) (node (hasSoundTable s t))
+    && (allBelow (nodeCount s) (node (statusSound s)) && unusedZero s t)))))
