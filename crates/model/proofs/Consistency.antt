@@ -1,0 +1,102 @@
+-- Laws of the verdict: a yes says of every entry that it holds min(K, H) nodes, and that every lookup arrives. Assumes nothing.
+use Prim.Native.Nat.{ℕ, _+_, _-_, _≤_, _<_, min}
+use mathlib.Core.Path.{_≡_, refl, sym, subst}
+use mathlib.Core.Logic.{_≢_}
+use mathlib.Core.Bool.{true}
+use mathlib.Core.List.{List}
+use native.Mathlib.Omega.{arith}
+use borrow.Author.Tests.{eqb-true, eq-eqb, not-true}
+use Rattle.model.specs.Loops.{firstBelow, node}
+use Rattle.model.specs.Ids.{digitOf}
+use Rattle.model.specs.Memory.{base, digits, depth, nodeCount, idOf, tableOf}
+use Rattle.model.specs.Tables.{entrySize}
+use Rattle.model.specs.Sound.{suffixOf, qualifies}
+use Rattle.model.specs.Lookup.{nextHop, lookup}
+use Rattle.model.specs.Consistency.{howMany, entryWhole, levelWhole, nodeWhole, consistent, nodeShort, levelShort, entryShort, firstShort, verdict}
+use Rattle.model.proofs.Loops.{all-at, all-of, count-some, first-holds, first-whole, first-short, first-fails}
+use Rattle.model.proofs.Nodes.{nodes-at, nodes-of}
+use Rattle.model.proofs.Ids.{suffix-self, qualified-of, valid-digit}
+use Rattle.model.proofs.Tables.{size-least}
+use Rattle.model.proofs.Status.{IsNode}
+use Rattle.model.proofs.Sound.{Sound}
+use Rattle.model.proofs.Delivering.{suffix-below}
+use Rattle.model.proofs.Lookup.{walk, arrives-is, lookup-hop}
+
+-- a node that qualifies counts
+pub counts : (s : List ℕ) (x i j y : ℕ) → IsNode s y → qualifies s x i j y ≡ true → 1 ≤ howMany s x i j
+unfolding howMany
+counts s x i j y n q =
+    let w : y ≡ y - 1 + 1 = omega (arith, n .low) in
+    count-some (nodeCount s) (node (qualifies s x i j)) (y - 1) (omega (arith, n .low, n .high))
+    (subst (λ (y : ℕ). qualifies s x i j y ≡ true) w q)
+
+-- "H being how many members qualify, the owner included": in its own entries the owner counts
+pub owner-counts : (s : List ℕ) (x i : ℕ) → IsNode s x → i ≤ digits s → 1 ≤ howMany s x i (digitOf (idOf s x) i)
+owner-counts s x i n h =
+    counts s x i (digitOf (idOf s x) i) x n
+    (qualified-of (digits s) (idOf s x) (idOf s x) i (digitOf (idOf s x) i) (rw suffix-self h) refl)
+
+-- ---- "The verdict is yes exactly when each entry of each member holds min(K, H) members"
+
+abbrev pub Whole : List ℕ → List ℕ → Type 0
+Whole s t =
+    (x i j : ℕ) → IsNode s x → i < digits s → j < base s
+    → entrySize (depth s) (tableOf t x) i j ≡ min (depth s) (howMany s x i j)
+
+module _ (s t : List ℕ) where
+  pub consistent-whole : consistent s t ≡ true → Whole s t
+  unfolding consistent nodeWhole levelWhole entryWhole
+  consistent-whole e x i j n hi hj =
+      eqb-true _ _
+      (all-at (base s) (entryWhole s t x i)
+      (all-at (digits s) (levelWhole s t x) (nodes-at (nodeCount s) (nodeWhole s t) e x (n .low) (n .high)) i hi) j hj)
+
+  pub whole-consistent : Whole s t → consistent s t ≡ true
+  unfolding consistent nodeWhole levelWhole entryWhole
+  whole-consistent h =
+      nodes-of (nodeCount s) (nodeWhole s t)
+      (λ x a b.
+      all-of (digits s) (levelWhole s t x)
+      (λ i hi.
+      all-of (base s) (entryWhole s t x i) (λ j hj. eq-eqb _ _ (h x i j (record { low = a; high = b }) hi hj))))
+
+  module _ (S : Sound s t) (yes : consistent s t ≡ true) (z : ℕ) (nz : IsNode s z) where
+    -- the destination qualifies for the entry of the next hop, so that entry is not empty
+    pub not-lost : (u : ℕ) → IsNode s u → u ≢ z → nextHop s t u z ≢ 0
+    unfolding nextHop
+    not-lost u nu ne q =
+        let m : ℕ = suffixOf s u z in
+        let j : ℕ = digitOf (idOf s z) m in
+        let below : m < digits s = suffix-below s t S u z nu nz (λ e. ne (sym e)) in
+        let w : entrySize (depth s) (tableOf t u) m j ≡ min (depth s) (howMany s u m j) =
+        consistent-whole yes u m j nu below (valid-digit (base s) (digits s) (idOf s z) m (S .ids z nz) below) in
+        let some : 1 ≤ howMany s u m j = counts s u m j z nz (qualified-of (digits s) (idOf s u) (idOf s z) m j (omega arith) refl) in
+        omega (arith, size-least (depth s) (tableOf t u) m j 0 q, S .settings .depth-least)
+
+    -- so on a yes every lookup between two nodes arrives
+    pub consistent-arrives : (u : ℕ) → IsNode s u → (lookup s t u z .arrived ≡ 1) × (lookup s t u z .last ≡ z)
+    consistent-arrives =
+        walk s t S z nz (λ (u : ℕ). (lookup s t u z .arrived ≡ 1) × (lookup s t u z .last ≡ z))
+        (λ u nu e. rw (arrives-is (digits s) s t u z e) (refl, e)) (λ u nu ne q. absurd (not-lost u nu ne q))
+        (λ u nu ne q ih. rw (lookup-hop s t S z nz u nu ne q) ih)
+
+-- ---- the verdict by its parts, as code finds them: k nodes are whole, then level i and digit j are the first short ones
+
+module _ (s t : List ℕ) (k : ℕ) (e : k ≡ firstBelow (nodeCount s) (node (nodeShort s t))) where
+  pub verdict-yes : nodeCount s ≤ k → record { consistent = 1; node = 0; level = 0; digit = 0 } ≡ verdict s t
+  unfolding verdict consistent
+  verdict-yes l = rw (first-whole (nodeCount s) (node (nodeWhole s t)) (omega (arith, e)))
+
+  module _ (l : k < nodeCount s) (i : ℕ) (ei : i ≡ firstBelow (digits s) (levelShort s t (k + 1))) where
+    pub level-found : i < digits s
+    unfolding nodeWhole
+    level-found =
+        subst (λ (i : ℕ). i < digits s) (sym ei)
+        (first-fails (digits s) (levelWhole s t (k + 1))
+        (not-true _
+        (subst (λ (k : ℕ). nodeShort s t (k + 1) ≡ true) (sym e) (first-holds (nodeCount s) (node (nodeShort s t)) (omega (arith, e))))))
+
+    pub verdict-no : (j : ℕ) → j ≡ firstBelow (base s) (entryShort s t (k + 1) i)
+        → record { consistent = 0; node = k + 1; level = i; digit = j } ≡ verdict s t
+    unfolding verdict consistent firstShort
+    verdict-no j ej = rw (first-short (nodeCount s) (node (nodeWhole s t)) (omega (arith, e)), ← e, ← ei, ← ej)

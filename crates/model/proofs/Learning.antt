@@ -1,0 +1,101 @@
+-- Laws of learning: a learned node is appended where it may be, and nothing else changes. Assumes nothing.
+use Prim.Native.Nat.{ℕ, suc, _+_, _*_, _≤_, _<_}
+use mathlib.Core.Path.{_≡_, refl, ap, ap₂, _∙_}
+use mathlib.Core.Logic.{_≢_, _⊎_, inl, inr, ⊎-elim}
+use mathlib.Core.Bool.{Bool, true, false, cond, not, _&&_, _||_}
+use mathlib.Core.List.{List}
+use native.Mathlib.Omega.{arith}
+use lib.Dec.{leb, ltb, eqb}
+use lib.ListN.{length, getD}
+use borrow.Author.Tests.{leb-true, ltb-true, eqb-false, not-true}
+use Rattle.model.specs.Loops.{eachBelow}
+use Rattle.model.specs.Ids.{digitOf}
+use Rattle.model.specs.Memory.{depth, idOf}
+use Rattle.model.specs.Tables.{slotPlace, entrySize, holds, append}
+use Rattle.model.specs.Sound.{suffixOf}
+use Rattle.model.specs.Learning.{floorOf, roomFor, learnAt, learn, learnPlace, learnTable}
+use Rattle.model.proofs.Bools.{and-left, and-right, true-or-false}
+use Rattle.model.proofs.Loops.{each-keeps}
+use Rattle.model.proofs.Tables.{Grows, grows-refl, grows-trans, append-away, append-grows}
+
+ruleset parts = (and-left, and-right)
+
+-- learning u at level i appended it
+pub record Appended (s : List ℕ) (u i : ℕ) (T : List ℕ) : Type 0 where
+  pub floor : floorOf s u ≤ i
+  pub absent : holds (depth s) T i (digitOf (idOf s u) i) u ≡ false
+  pub room : entrySize (depth s) T i (digitOf (idOf s u) i) < depth s
+  pub is : learnAt s u i T ≡ append (depth s) T i (digitOf (idOf s u) i) u
+
+module _ (s : List ℕ) (u i : ℕ) (T : List ℕ) where
+  test : Bool
+  test = leb (floorOf s u) i && roomFor (depth s) T i (digitOf (idOf s u) i) u
+
+  -- it appended u, or it changed nothing
+  pub learn-at-cases : Appended s u i T ⊎ (learnAt s u i T ≡ T)
+  unfolding learnAt test roomFor
+  learn-at-cases = go (true-or-false test)
+    where
+      went : (b : Bool) → test ≡ b → learnAt s u i T ≡ cond b (append (depth s) T i (digitOf (idOf s u) i) u) T
+      went b e = ap (λ (b : Bool). cond b (append (depth s) T i (digitOf (idOf s u) i) u) T) e
+
+      go : (test ≡ true) ⊎ (test ≡ false) → Appended s u i T ⊎ (learnAt s u i T ≡ T)
+      go (inl e) = inl record {
+        floor = leb-true (floorOf s u) i (search parts);
+        absent = not-true _ (search parts);
+        room = ltb-true _ (depth s) (search parts);
+        is = went true e;
+      }
+      go (inr e) = inr (went false e)
+
+  pub learn-at-grows : Grows T (learnAt s u i T)
+  learn-at-grows = ⊎-elim (λ a. rw (a .is) (append-grows (depth s) T i (digitOf (idOf s u) i) u (a .room))) (λ e. rw e (grows-refl T)) learn-at-cases
+
+  -- "from u's floor": a place of a level below it is as it was
+  pub learn-at-below : (p : ℕ) → p < 64 * floorOf s u → getD (learnAt s u i T) p 0 ≡ getD T p 0
+  learn-at-below p h =
+      ⊎-elim
+      (λ a.
+      let f : floorOf s u ≤ i = a .floor in
+      rw (a .is) (append-away (depth s) T i (digitOf (idOf s u) i) u p (omega arith)))
+      (λ e. ap (λ (l : List ℕ). getD l p 0) e)
+      learn-at-cases
+
+module _ (s : List ℕ) (x u : ℕ) (T : List ℕ) where
+  pub learn-grows : Grows T (learn s x u T)
+  unfolding learn
+  learn-grows =
+      each-keeps (Grows T) (suc (suffixOf s x u)) (learnAt s u) T (grows-refl T)
+      (λ i T′ l g. grows-trans g (learn-at-grows s u i T′))
+
+  pub learn-below : (p : ℕ) → p < 64 * floorOf s u → getD (learn s x u T) p 0 ≡ getD T p 0
+  unfolding learn
+  learn-below p h =
+      each-keeps (λ (T′ : List ℕ). getD T′ p 0 ≡ getD T p 0) (suc (suffixOf s x u)) (learnAt s u) T refl
+      (λ i T′ l e. learn-at-below s u i T′ p h ∙ e)
+
+-- learning a table, place by place
+pub learn-place-cases : (s : List ℕ) (x : ℕ) (Y : List ℕ) (p : ℕ) (T : List ℕ)
+    → (learnPlace s x Y p T ≡ T) ⊎ ((getD Y p 0 ≢ 0) × (getD Y p 0 ≢ x) × (learnPlace s x Y p T ≡ learn s x (getD Y p 0) T))
+unfolding learnPlace
+learn-place-cases s x Y p T = go (true-or-false (eqb u 0)) (true-or-false (eqb u x))
+  where
+    u : ℕ
+    u = getD Y p 0
+
+    went : (a b : Bool) → eqb u 0 ≡ a → eqb u x ≡ b → learnPlace s x Y p T ≡ cond (a || b) T (learn s x u T)
+    went a b e q = ap₂ (λ (a b : Bool). cond (a || b) T (learn s x u T)) e q
+
+    go : (eqb u 0 ≡ true) ⊎ (eqb u 0 ≡ false) → (eqb u x ≡ true) ⊎ (eqb u x ≡ false)
+        → (learnPlace s x Y p T ≡ T) ⊎ ((u ≢ 0) × (u ≢ x) × (learnPlace s x Y p T ≡ learn s x u T))
+    go (inl a) q = inl (went true (eqb u x) a refl)
+    go (inr a) (inl b) = inl (went false true a b)
+    go (inr a) (inr b) = inr (eqb-false u 0 a, eqb-false u x b, went false false a b)
+
+pub learn-table-grows : (s : List ℕ) (x : ℕ) (Y T : List ℕ) → Grows T (learnTable s x Y T)
+unfolding learnTable
+learn-table-grows s x Y T =
+    each-keeps (Grows T) 512 (learnPlace s x Y) T (grows-refl T)
+    (λ p T′ l g.
+    grows-trans g
+    (⊎-elim (λ e. rw e (grows-refl T′)) (λ c. rw (c .2) (learn-grows s x (getD Y p 0) T′)) (learn-place-cases s x Y p T′)))

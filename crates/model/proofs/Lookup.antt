@@ -1,0 +1,157 @@
+-- Laws of lookup in a sound state: each hop matches the destination in more digits, so a lookup ends, within d less the digits already
+-- matched, and does not depend on how many steps it may take. Assumes nothing.
+use Prim.Native.Nat.{ℕ, zero, suc, _+_, _-_, _≤_, _<_}
+use mathlib.Core.Path.{_≡_, sym, ap, _∙_}
+use mathlib.Core.Logic.{_≢_, _⊎_, inl, inr}
+use mathlib.Core.Bool.{true, false}
+use mathlib.Core.List.{List, [], _∷_}
+use native.Mathlib.Omega.{arith}
+use lib.Dec.{eqb}
+use lib.ListN.{length}
+use borrow.Author.Tests.{eqb-true, eqb-false, eq-eqb, ne-eqb}
+use Rattle.model.specs.Ids.{digitOf}
+use Rattle.model.specs.Memory.{base, digits, idOf, tableOf}
+use Rattle.model.specs.Sound.{suffixOf}
+use Rattle.model.specs.Lookup.{arrivedAt, lostAt, oneHopMore, nextHop, lookupWithin, lookup, veryHopsWithin, veryHops}
+use Rattle.model.proofs.Bools.{true-or-false}
+use Rattle.model.proofs.Ids.{next-hop, valid-digit}
+use Rattle.model.proofs.Status.{IsNode}
+use Rattle.model.proofs.Sound.{SlotOk, Sound}
+use Rattle.model.proofs.Delivering.{suffix-below}
+
+-- ---- the rule, one step of it
+
+-- what a lookup from u does first: it has arrived, is lost, or hops
+pub data Step (s t : List ℕ) (u z : ℕ) : Type 0 where
+  arrives : u ≡ z → Step s t u z
+  loses : u ≢ z → nextHop s t u z ≡ 0 → Step s t u z
+  hops : u ≢ z → nextHop s t u z ≢ 0 → Step s t u z
+
+pub step-of : (s t : List ℕ) (u z : ℕ) → Step s t u z
+step-of s t u z = go (true-or-false (eqb u z)) (true-or-false (eqb (nextHop s t u z) 0))
+  where
+    go : (eqb u z ≡ true) ⊎ (eqb u z ≡ false) → (eqb (nextHop s t u z) 0 ≡ true) ⊎ (eqb (nextHop s t u z) 0 ≡ false) → Step s t u z
+    go (inl e) q = arrives (eqb-true u z e)
+    go (inr e) (inl q) = loses (eqb-false u z e) (eqb-true (nextHop s t u z) 0 q)
+    go (inr e) (inr q) = hops (eqb-false u z e) (eqb-false (nextHop s t u z) 0 q)
+
+module _ (n : ℕ) (s t : List ℕ) (u z : ℕ) where
+  pub arrives-is : u ≡ z → lookupWithin (suc n) s t u z ≡ arrivedAt u
+  unfolding lookupWithin
+  arrives-is e = rw (eq-eqb u z e)
+
+  pub loses-is : u ≢ z → nextHop s t u z ≡ 0 → lookupWithin (suc n) s t u z ≡ lostAt u
+  unfolding lookupWithin
+  loses-is e q = rw (ne-eqb u z e, eq-eqb (nextHop s t u z) 0 q)
+
+  pub hops-is : u ≢ z → nextHop s t u z ≢ 0 → lookupWithin (suc n) s t u z ≡ oneHopMore (lookupWithin n s t (nextHop s t u z) z)
+  unfolding lookupWithin
+  hops-is e q = rw (ne-eqb u z e, ne-eqb (nextHop s t u z) 0 q)
+
+  pub arrives-path : u ≡ z → veryHopsWithin (suc n) s t u z ≡ u ∷ []
+  unfolding veryHopsWithin
+  arrives-path e = rw (eq-eqb u z e)
+
+  pub loses-path : u ≢ z → nextHop s t u z ≡ 0 → veryHopsWithin (suc n) s t u z ≡ u ∷ []
+  unfolding veryHopsWithin
+  loses-path e q = rw (ne-eqb u z e, eq-eqb (nextHop s t u z) 0 q)
+
+  pub hops-path : u ≢ z → nextHop s t u z ≢ 0 → veryHopsWithin (suc n) s t u z ≡ u ∷ veryHopsWithin n s t (nextHop s t u z) z
+  unfolding veryHopsWithin
+  hops-path e q = rw (ne-eqb u z e, ne-eqb (nextHop s t u z) 0 q)
+
+-- ---- in a sound state
+
+module _ (s t : List ℕ) (S : Sound s t) where
+  -- a hop goes to a node that matches the destination in more digits
+  pub hop-node : (u z : ℕ) → IsNode s u → IsNode s z → u ≢ z → nextHop s t u z ≢ 0
+      → IsNode s (nextHop s t u z) × (suffixOf s u z + 1 ≤ suffixOf s (nextHop s t u z) z)
+  unfolding nextHop
+  hop-node u z nu nz ne some =
+      let m : ℕ = suffixOf s u z in
+      let j : ℕ = digitOf (idOf s z) m in
+      let below : suffixOf s u z < digits s = suffix-below s t S u z nu nz (λ e. ne (sym e)) in
+      let k : SlotOk s u (tableOf t u) m j 0 =
+      S .tables u nu .slots m j 0 below (valid-digit (base s) (digits s) (idOf s z) m (S .ids z nz) below)
+      (S .settings .depth-least) some in (
+        record { low = omega (arith, some); high = k .within },
+        next-hop (digits s) (idOf s u) (idOf s (nextHop s t u z)) (idOf s z) below (k .qual),
+      )
+
+  module _ (z : ℕ) (nz : IsNode s z) where
+    -- what is left to match falls with each hop
+    pub left-falls : (u : ℕ) → IsNode s u → u ≢ z → nextHop s t u z ≢ 0
+        → digits s - suffixOf s (nextHop s t u z) z < digits s - suffixOf s u z
+    left-falls u nu ne some =
+        let below : suffixOf s u z < digits s = suffix-below s t S u z nu nz (λ e. ne (sym e)) in
+        omega (arith, hop-node u z nu nz ne some .1)
+
+    -- so what holds where a lookup ends, and before a hop if after it, holds of every node
+    module _ (P : ℕ → Type 0) (arrive : (u : ℕ) → IsNode s u → u ≡ z → P u)
+        (lose : (u : ℕ) → IsNode s u → u ≢ z → nextHop s t u z ≡ 0 → P u)
+        (hop : (u : ℕ) → IsNode s u → u ≢ z → nextHop s t u z ≢ 0 → P (nextHop s t u z) → P u) where
+      within : (n u : ℕ) → IsNode s u → digits s - suffixOf s u z < n → P u
+      within zero u nu h = absurd (omega arith)
+      within (suc n) u nu h = go (λ e q. within n (nextHop s t u z) (hop-node u z nu nz e q .0) (omega (arith, left-falls u nu e q))) (step-of s t u z)
+        where
+          go : (u ≢ z → nextHop s t u z ≢ 0 → P (nextHop s t u z)) → Step s t u z → P u
+          go ih (arrives e) = arrive u nu e
+          go ih (loses e q) = lose u nu e q
+          go ih (hops e q) = hop u nu e q (ih e q)
+
+      pub walk : (u : ℕ) → IsNode s u → P u
+      walk u nu = within (suc (digits s)) u nu (omega arith)
+
+    -- a recursion along the hops does not depend on how many steps it may take, if they are more than is left to match
+    module _ {A : Type 0} (F : ℕ → ℕ → A) (end : ℕ → A) (lost : ℕ → A) (more : ℕ → A → A)
+        (at-end : (n u : ℕ) → u ≡ z → F (suc n) u ≡ end u)
+        (at-lost : (n u : ℕ) → u ≢ z → nextHop s t u z ≡ 0 → F (suc n) u ≡ lost u)
+        (at-hop : (n u : ℕ) → u ≢ z → nextHop s t u z ≢ 0 → F (suc n) u ≡ more u (F n (nextHop s t u z))) where
+      Enough : ℕ → Type 0
+      Enough u = (a b : ℕ) → digits s - suffixOf s u z < suc a → digits s - suffixOf s u z < suc b → F (suc a) u ≡ F (suc b) u
+
+      hop-enough : (u : ℕ) → IsNode s u → u ≢ z → nextHop s t u z ≢ 0 → Enough (nextHop s t u z) → Enough u
+      unfolding Enough
+      hop-enough u nu e q ih zero b h g = absurd (omega (arith, left-falls u nu e q))
+      hop-enough u nu e q ih (suc a) zero h g = absurd (omega (arith, left-falls u nu e q))
+      hop-enough u nu e q ih (suc a) (suc b) h g =
+          at-hop (suc a) u e q
+          ∙ ap (more u) (ih a b (omega (arith, left-falls u nu e q)) (omega (arith, left-falls u nu e q)))
+          ∙ sym (at-hop (suc b) u e q)
+
+      enough : (u : ℕ) → IsNode s u → Enough u
+      unfolding Enough
+      enough =
+          walk Enough (λ u nu e a b h g. at-end a u e ∙ sym (at-end b u e))
+          (λ u nu e q a b h g. at-lost a u e q ∙ sym (at-lost b u e q)) hop-enough
+
+      -- so the whole recursion, of d + 1 steps, is one hop before the whole recursion from the next node
+      hop-whole : (u : ℕ) → IsNode s u → u ≢ z → nextHop s t u z ≢ 0 → F (suc (digits s)) u ≡ more u (F (suc (digits s)) (nextHop s t u z))
+      unfolding Enough
+      hop-whole u nu e q =
+          enough u nu (digits s) (suc (digits s)) (omega arith) (omega arith) ∙ at-hop (suc (digits s)) u e q
+
+    pub lookup-hop : (u : ℕ) → IsNode s u → u ≢ z → nextHop s t u z ≢ 0 → lookup s t u z ≡ oneHopMore (lookup s t (nextHop s t u z) z)
+    lookup-hop =
+        hop-whole (λ n u. lookupWithin n s t u z) arrivedAt lostAt (λ u. oneHopMore) (λ n u. arrives-is n s t u z)
+        (λ n u. loses-is n s t u z) (λ n u. hops-is n s t u z)
+
+    pub path-hop : (u : ℕ) → IsNode s u → u ≢ z → nextHop s t u z ≢ 0 → veryHops s t u z ≡ u ∷ veryHops s t (nextHop s t u z) z
+    path-hop =
+        hop-whole (λ n u. veryHopsWithin n s t u z) (λ u. u ∷ []) (λ u. u ∷ []) (λ u. _∷_ u) (λ n u. arrives-path n s t u z)
+        (λ n u. loses-path n s t u z) (λ n u. hops-path n s t u z)
+
+    -- "at most d hops less the digits already matched"
+    pub hops-bound : (u : ℕ) → IsNode s u → lookup s t u z .hops ≤ digits s - suffixOf s u z
+    hops-bound =
+        walk (λ (u : ℕ). lookup s t u z .hops ≤ digits s - suffixOf s u z) (λ u nu e. rw (arrives-is (digits s) s t u z e) (omega arith))
+        (λ u nu e q. rw (loses-is (digits s) s t u z e q) (omega arith))
+        (λ u nu e q ih. rw (lookup-hop u nu e q) (omega (arith, left-falls u nu e q)))
+
+    -- the very hops are one node more than the hops
+    pub path-length : (u : ℕ) → IsNode s u → length (veryHops s t u z) ≡ lookup s t u z .hops + 1
+    path-length =
+        walk (λ (u : ℕ). length (veryHops s t u z) ≡ lookup s t u z .hops + 1)
+        (λ u nu e. rw (arrives-path (digits s) s t u z e, arrives-is (digits s) s t u z e))
+        (λ u nu e q. rw (loses-path (digits s) s t u z e q, loses-is (digits s) s t u z e q))
+        (λ u nu e q ih. rw (path-hop u nu e q, lookup-hop u nu e q) (omega (arith, ih)))

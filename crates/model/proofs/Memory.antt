@@ -1,0 +1,128 @@
+-- Laws of the lent memory: what a stored record or table changes, and that it changes nothing else. Assumes nothing.
+use Prim.Native.Nat.{ℕ, _+_, _-_, _*_, _≤_, _<_}
+use mathlib.Core.Path.{_≡_, refl, sym, ap, subst, _∙_}
+use mathlib.Core.Logic.{_≢_, _⊎_, inl, inr, ⊎-elim}
+use mathlib.Core.List.{List, [], _∷_, _++_, append-assoc}
+use native.Mathlib.Nat.{add-zero, le-antisymm}
+use native.Mathlib.Decide.{decLt}
+use native.Mathlib.Numerals.{towards-suc}
+use native.Mathlib.Omega.{arith}
+use lib.ListN.{length, getD, set, take, drop, replicate, length-append, length-drop, length-replicate, getD-replicate, List·getD-append}
+use borrow.Author.Fill.{fill-more}
+use lib.Dec.{lit<}
+use lib.Seq.{sets, sets-eq, getD-drop, getD-append-add, ext-getD}
+use Rattle.model.specs.Memory.{Node, idOf, statusOf, levelOf, targetOf, pendingOf, notifiedOf, withNode, tableStart, tableOf, withTable, zeroed}
+use Rattle.model.proofs.Splice.{splice, splice-length, splice-before, splice-at, splice-after, part-length, part-at, part-same}
+
+-- ---- a node's record
+
+-- the six words of x's record are those of r
+pub record Stored (s : List ℕ) (x : ℕ) (r : Node) : Type 0 where
+  pub id : idOf s x ≡ r .id
+  pub status : statusOf s x ≡ r .status
+  pub level : levelOf s x ≡ r .level
+  pub target : targetOf s x ≡ r .target
+  pub pending : pendingOf s x ≡ r .pending
+  pub notified : notifiedOf s x ≡ r .notified
+
+abbrev words : Node → List ℕ
+words r = r .id ∷ r .status ∷ r .level ∷ r .target ∷ r .pending ∷ r .notified ∷ []
+
+stores : (s : List ℕ) (x : ℕ) (r : Node) → withNode s x r ≡ sets s (8 * x) (words r)
+unfolding withNode
+stores s x r = simp towards-suc
+
+module _ (s : List ℕ) (x : ℕ) (r : Node) (fits : 8 * x + 6 ≤ length s) where
+  spliced : withNode s x r ≡ splice (8 * x) 6 (words r) s
+  spliced =
+      stores s x r
+      ∙ sets-eq (words r) s (8 * x) fits
+      ∙ append-assoc (take (8 * x) s) (words r) (drop (8 * x + 6) s)
+
+  pub node-length : length (withNode s x r) ≡ length s
+  node-length = ap length spliced ∙ splice-length (8 * x) 6 (words r) s refl fits
+
+  at : (k : ℕ) → k < 6 → getD (withNode s x r) (8 * x + k) 0 ≡ getD (words r) k 0
+  at k h = ap (λ (l : List ℕ). getD l (8 * x + k) 0) spliced ∙ splice-at (8 * x) 6 (words r) s refl fits k h
+
+  pub node-stored : Stored (withNode s x r) x r
+  node-stored = record {
+    id = ap (λ (p : ℕ). getD (withNode s x r) p 0) (sym (add-zero (8 * x))) ∙ at 0 (lit< tt);
+    status = at 1 (lit< tt);
+    level = at 2 (lit< tt);
+    target = at 3 (lit< tt);
+    pending = at 4 (lit< tt);
+    notified = at 5 (lit< tt);
+  }
+
+  -- a word outside the six is as it was
+  pub node-outside : (p : ℕ) → (p < 8 * x) ⊎ (8 * x + 6 ≤ p) → getD (withNode s x r) p 0 ≡ getD s p 0
+  node-outside p h =
+      ap (λ (l : List ℕ). getD l p 0) spliced
+      ∙ ⊎-elim (splice-before (8 * x) 6 (words r) s refl fits p) (splice-after (8 * x) 6 (words r) s refl fits p) h
+
+  -- the words of another node's record are as they were
+  pub node-other : (y k : ℕ) → y ≢ x → k < 8 → getD (withNode s x r) (8 * y + k) 0 ≡ getD s (8 * y + k) 0
+  node-other y k e h = node-outside (8 * y + k) (apart (decLt y x))
+    where
+      apart : Dec (y < x) → (8 * y + k < 8 * x) ⊎ (8 * x + 6 ≤ 8 * y + k)
+      apart (yes l) = inl (omega arith)
+      apart (no g) = inr (omega arith)
+
+-- ---- a node's table
+
+module _ (t : List ℕ) (x : ℕ) (fits : tableStart x + 512 ≤ length t) where
+  pub table-length : length (tableOf t x) ≡ 512
+  unfolding tableOf
+  table-length = part-length (tableStart x) 512 t fits
+
+  pub table-at : (p : ℕ) → p < 512 → getD (tableOf t x) p 0 ≡ getD t (tableStart x + p) 0
+  unfolding tableOf
+  table-at p h = part-at (tableStart x) 512 t fits p h
+
+module _ (t : List ℕ) (x : ℕ) (T : List ℕ) (size : length T ≡ 512) (fits : tableStart x + 512 ≤ length t) where
+  pub stored-length : length (withTable t x T) ≡ length t
+  unfolding withTable
+  stored-length = splice-length (tableStart x) 512 T t size fits
+
+  -- a byte outside the table is as it was
+  pub stored-outside : (p : ℕ) → (p < tableStart x) ⊎ (tableStart x + 512 ≤ p) → getD (withTable t x T) p 0 ≡ getD t p 0
+  unfolding withTable
+  stored-outside p =
+      ⊎-elim (splice-before (tableStart x) 512 T t size fits p) (splice-after (tableStart x) 512 T t size fits p)
+
+  pub stored-same : tableOf (withTable t x T) x ≡ T
+  unfolding tableOf withTable
+  stored-same =
+      let f : tableStart x + 512 ≤ length (withTable t x T) = omega (arith, stored-length) in
+      ext-getD 0 (tableOf (withTable t x T) x) T (table-length (withTable t x T) x f ∙ sym size)
+      (λ k h.
+      let h′ : k < 512 = omega (arith, table-length (withTable t x T) x f) in
+      table-at (withTable t x T) x f k h′ ∙ splice-at (tableStart x) 512 T t size fits k h′)
+
+  pub stored-other : (y : ℕ) → 1 ≤ x → 1 ≤ y → y ≢ x → tableStart y + 512 ≤ length t → tableOf (withTable t x T) y ≡ tableOf t y
+  unfolding tableOf
+  stored-other y hx hy e f =
+      part-same (tableStart y) 512 (withTable t x T) t (omega (arith, stored-length)) f
+      (λ k h. stored-outside (tableStart y + k) (apart k h (decLt y x)))
+    where
+      apart : (k : ℕ) → k < 512 → Dec (y < x) → (tableStart y + k < tableStart x) ⊎ (tableStart x + 512 ≤ tableStart y + k)
+      apart k h (yes l) = inl (omega arith)
+      apart k h (no g) = inr (omega arith)
+
+-- ---- memory with zeros in its fixed length
+
+module _ (n : ℕ) (l : List ℕ) (fits : n ≤ length l) where
+  pub zeroed-length : length (zeroed n l) ≡ length l
+  zeroed-length = simp (length-append, length-replicate, length-drop) (omega arith)
+
+  pub zeroed-within : (p : ℕ) → p < n → getD (zeroed n l) p 0 ≡ 0
+  zeroed-within p h =
+      List·getD-append (replicate n 0) (drop n l) 0 p (omega (arith, length-replicate {A = ℕ} n 0)) ∙ getD-replicate n p 0 0 h
+
+-- one place more is cleared
+pub zeroed-goes : (i : ℕ) (d x y : List ℕ) → x ≡ zeroed i d → i < length d → y ≡ set x i 0 → y ≡ zeroed (i + 1) d
+zeroed-goes i d x y e l q = q ∙ ap (λ (x : List ℕ). set x i 0) e ∙ fill-more i 0 d l
+
+pub zeroed-ends : (n i : ℕ) (d x : List ℕ) → x ≡ zeroed i d → i ≤ n → n ≤ i → x ≡ zeroed n d
+zeroed-ends n i d x e l g = subst (λ (m : ℕ). x ≡ zeroed m d) (le-antisymm l g) e

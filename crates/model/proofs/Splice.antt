@@ -1,0 +1,60 @@
+-- Laws of a list with a part replaced: `splice a n vs l` is l with the n elements from index a on replaced by the n of vs.
+-- A node's record in the state and a node's table in the table memory are such parts. Assumes nothing.
+use Prim.Native.Nat.{ℕ, _+_, _-_, _≤_, _<_}
+use mathlib.Core.Path.{_≡_, refl, sym, ap, _∙_}
+use mathlib.Core.List.{List, _++_}
+use native.Mathlib.Nat.{add-comm, add-sub-cancel-left}
+use native.Mathlib.Omega.{arith}
+use lib.ListN.{length, getD, take, drop, length-append, length-drop, List·getD-append}
+use lib.Seq.{length-take-le, getD-take, getD-drop, getD-append-add, ext-getD}
+
+abbrev pub splice : ℕ → ℕ → List ℕ → List ℕ → List ℕ
+splice a n vs l = take a l ++ (vs ++ drop (a + n) l)
+
+-- what stands past the first of two joined lists
+past : (xs ys : List ℕ) (a k : ℕ) → length xs ≡ a → getD (xs ++ ys) (a + k) 0 ≡ getD ys k 0
+past xs ys a k e = ap (λ (m : ℕ). getD (xs ++ ys) (m + k) 0) (sym e) ∙ getD-append-add xs ys k 0
+
+module _ (a n : ℕ) (vs l : List ℕ) (e : length vs ≡ n) (fits : a + n ≤ length l) where
+  front : length (take a l) ≡ a
+  front = length-take-le a l (omega arith)
+
+  pub splice-length : length (splice a n vs l) ≡ length l
+  splice-length = simp (length-append, length-drop, front) (omega arith)
+
+  -- before the part
+  pub splice-before : (p : ℕ) → p < a → getD (splice a n vs l) p 0 ≡ getD l p 0
+  splice-before p h =
+      List·getD-append (take a l) (vs ++ drop (a + n) l) 0 p (omega (arith, front)) ∙ getD-take a l p 0 h
+
+  -- in the part
+  pub splice-at : (k : ℕ) → k < n → getD (splice a n vs l) (a + k) 0 ≡ getD vs k 0
+  splice-at k h =
+      past (take a l) (vs ++ drop (a + n) l) a k front ∙ List·getD-append vs (drop (a + n) l) 0 k (omega arith)
+
+  -- past the part
+  pub splice-after : (p : ℕ) → a + n ≤ p → getD (splice a n vs l) p 0 ≡ getD l p 0
+  splice-after p h =
+      let q : ℕ = p - (a + n) in
+      let w : p ≡ a + (n + q) = omega arith in
+      let w′ : p ≡ a + n + q = omega arith in
+      ap (λ (m : ℕ). getD (splice a n vs l) m 0) w
+      ∙ past (take a l) (vs ++ drop (a + n) l) a (n + q) front
+      ∙ past vs (drop (a + n) l) n q e
+      ∙ getD-drop (a + n) l q 0
+      ∙ ap (λ (m : ℕ). getD l m 0) (sym w′)
+
+-- the part of a list from index a on, n long
+module _ (a n : ℕ) (l : List ℕ) (fits : a + n ≤ length l) where
+  pub part-length : length (take n (drop a l)) ≡ n
+  part-length = length-take-le n (drop a l) (simp length-drop (omega arith))
+
+  pub part-at : (k : ℕ) → k < n → getD (take n (drop a l)) k 0 ≡ getD l (a + k) 0
+  part-at k h = getD-take n (drop a l) k 0 h ∙ getD-drop a l k 0
+
+-- two lists that agree on such a part have the same part
+pub part-same : (a n : ℕ) (l m : List ℕ) → a + n ≤ length l → a + n ≤ length m
+    → ((k : ℕ) → k < n → getD l (a + k) 0 ≡ getD m (a + k) 0) → take n (drop a l) ≡ take n (drop a m)
+part-same a n l m f g h =
+    ext-getD 0 (take n (drop a l)) (take n (drop a m)) (part-length a n l f ∙ sym (part-length a n m g))
+    (λ k q. let q′ : k < n = omega (arith, part-length a n l f) in part-at a n l f k q′ ∙ h k q′ ∙ sym (part-at a n m g k q′))

@@ -1,0 +1,217 @@
+-- The rules of a node's status as facts, one record for each status, and the way there and back. Assumes nothing.
+use Prim.Native.Nat.{ℕ, _≤_, _<_, _^_}
+use mathlib.Core.Path.{_≡_, refl, sym, ap, _∙_}
+use mathlib.Core.Logic.{_≢_, ⊎-elim}
+use mathlib.Core.Bool.{Bool, true, false, not, _&&_, _||_}
+use mathlib.Core.List.{List}
+use lib.Dec.{leb, ltb, eqb}
+use borrow.Author.Tests.{eqb-true, eqb-false, eq-eqb, ne-eqb, leb-true, le-leb, ltb-true, lt-ltb, not-true}
+use Rattle.model.specs.Loops.{allBelow, node}
+use Rattle.model.specs.Memory.{digits, nodeCount, statusOf, levelOf, targetOf, pendingOf, notifiedOf, inSystem, copying, waiting, notifying, hasNode, isAttached, isInSystem}
+use Rattle.model.specs.Sound.{isNode, suffixOf, inSystemSound, joiningSound, copyingSound, waitingSound, pendingSound, notifiedSound, onlyNodes, notifyingSound, statusSound}
+use Rattle.model.proofs.Bools.{and-left, and-right, and-intro, or-cases, or-right, or-intro-left, or-intro-right}
+use Rattle.model.proofs.Nodes.{nodes-at, nodes-of}
+
+ruleset parts = (and-left, and-right)
+
+-- x is the number of a node
+pub record IsNode (s : List ℕ) (x : ℕ) : Type 0 where
+  pub low : 1 ≤ x
+  pub high : x ≤ nodeCount s
+
+pub is-node : (s : List ℕ) (x : ℕ) → isNode s x ≡ true → IsNode s x
+is-node s x e = record { low = leb-true 1 x (search parts); high = leb-true x (nodeCount s) (search parts) }
+
+pub is-node-of : (s : List ℕ) (x : ℕ) → IsNode s x → isNode s x ≡ true
+is-node-of s x r = search (and-intro, le-leb)
+
+pub record InSystemOk (s : List ℕ) (x : ℕ) : Type 0 where
+  pub level : levelOf s x ≡ 0
+  pub target : targetOf s x ≡ 0
+  pub pending : pendingOf s x ≡ 0
+  pub notified : notifiedOf s x ≡ 0
+
+pub record JoiningOk (s : List ℕ) (x : ℕ) : Type 0 where
+  pub level : levelOf s x ≡ 0
+  pub pending : pendingOf s x ≡ 0
+  pub notified : notifiedOf s x ≡ 0
+
+pub record CopyingOk (s : List ℕ) (x : ℕ) : Type 0 where
+  pub is-node : IsNode s (targetOf s x)
+  pub settled : isInSystem s (targetOf s x) ≡ true
+  pub rest : JoiningOk s x
+
+pub record WaitingOk (s : List ℕ) (x : ℕ) : Type 0 where
+  pub is-node : IsNode s (targetOf s x)
+  pub attached : isAttached s (targetOf s x) ≡ true
+  pub rest : JoiningOk s x
+
+-- a node of the pending set
+pub record PendingOk (s : List ℕ) (x u : ℕ) : Type 0 where
+  pub attached : isAttached s u ≡ true
+  pub suffix : levelOf s x ≤ suffixOf s x u
+  pub other : u ≢ x
+  pub new : hasNode (notifiedOf s x) u ≡ false
+
+-- a node of the notified set
+pub record NotifiedOk (s : List ℕ) (x u : ℕ) : Type 0 where
+  pub attached : isAttached s u ≡ true
+  pub other : u ≢ x
+
+pub record NotifyingOk (s : List ℕ) (x : ℕ) : Type 0 where
+  pub target : targetOf s x ≡ 0
+  pub level : levelOf s x < digits s
+  pub some : 0 < pendingOf s x
+  pub pending-within : pendingOf s x < 2 ^ nodeCount s
+  pub notified-within : notifiedOf s x < 2 ^ nodeCount s
+  pub pending : (u : ℕ) → IsNode s u → hasNode (pendingOf s x) u ≡ true → PendingOk s x u
+  pub notified : (u : ℕ) → IsNode s u → hasNode (notifiedOf s x) u ≡ true → NotifiedOk s x u
+
+-- the rules of x's status
+pub data StatusOk (s : List ℕ) (x : ℕ) : Type 0 where
+  is-in-system : statusOf s x ≡ inSystem → InSystemOk s x → StatusOk s x
+  is-copying : statusOf s x ≡ copying → CopyingOk s x → StatusOk s x
+  is-waiting : statusOf s x ≡ waiting → WaitingOk s x → StatusOk s x
+  is-notifying : statusOf s x ≡ notifying → NotifyingOk s x → StatusOk s x
+
+module _ (s : List ℕ) (x : ℕ) where
+  in-system-ok : inSystemSound s x ≡ true → InSystemOk s x
+  unfolding inSystemSound
+  in-system-ok e = record {
+    level = eqb-true _ 0 (search parts);
+    target = eqb-true _ 0 (search parts);
+    pending = eqb-true _ 0 (search parts);
+    notified = eqb-true _ 0 (search parts);
+  }
+
+  in-system-of : InSystemOk s x → inSystemSound s x ≡ true
+  unfolding inSystemSound
+  in-system-of r = search (and-intro, eq-eqb)
+
+  joining-ok : joiningSound s x ≡ true → JoiningOk s x
+  unfolding joiningSound
+  joining-ok e = record {
+    level = eqb-true _ 0 (search parts);
+    pending = eqb-true _ 0 (search parts);
+    notified = eqb-true _ 0 (search parts);
+  }
+
+  joining-of : JoiningOk s x → joiningSound s x ≡ true
+  unfolding joiningSound
+  joining-of r = search (and-intro, eq-eqb)
+
+  copying-ok : copyingSound s x ≡ true → CopyingOk s x
+  unfolding copyingSound
+  copying-ok e =
+      record { is-node = is-node s (targetOf s x) (search parts); settled = search parts; rest = joining-ok (search parts) }
+
+  copying-of : CopyingOk s x → copyingSound s x ≡ true
+  unfolding copyingSound
+  copying-of r =
+      and-intro _ _ (is-node-of s (targetOf s x) (r .is-node)) (and-intro _ _ (r .settled) (joining-of (r .rest)))
+
+  waiting-ok : waitingSound s x ≡ true → WaitingOk s x
+  unfolding waitingSound
+  waiting-ok e =
+      record { is-node = is-node s (targetOf s x) (search parts); attached = search parts; rest = joining-ok (search parts) }
+
+  waiting-of : WaitingOk s x → waitingSound s x ≡ true
+  unfolding waitingSound
+  waiting-of r =
+      and-intro _ _ (is-node-of s (targetOf s x) (r .is-node)) (and-intro _ _ (r .attached) (joining-of (r .rest)))
+
+  -- a test that is asked only of the nodes of a set
+  asked : (a b : Bool) → (not a || b) ≡ true → a ≡ true → b ≡ true
+  asked a b e q = or-right (not a) b e (ap not q)
+
+  asked-of : (a b : Bool) → (a ≡ true → b ≡ true) → (not a || b) ≡ true
+  asked-of true b h = h refl
+  asked-of false b h = refl
+
+  pending-ok : (u : ℕ) → pendingSound s x u ≡ true → hasNode (pendingOf s x) u ≡ true → PendingOk s x u
+  unfolding pendingSound
+  pending-ok u e q =
+      let h = asked (hasNode (pendingOf s x) u) _ e q in
+      record {
+        attached = search parts;
+        suffix = leb-true _ _ (search parts);
+        other = eqb-false u x (not-true _ (search parts));
+        new = not-true _ (search parts);
+      }
+
+  pending-of : (u : ℕ) → (hasNode (pendingOf s x) u ≡ true → PendingOk s x u) → pendingSound s x u ≡ true
+  unfolding pendingSound
+  pending-of u h =
+      asked-of (hasNode (pendingOf s x) u) _
+      (λ q.
+      let r : PendingOk s x u = h q in
+      and-intro _ _ (r .attached)
+      (and-intro _ _ (le-leb _ _ (r .suffix)) (and-intro _ _ (ap not (ne-eqb u x (r .other))) (ap not (r .new)))))
+
+  notified-ok : (u : ℕ) → notifiedSound s x u ≡ true → hasNode (notifiedOf s x) u ≡ true → NotifiedOk s x u
+  unfolding notifiedSound
+  notified-ok u e q =
+      let h = asked (hasNode (notifiedOf s x) u) _ e q in
+      record { attached = search parts; other = eqb-false u x (not-true _ (search parts)) }
+
+  notified-of : (u : ℕ) → (hasNode (notifiedOf s x) u ≡ true → NotifiedOk s x u) → notifiedSound s x u ≡ true
+  unfolding notifiedSound
+  notified-of u h =
+      asked-of (hasNode (notifiedOf s x) u) _
+      (λ q.
+      let r : NotifiedOk s x u = h q in
+      and-intro _ _ (r .attached) (ap not (ne-eqb u x (r .other))))
+
+  notifying-ok : notifyingSound s x ≡ true → NotifyingOk s x
+  unfolding notifyingSound
+  notifying-ok e = record {
+    target = eqb-true _ 0 (search parts);
+    level = ltb-true _ (digits s) (search parts);
+    some = ltb-true 0 (pendingOf s x) (search parts);
+    pending-within = ltb-true (pendingOf s x) _ (search parts);
+    notified-within = ltb-true (notifiedOf s x) _ (search parts);
+    pending = λ u n. pending-ok u (nodes-at (nodeCount s) (pendingSound s x) (search parts) u (n .low) (n .high));
+    notified = λ u n. notified-ok u (nodes-at (nodeCount s) (notifiedSound s x) (search parts) u (n .low) (n .high));
+  }
+
+  notifying-of : NotifyingOk s x → notifyingSound s x ≡ true
+  unfolding notifyingSound
+  notifying-of r =
+      let p : allBelow (nodeCount s) (node (pendingSound s x)) ≡ true =
+      nodes-of (nodeCount s) (pendingSound s x)
+      (λ u l h. pending-of u (r .pending u (record { low = l; high = h }))) in
+      let q : allBelow (nodeCount s) (node (notifiedSound s x)) ≡ true =
+      nodes-of (nodeCount s) (notifiedSound s x)
+      (λ u l h. notified-of u (r .notified u (record { low = l; high = h }))) in
+      search (and-intro, eq-eqb, lt-ltb) depth 9
+
+  pub status-ok : statusSound s x ≡ true → StatusOk s x
+  unfolding statusSound
+  status-ok e = ⊎-elim first (λ h. ⊎-elim second (λ g. ⊎-elim third fourth (or-cases _ _ g)) (or-cases _ _ h)) (or-cases _ _ e)
+    where
+      first : (eqb (statusOf s x) inSystem && inSystemSound s x) ≡ true → StatusOk s x
+      first h = is-in-system (eqb-true _ _ (search parts)) (in-system-ok (search parts))
+
+      second : (eqb (statusOf s x) copying && copyingSound s x) ≡ true → StatusOk s x
+      second h = is-copying (eqb-true _ _ (search parts)) (copying-ok (search parts))
+
+      third : (eqb (statusOf s x) waiting && waitingSound s x) ≡ true → StatusOk s x
+      third h = is-waiting (eqb-true _ _ (search parts)) (waiting-ok (search parts))
+
+      fourth : (eqb (statusOf s x) notifying && notifyingSound s x) ≡ true → StatusOk s x
+      fourth h = is-notifying (eqb-true _ _ (search parts)) (notifying-ok (search parts))
+
+  pub status-of : StatusOk s x → statusSound s x ≡ true
+  unfolding statusSound
+  status-of (is-in-system e r) =
+      let h : (eqb (statusOf s x) inSystem && inSystemSound s x) ≡ true = and-intro _ _ (eq-eqb _ _ e) (in-system-of r) in
+      search or-intro-left
+  status-of (is-copying e r) =
+      let h : (eqb (statusOf s x) copying && copyingSound s x) ≡ true = and-intro _ _ (eq-eqb _ _ e) (copying-of r) in
+      search (or-intro-left, or-intro-right)
+  status-of (is-waiting e r) =
+      let h : (eqb (statusOf s x) waiting && waitingSound s x) ≡ true = and-intro _ _ (eq-eqb _ _ e) (waiting-of r) in
+      search (or-intro-left, or-intro-right)
+  status-of (is-notifying e r) =
+      let h : (eqb (statusOf s x) notifying && notifyingSound s x) ≡ true = and-intro _ _ (eq-eqb _ _ e) (notifying-of r) in
+      search (or-intro-left, or-intro-right)

@@ -1,0 +1,64 @@
+-- In every later state of a network that passed the verdict, lookups between its nodes of that time take the very same hops.
+-- Assumes nothing.
+use Prim.Native.Nat.{ℕ}
+use mathlib.Core.Path.{_≡_, sym, ap, ap₂, _∙_}
+use mathlib.Core.Logic.{_≢_}
+use mathlib.Core.Bool.{true}
+use mathlib.Core.List.{List, _∷_}
+use Rattle.model.specs.Ids.{digitOf}
+use Rattle.model.specs.Memory.{digits, idOf, tableOf}
+use Rattle.model.specs.Tables.{slotPlace, firstOf}
+use Rattle.model.specs.Sound.{suffixOf}
+use Rattle.model.specs.Lookup.{oneHopMore, nextHop, lookup, veryHops}
+use Rattle.model.specs.Consistency.{consistent}
+use Rattle.model.proofs.Status.{IsNode}
+use Rattle.model.proofs.Sound.{Sound}
+use Rattle.model.proofs.Later.{Later, node-later, suffix-later}
+use Rattle.model.proofs.Growing.{Onward}
+use Rattle.model.proofs.Lookup.{walk, lookup-hop, path-hop, arrives-is, arrives-path}
+use Rattle.model.proofs.Consistency.{not-lost}
+
+module _ (s t s′ t′ : List ℕ) (S : Sound s t) (S′ : Sound s′ t′) (on : Onward s t s′ t′) where
+  -- a next hop stays
+  same-next : (u z : ℕ) → IsNode s u → IsNode s z → nextHop s t u z ≢ 0 → nextHop s′ t′ u z ≡ nextHop s t u z
+  unfolding nextHop
+  same-next u z nu nz some =
+      let l : Later s s′ = on .later in
+      ap₂ (λ (m id : ℕ). firstOf (tableOf t′ u) m (digitOf id m)) (suffix-later s s′ l u z nu nz) (l .ids z nz)
+      ∙ on .grows u nu .kept (slotPlace (suffixOf s u z) (digitOf (idOf s z) (suffixOf s u z)) 0) some
+
+  module _ (whole : consistent s t ≡ true) (z : ℕ) (nz : IsNode s z) where
+    nz′ : IsNode s′ z
+    nz′ = node-later s s′ (on .later) z nz
+
+    node′ : (u : ℕ) → IsNode s u → IsNode s′ u
+    node′ = node-later s s′ (on .later)
+
+    same : (u : ℕ) → IsNode s u → u ≢ z → nextHop s′ t′ u z ≡ nextHop s t u z
+    same u nu e = same-next u z nu nz (not-lost s t S whole z nz u nu e)
+
+    some′ : (u : ℕ) → IsNode s u → u ≢ z → nextHop s′ t′ u z ≢ 0
+    some′ u nu e q = not-lost s t S whole z nz u nu e (sym (same u nu e) ∙ q)
+
+    -- "lookups between nodes of that time take the very same hops ever after", and their answers are the same
+    pub same-lookup : (u : ℕ) → IsNode s u → lookup s′ t′ u z ≡ lookup s t u z
+    same-lookup =
+        walk s t S z nz (λ (u : ℕ). lookup s′ t′ u z ≡ lookup s t u z)
+        (λ u nu e. arrives-is (digits s′) s′ t′ u z e ∙ sym (arrives-is (digits s) s t u z e))
+        (λ u nu e q. absurd (not-lost s t S whole z nz u nu e q))
+        (λ u nu e q ih.
+        lookup-hop s′ t′ S′ z nz′ u (node′ u nu) e (some′ u nu e)
+        ∙ ap (λ (v : ℕ). oneHopMore (lookup s′ t′ v z)) (same u nu e)
+        ∙ ap oneHopMore ih
+        ∙ sym (lookup-hop s t S z nz u nu e q))
+
+    pub same-hops : (u : ℕ) → IsNode s u → veryHops s′ t′ u z ≡ veryHops s t u z
+    same-hops =
+        walk s t S z nz (λ (u : ℕ). veryHops s′ t′ u z ≡ veryHops s t u z)
+        (λ u nu e. arrives-path (digits s′) s′ t′ u z e ∙ sym (arrives-path (digits s) s t u z e))
+        (λ u nu e q. absurd (not-lost s t S whole z nz u nu e q))
+        (λ u nu e q ih.
+        path-hop s′ t′ S′ z nz′ u (node′ u nu) e (some′ u nu e)
+        ∙ ap (λ (v : ℕ). u ∷ veryHops s′ t′ v z) (same u nu e)
+        ∙ ap (_∷_ u) ih
+        ∙ sym (path-hop s t S z nz u nu e q))
