@@ -1,0 +1,23 @@
+-- The worked list holds: each example computes.
+use mathlib.Core.Path.{refl}
+use Rattle.model.specs.Loops.{allBelow, anyBelow, countBelow, firstBelow, eachBelow, joinBelow}
+use Rattle.model.specs.Ids.{settingsInRange, digitOf, validId, commonSuffix, lowDigits}
+use Rattle.model.specs.Memory.{withNode, hasNode, tableOf, withTable}
+use Rattle.model.specs.Tables.{qualified, entrySize, append, ownTable}
+use Rattle.model.specs.Sound.{hasNewId, slotSound, entrySound, levelSound, inSystemSound, joiningSound, copyingSound, waitingSound, pendingSound, notifiedSound, notifyingSound, statusSound, allZero, stateRestZero, tablesRestZero, tableSound, unusedZero, sound}
+use Rattle.model.specs.Join.{founded}
+use Rattle.model.specs.Lookup.{nextHop, lookupWithin}
+use Rattle.model.specs.Consistency.{howMany, entryWhole, levelWhole, nodeWhole, consistent, firstShort, verdict}
+use Rattle.model.specs.Image.{imId, lengthRight, sameEntry, risesFrom, recOrdered, recAllowed, recOwnerFirst, ownHasRecord, ownHaveRecords, recordsGood, loadRecord, loaded}
+use Rattle.model.specs.Refusals.{refuse, foundRefusal, recordsRefusal, idsRefusal, readRefusal, stateRefusal, lookupRefusal, verdictRefusal}
+use Rattle.model.specs.Calls.{refused, taken, unlessRefused, foundCall, readCall, lookupCall, verdictCall}
+use Rattle.worked.specs.Examples.{founding, reading, verdictOn, lookupOn, headOfE1, rec, E1, E1Short, Worked}
+
+-- what the examples compute with
+computing : Unit {0}
+unfolding allBelow anyBelow countBelow firstBelow eachBelow joinBelow settingsInRange digitOf validId commonSuffix lowDigits withNode hasNode tableOf withTable qualified entrySize append ownTable hasNewId slotSound entrySound levelSound inSystemSound joiningSound copyingSound waitingSound pendingSound notifiedSound notifyingSound statusSound allZero stateRestZero tablesRestZero tableSound unusedZero sound founded nextHop lookupWithin howMany entryWhole levelWhole nodeWhole consistent firstShort verdict imId lengthRight sameEntry risesFrom recOrdered recAllowed recOwnerFirst ownHasRecord ownHaveRecords recordsGood loadRecord loaded refuse foundRefusal recordsRefusal idsRefusal readRefusal stateRefusal lookupRefusal verdictRefusal refused taken unlessRefused foundCall readCall lookupCall verdictCall founding reading verdictOn lookupOn headOfE1 rec E1 E1Short
+computing = tt
+
+pub worked : Worked
+unfolding computing
+worked = record { p1 = refl; p2 = refl; p3 = refl; p4 = refl; p5 = refl; p6 = refl; p7 = refl; p8 = refl; p9 = refl; p10 = refl; p11 = refl; p12 = refl }

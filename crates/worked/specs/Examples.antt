@@ -1,0 +1,78 @@
+-- P1 to P12 of document 01, "Trials at the edges", as one list about the book's definitions.
+use Prim.Native.Nat.{ℕ}
+use mathlib.Core.Path.{_≡_}
+use mathlib.Core.List.{List, [], _∷_}
+use lib.ListN.{replicate}
+use Rattle.model.specs.Ids.{commonSuffix}
+use Rattle.model.specs.Memory.{stateLength, tablesLength}
+use Rattle.model.specs.Calls.{Outcome, foundCall, readCall, lookupCall, verdictCall}
+
+-- lent memory with old contents in every place
+dirtyState : List ℕ
+dirtyState = replicate stateLength 9
+
+dirtyTables : List ℕ
+dirtyTables = replicate tablesLength 9
+
+-- founding on that memory: base, digits, depth, id
+unfoldable pub founding : ℕ → ℕ → ℕ → ℕ → Outcome
+unfolding dirtyState dirtyTables
+founding b d K id = foundCall dirtyState dirtyTables b d K id
+
+-- reading an image into that memory
+unfoldable pub reading : List ℕ → Outcome
+unfolding dirtyState dirtyTables
+reading im = readCall dirtyState dirtyTables im
+
+-- the verdict and the lookup on what a call left
+unfoldable pub verdictOn : Outcome → List ℕ
+verdictOn o = verdictCall (o .state) (o .tables) .answer
+
+unfoldable pub lookupOn : Outcome → ℕ → ℕ → List ℕ
+lookupOn o u z = lookupCall (o .state) (o .tables) u z .answer
+
+-- the first sixteen bytes of E1 with this record count, before the records
+unfoldable pub headOfE1 : ℕ → List ℕ → List ℕ
+headOfE1 count records = 4 ∷ 1 ∷ 2 ∷ 2 ∷ 1 ∷ 2 ∷ 0 ∷ 0 ∷ 0 ∷ 0 ∷ 1 ∷ 0 ∷ 0 ∷ 0 ∷ count ∷ 0 ∷ records
+
+-- a record before others: node, level, digit, neighbour
+unfoldable pub rec : ℕ → ℕ → ℕ → ℕ → List ℕ → List ℕ
+rec x i j u records = x ∷ i ∷ j ∷ u ∷ records
+
+-- image E1, forty bytes
+unfoldable pub E1 : List ℕ
+unfolding headOfE1 rec
+E1 = headOfE1 6 (rec 1 0 0 1 (rec 1 0 1 2 (rec 1 1 0 1 (rec 2 0 0 1 (rec 2 0 1 2 (rec 2 1 0 2 []))))))
+
+-- "E1 without record 1 0 1 2 and with count 5"
+unfoldable pub E1Short : List ℕ
+unfolding headOfE1 rec
+E1Short = headOfE1 5 (rec 1 0 0 1 (rec 1 1 0 1 (rec 2 0 0 1 (rec 2 0 1 2 (rec 2 1 0 2 [])))))
+
+-- The list. An answer is the refusal and then the call's fields.
+pub record Worked : Type 0 where
+  -- b 8, d 5: the match of 10261 with five ids. Excluded: counting digits from the left (P1 would be 1, P4 2); counting every equal
+  -- digit, also past one that differs (P1 would be 4, P4 2); no cap at d (P5 would be 8).
+  pub p1 : commonSuffix 5 0x10261 0x11261 ≡ 3
+  pub p2 : commonSuffix 5 0x10261 0x13061 ≡ 2
+  pub p3 : commonSuffix 5 0x10261 0x31701 ≡ 1
+  pub p4 : commonSuffix 5 0x10261 0x10353 ≡ 0
+  pub p5 : commonSuffix 5 0x10261 0x10261 ≡ 5
+  -- One founded node passes. Excluded: a founding that leaves old contents in some place or writes no own entry (the verdict would
+  -- refuse it by 2); a count H without the owner in a verdict that compares exactly (each own entry would hold
+  -- more than it must: a no).
+  pub p6 : verdictOn (founding 8 5 2 0x10261) ≡ 0 ∷ 1 ∷ 0 ∷ 0 ∷ 0 ∷ []
+  -- E1 passes. Excluded: a reading that refuses E1, as one with digits from the left does (by 10), that drops a record or that leaves
+  -- old contents in some place; a verdict that is always no.
+  pub p7 : verdictOn (reading E1) ≡ 0 ∷ 1 ∷ 0 ∷ 0 ∷ 0 ∷ []
+  -- E1 without a record falls short where the record was. Excluded: a verdict that is always yes; one that gives the level
+  -- before the node, or numbers nodes from 0.
+  pub p8 : verdictOn (reading E1Short) ≡ 0 ∷ 0 ∷ 1 ∷ 0 ∷ 1 ∷ []
+  -- Excluded: a lookup that always arrives; one that counts a hop where it takes none; one that asks the destination's table.
+  pub p9 : lookupOn (reading E1Short) 1 2 ≡ 0 ∷ 0 ∷ 0 ∷ 1 ∷ []
+  -- Excluded: a lookup that is always lost; a hop counted twice or not at all; one that answers where it started.
+  pub p10 : lookupOn (reading E1Short) 2 1 ≡ 0 ∷ 1 ∷ 1 ∷ 1 ∷ []
+  -- b 2, d 2. Excluded: a digit compared with b by at most; no test of the digits.
+  pub p11 : founding 2 2 1 0x2 .answer ≡ 7 ∷ []
+  -- Excluded: no test of the bits above the digits.
+  pub p12 : founding 2 2 1 0x100 .answer ≡ 7 ∷ []
