@@ -1,0 +1,206 @@
+-- Demand 3: what holds of every run. Assumes nothing.
+use Prim.Native.Nat.{ℕ, zero, suc, _+_, _-_, _≤_}
+use mathlib.Core.Path.{_≡_, refl, sym, ap, ap₂, subst, _∙_}
+use mathlib.Core.Logic.{_≢_, _⊎_, inl, inr}
+use mathlib.Core.Bool.{Bool, true, false, cond, not, _&&_, and-false, false≢true}
+use mathlib.Core.List.{List, [], _∷_, _++_}
+use native.Mathlib.Decide.{ℕ-discrete}
+use native.Mathlib.Omega.{arith}
+use lib.Dec.{eqb}
+use lib.ListN.{length, getD}
+use borrow.Author.Tests.{ne-eqb}
+use Rattle.model.specs.Memory.{digits}
+use Rattle.model.specs.Sound.{isNode, suffixOf}
+use Rattle.model.specs.Join.{Memory, founded}
+use Rattle.model.specs.Lookup as book
+use Rattle.model.specs.Lookup.{Lookup, veryHops}
+use Rattle.model.specs.Consistency as book2
+use Rattle.model.specs.Consistency.{Verdict, consistent, firstShort}
+use Rattle.model.specs.Image.{loaded}
+use Rattle.model.specs.Refusals.{foundRefusal, readRefusal, lookupRefusal, verdictRefusal}
+use Rattle.model.specs.Calls.{Outcome, refused, taken, unlessRefused, lookupFields, verdictFields, foundCall, readCall, lookupCall, verdictCall}
+use Rattle.model.specs.Run.{Call, found, read, begin, deliver, lookup, verdict, write, step, after, play, history, isTaken, isStart, starts, goesOn, isRun, isSentBy, sent}
+use Rattle.model.proofs.Bools.{and-left, and-right, and-intro, not-both, true-or-false}
+use Rattle.model.proofs.Status.{IsNode, is-node, is-node-of}
+use Rattle.model.proofs.Sound.{Sound}
+use Rattle.model.proofs.Founding.{founded-ok}
+use Rattle.model.proofs.Loading.{loaded-ok}
+use Rattle.model.proofs.Requests.{limit-le}
+use Rattle.model.proofs.Lookup.{hops-bound, path-length}
+use Rattle.model.proofs.Unchanged.{same-lookup, same-hops}
+use Rattle.model.proofs.Later.{node-later}
+use Rattle.model.proofs.Growing.{Onward}
+use Rattle.model.proofs.Taken.{found-taken, read-taken, lookup-free}
+use Rattle.promise.specs.Promise.{lookupIn, alreadyMatched, Passes, NodeOf, Promise, Demand3}
+use Rattle.model.proofs.Calls.{taken-is, refused-is}
+use Rattle.promise.proofs.Run.{Holds, Goes, run-goes}
+
+-- ---- a call that was taken
+
+-- the refusal of a call whose answer says that it was taken is 0
+taken-zero : (n : ℕ) (s t out : List ℕ) (fields : ℕ) (done : Outcome) → isTaken (unlessRefused n (refused s t out fields) done .answer) ≡ true → n ≡ 0
+unfolding refused
+taken-zero n s t out fields done e = go (ℕ-discrete n 0)
+  where
+    go : Dec (n ≡ 0) → n ≡ 0
+    go (yes z) = z
+    go (no nz) =
+        absurd
+        (not-both (isTaken (unlessRefused n (refused s t out fields) done .answer)) e
+        (ap (λ (o : Outcome). isTaken (o .answer)) (refused-is n (refused s t out fields) done nz) ∙ ne-eqb n 0 nz))
+
+-- ---- the start
+
+-- a taken founding or reading leaves a sound state, and nobody has sent anything
+module _ (m : Memory) where
+  start-sound : (c : Call) → starts m c ≡ true → Sound (after m c .state) (after m c .tables)
+  unfolding starts step after foundCall readCall taken
+  start-sound (found b d K id) e =
+      let z = taken-zero (foundRefusal (m .state) (m .tables) b d K id) (m .state) (m .tables) [] 0 _ e in
+      let k = found-taken (m .state) (m .tables) b d K id z in
+      rw (taken-is (foundRefusal (m .state) (m .tables) b d K id) (refused (m .state) (m .tables) [] 0) _ z)
+      (founded-ok (m .state) (m .tables) b d K id (k .long) (k .range) (k .valid))
+  start-sound (read im) e =
+      let z = taken-zero (readRefusal (m .state) (m .tables) im) (m .state) (m .tables) [] 0 _ e in
+      let k = read-taken (m .state) (m .tables) im z in
+      rw (taken-is (readRefusal (m .state) (m .tables) im) (refused (m .state) (m .tables) [] 0) _ z)
+      (loaded-ok (m .state) (m .tables) im (k .0) (k .1))
+  start-sound (begin id g) e = absurd (false≢true e)
+  start-sound (deliver x y) e = absurd (false≢true e)
+  start-sound (lookup u z) e = absurd (false≢true e)
+  start-sound verdict e = absurd (false≢true e)
+  start-sound (write out) e = absurd (false≢true e)
+
+  start-silent : (c : Call) → starts m c ≡ true → (x : ℕ) (answer : List ℕ) → isSentBy x c answer ≡ false
+  unfolding starts
+  start-silent (found b d K id) e x answer = refl
+  start-silent (read im) e x answer = refl
+  start-silent (begin id g) e x answer = absurd (false≢true e)
+  start-silent (deliver y z) e x answer = absurd (false≢true e)
+  start-silent (lookup u z) e x answer = absurd (false≢true e)
+  start-silent verdict e x answer = absurd (false≢true e)
+  start-silent (write out) e x answer = absurd (false≢true e)
+
+  -- so the count of the run is that of the calls after its start
+  sent-after : (c : Call) → starts m c ≡ true → (x : ℕ) (cs : List Call) → sent x (history m (c ∷ cs)) ≡ 0 + sent x (history (after m c) cs)
+  unfolding history sent
+  sent-after c e x cs =
+      let a : Bool = isTaken (step m c .answer) in
+      ap (λ (b : Bool). cond b 1 0 + sent x (history (after m c) cs))
+      (ap (λ (b : Bool). isTaken (step m c .answer) && b) (start-silent c e x (step m c .answer)) ∙ and-false (isTaken (step m c .answer)))
+
+  start-holds : (c : Call) → starts m c ≡ true → Holds (λ (x : ℕ). 0) (after m c)
+  start-holds c e = record { sound = start-sound c e; nodes = λ x n. omega arith; others = λ x f. refl }
+
+-- ---- a verdict that says yes
+
+yes-whole : (s t : List ℕ) → book2.verdict s t .consistent ≡ 1 → consistent s t ≡ true
+unfolding book2.verdict firstShort
+yes-whole s t e = go (consistent s t) refl
+  where
+    go : (b : Bool) → consistent s t ≡ b → consistent s t ≡ true
+    go true q = q
+    go false q =
+        let w = ap (λ (b : Bool). cond b (record { consistent = 1; node = 0; level = 0; digit = 0 }) (firstShort s t) .consistent) q in
+        absurd (omega (arith, sym w ∙ e))
+
+passes-whole : (m : Memory) → Passes m → consistent (m .state) (m .tables) ≡ true
+unfolding verdictCall taken
+passes-whole m p =
+    let s : List ℕ = m .state in
+    let t : List ℕ = m .tables in
+    let z = taken-zero (verdictRefusal s t) s t [] 4 _ (p .taken) in
+    let w : verdictCall s t ≡ taken s t [] (verdictFields (book2.verdict s t)) = taken-is (verdictRefusal s t) (refused s t [] 4) _ z in
+    yes-whole s t (sym (ap (λ (o : Outcome). getD (o .answer) 1 0) w) ∙ p .yes)
+
+-- ---- lists of calls
+
+play-append : (m : Memory) (early late : List Call) → play m (early ++ late) ≡ play (play m early) late
+unfolding play
+play-append m [] late = refl
+play-append m (c ∷ early) late = play-append (after m c) early late
+
+on-early : (m : Memory) (early late : List Call) → goesOn m (early ++ late) ≡ true → goesOn m early ≡ true
+unfolding goesOn
+on-early m [] late e = refl
+on-early m (c ∷ early) late e =
+    and-intro (not (starts m c)) (goesOn (after m c) early) (and-left (not (starts m c)) _ e)
+    (on-early (after m c) early late (and-right (not (starts m c)) _ e))
+
+on-late : (m : Memory) (early late : List Call) → goesOn m (early ++ late) ≡ true → goesOn (play m early) late ≡ true
+unfolding goesOn play
+on-late m [] late e = e
+on-late m (c ∷ early) late e = on-late (after m c) early late (and-right (not (starts m c)) _ e)
+
+-- ---- the three parts, of a list of calls from a sound state
+
+-- what a node has sent is at most its limit, and any other number has sent nothing
+requests-bound : (count : ℕ → ℕ) (m : Memory) → Holds count m → (x : ℕ) → count x ≤ digits (m .state) + 1
+requests-bound count m H x = go (true-or-false (isNode (m .state) x))
+  where
+    go : (isNode (m .state) x ≡ true) ⊎ (isNode (m .state) x ≡ false) → count x ≤ digits (m .state) + 1
+    go (inl e) =
+        let n = is-node (m .state) x e in
+        omega (arith, H .nodes x n, limit-le (m .state) (m .tables) (H .sound) x n)
+    go (inr e) = omega (arith, H .others x (λ n. not-both (isNode (m .state) x) (is-node-of (m .state) x n) e))
+
+module _ (m : Memory) (S : Sound (m .state) (m .tables)) (u z : ℕ) (nu : IsNode (m .state) u) (nz : IsNode (m .state) z) where
+  lookup-answer : lookupIn m u z .answer ≡ 0 ∷ lookupFields (book.lookup (m .state) (m .tables) u z)
+  unfolding lookupCall taken
+  lookup-answer =
+      ap (λ (o : Outcome). o .answer)
+      (taken-is (lookupRefusal (m .state) (m .tables) u z) (refused (m .state) (m .tables) [] 3) _
+      (lookup-free (m .state) (m .tables) u z S nu nz))
+
+  lookup-bound : (isTaken (lookupIn m u z .answer) ≡ true)
+      × (getD (lookupIn m u z .answer) 2 0 ≤ digits (m .state) - alreadyMatched m u z)
+      × (length (veryHops (m .state) (m .tables) u z) ≡ getD (lookupIn m u z .answer) 2 0 + 1)
+  lookup-bound = (
+    ap isTaken lookup-answer,
+    subst (λ (l : List ℕ). getD l 2 0 ≤ digits (m .state) - suffixOf (m .state) u z) (sym lookup-answer)
+        (hops-bound (m .state) (m .tables) S z nz u nu),
+    subst (λ (l : List ℕ). length (veryHops (m .state) (m .tables) u z) ≡ getD l 2 0 + 1) (sym lookup-answer)
+        (path-length (m .state) (m .tables) S z nz u nu),
+  )
+
+-- from a point where the network passes to any later one
+lookups-stay : (m m′ : Memory) → Sound (m .state) (m .tables) → Sound (m′ .state) (m′ .tables)
+    → Onward (m .state) (m .tables) (m′ .state) (m′ .tables) → Passes m → (u z : ℕ) → NodeOf m u → NodeOf m z
+    → (veryHops (m′ .state) (m′ .tables) u z ≡ veryHops (m .state) (m .tables) u z) × (lookupIn m′ u z .answer ≡ lookupIn m u z .answer)
+lookups-stay m m′ S S′ on p u z a b =
+    let nu = is-node (m .state) u a in
+    let nz = is-node (m .state) z b in
+    let whole = passes-whole m p in (
+      same-hops (m .state) (m .tables) (m′ .state) (m′ .tables) S S′ on whole z nz u nu,
+      lookup-answer m′ S′ u z (node-later (m .state) (m′ .state) (on .later) u nu) (node-later (m .state) (m′ .state) (on .later) z nz)
+          ∙ ap (λ (r : Lookup). 0 ∷ lookupFields r) (same-lookup (m .state) (m .tables) (m′ .state) (m′ .tables) S S′ on whole z nz u nu)
+          ∙ sym (lookup-answer m S u z nu nz),
+    )
+
+-- ---- the theorem
+
+pub promise : Demand3
+unfolding isRun play
+promise m c cs run =
+    let start : starts m c ≡ true = and-left (starts m c) _ run in
+    let on : goesOn (after m c) cs ≡ true = and-right (starts m c) _ run in
+    let H : Holds (λ (x : ℕ). 0) (after m c) = start-holds m c start in
+    let G = run-goes (λ (x : ℕ). 0) (after m c) cs H on in
+    let M : Memory = play (after m c) cs in
+    record {
+      requests = λ x. rw (sent-after m c start x cs) (requests-bound (λ (x : ℕ). 0 + sent x (history (after m c) cs)) M (G .holds) x);
+      lookups = λ u z a b. lookup-bound M (G .holds .sound) u z (is-node (M .state) u a) (is-node (M .state) z b);
+      unchanged =
+          λ early late e.
+          let on′ : goesOn (after m c) (early ++ late) ≡ true = subst (λ (cs : List Call). goesOn (after m c) cs ≡ true) e on in
+          let E = run-goes (λ (x : ℕ). 0) (after m c) early H (on-early (after m c) early late on′) in
+          let L = run-goes _ (play (after m c) early) late (E .holds) (on-late (after m c) early late on′) in
+          let w : play (after m c) cs ≡ play (play (after m c) early) late = ap (play (after m c)) e ∙ play-append (after m c) early late in
+          subst
+          (λ (M : Memory).
+          Passes (play (after m c) early) → (u z : ℕ) → NodeOf (play (after m c) early) u → NodeOf (play (after m c) early) z
+          → (veryHops (M .state) (M .tables) u z ≡ veryHops (play (after m c) early .state) (play (after m c) early .tables) u z)
+          × (lookupIn M u z .answer ≡ lookupIn (play (after m c) early) u z .answer))
+          (sym w)
+          (lookups-stay (play (after m c) early) (play (play (after m c) early) late) (E .holds .sound) (L .holds .sound) (L .onward));
+    }
