@@ -1,0 +1,113 @@
+// Identifiers as numbers: settings, digits, suffix masks, common suffixes. Every contract is an equation with the book
+// (`crates/model/specs/Ids.antt` and `Tables.antt`) for all arguments; no function asks anything of its caller.
+ghost use mathlib.Core.Path.{_≡_};
+ghost use Prim.Native.Nat.{_<_, _≤_, min};
+ghost use lib.Dec.{eqb};
+ghost use Rattle.model.specs.Ids.{settingsInRange, digitOf, lowDigits, suffixMask, commonSuffix, validId};
+ghost use Rattle.model.specs.Tables as tables;
+
+// An id is a 32-bit number: its digits stand in places 0 to 7, and beyond them every digit is 0.
+const PLACES: usize = 8;
+
+const LAST_PLACE: usize = 7;
+
+// "The nine suffix masks (match 0 to 8) are kept as a table": entry i has the bits of the low i digits set.
+const SUFFIX_MASKS: [u32; 9] = [
+    0x0,
+    0xf,
+    0xff,
+    0xfff,
+    0xffff,
+    0xf_ffff,
+    0xff_ffff,
+    0xfff_ffff,
+    0xffff_ffff,
+];
+
+// "Settings: base b, 2 to 16; digits d, 1 to 8; depth K, 1 to 4."
+pub fn settings_in_range(base: u64, digits: u64, depth: u64) -> bool
+    ensures { λ r. ⌜ r ≡ settingsInRange base digits depth ⌝ }
+{
+    if base < 2 {
+        return false;
+    }
+    if 16 < base {
+        return false;
+    }
+    if digits < 1 {
+        return false;
+    }
+    if 8 < digits {
+        return false;
+    }
+    if depth < 1 {
+        return false;
+    }
+    depth <= 4
+}
+
+fn smaller(a: usize, b: usize) -> usize
+    ensures { λ r. ⌜ r ≡ min a b ⌝ }
+{
+    if a < b { a } else { b }
+}
+
+// "digit i of an id stands in bits 4i to 4i+3, digit 0 being the rightmost"
+pub fn digit(id: u32, i: usize) -> usize
+    ensures { λ r. ⌜ (r ≡ digitOf id i) × (r < 16) ⌝ }
+{
+    if LAST_PLACE < i {
+        return 0;
+    }
+    ((id >> (4 * i)) & 15) as usize
+}
+
+// The mask of the low i digits of an id: that of all its places for a larger i.
+pub fn suffix_mask(i: usize) -> u32
+    ensures { λ r. ⌜ r ≡ suffixMask (min i 8) ⌝ }
+{
+    SUFFIX_MASKS[smaller(i, PLACES)]
+}
+
+// "For two ids the match is the number of equal digits counted from the right, at most d": four bits to a digit, so a quarter of
+// the equal bits below the first that differs.
+pub fn common_suffix(digits: usize, x: u32, y: u32) -> usize
+    ensures { λ r. ⌜ (r ≡ commonSuffix digits x y) × (r ≤ digits) ⌝ }
+{
+    if x == y {
+        return digits;
+    }
+    smaller((u32::trailing_zeros(x ^ y) / 4) as usize, digits)
+}
+
+// "its low i digits equal those of x": no bit that differs stands under the mask.
+pub fn low_digits_equal(x: u32, y: u32, i: usize) -> bool
+    ensures { λ r. ⌜ r ≡ eqb (lowDigits y i) (lowDigits x i) ⌝ }
+{
+    (x ^ y) & suffix_mask(i) == 0
+}
+
+// "A member y is qualified for entry (i, j) of x when its low i digits equal those of x and its digit i is j."
+pub fn qualified(x: u32, y: u32, i: usize, j: usize) -> bool
+    ensures { λ r. ⌜ r ≡ tables.qualified x y i j ⌝ }
+{
+    if !low_digits_equal(x, y, i) {
+        return false;
+    }
+    digit(y, i) == j
+}
+
+// "Every digit is below b and bits above digit d−1 are zero."
+pub fn valid_id(base: usize, digits: usize, id: u32) -> bool
+    ensures { λ r. ⌜ r ≡ validId base digits id ⌝ }
+{
+    let places = smaller(digits, PLACES);
+    let mut i = 0;
+    while i < places {
+        if base <= digit(id, i) {
+            return false;
+        }
+        i += 1;
+    }
+    (id as u64) >> (4 * places) == 0
+}
