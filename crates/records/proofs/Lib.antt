@@ -1,0 +1,2 @@
+-- Laws of loads, for callers.
+pub mod Loads

@@ -1,0 +1,35 @@
+-- What a load gives is the record of the book's accessors, so a fact of the one is a fact of the other (`subst`). Assumes nothing.
+use Prim.Native.Nat.{ℕ}
+use mathlib.Core.Path.{_≡_}
+use mathlib.Core.List.{List}
+use Rattle.model.specs.Memory.{base, digits, depth, nodeCount, idOf, statusOf, levelOf, targetOf, pendingOf, notifiedOf}
+use Rattle.records.specs.declared.record.Node.{Node}
+use Rattle.records.specs.declared.settings.Settings.{Settings}
+use Rattle.records.specs.Loaded.{SettingsOf, NodeOf}
+
+abbrev pub settingsAt : List ℕ → Settings
+settingsAt s = record { base = base s; digits = digits s; depth = depth s; nodes = nodeCount s }
+
+pub settings-is : (s : List ℕ) (r : Settings) → SettingsOf s r → r ≡ settingsAt s
+settings-is s r w = λ i. record { base = w .base i; digits = w .digits i; depth = w .depth i; nodes = w .nodes i }
+
+abbrev pub nodeAt : List ℕ → ℕ → Node
+nodeAt s x =
+    record {
+      id = idOf s x;
+      status = statusOf s x;
+      level = levelOf s x;
+      target = targetOf s x;
+      pending = pendingOf s x;
+      notified = notifiedOf s x;
+    }
+
+pub node-is : (s : List ℕ) (x : ℕ) (r : Node) → NodeOf s x r → r ≡ nodeAt s x
+node-is s x r w = λ i. record {
+  id = w .id i;
+  status = w .status i;
+  level = w .level i;
+  target = w .target i;
+  pending = w .pending i;
+  notified = w .notified i;
+}

@@ -1,0 +1,2 @@
+-- What the contracts of the lent words cite.
+pub mod Loaded
