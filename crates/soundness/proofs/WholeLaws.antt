@@ -1,0 +1,52 @@
+-- Laws of the whole check: the settings and the count as the code holds them, and the places past the nodes. Assumes nothing.
+use Prim.Native.Nat.{ℕ, _+_, _-_, _*_, _≤_, _<_}
+use mathlib.Core.Path.{_≡_, sym, ap, subst, _∙_}
+use mathlib.Core.Bool.{Bool, true, false, not, _&&_}
+use mathlib.Core.List.{List}
+use native.Mathlib.Omega.{arith}
+use lib.Dec.{leb}
+use lib.ListN.{length, take, drop}
+use borrow.Author.Tests.{not-false, le-leb, lt-leb}
+use Rattle.model.specs.Loops.{allBelow, node}
+use Rattle.model.specs.Ids.{settingsInRange}
+use Rattle.model.specs.Memory.{base, digits, depth, nodeCount}
+use Rattle.model.specs.Sound.{hasValidId, countInRange, allZero}
+use Rattle.model.proofs.Ids.{settings-range}
+use Rattle.model.proofs.Early.{le-goes, le-leaves, true-goes}
+use Rattle.records.specs.Loaded.{SettingsOf}
+use Rattle.records.specs.declared.settings.Settings.{Settings}
+use Rattle.soundness_ids.specs.Checked.{Ranged, Identified}
+
+pub settings-are : (s : List ℕ) (v : Settings) (r : Bool) → SettingsOf s v → r ≡ settingsInRange (v .base) (v .digits) (v .depth)
+    → r ≡ settingsInRange (base s) (digits s) (depth s)
+settings-are s v r w e = cc
+
+pub ranged-of : (s : List ℕ) (v : Settings) (r : Bool) → 520 ≤ length s → SettingsOf s v
+    → r ≡ settingsInRange (v .base) (v .digits) (v .depth) → not r ≡ false → v .nodes ≤ 64 → Ranged s
+ranged-of s v r l w e h g =
+    let i = settings-range (base s) (digits s) (depth s) (sym (settings-are s v r w e) ∙ not-false r h) in
+    record { long = l; base = i .base-most; digits = i .digits-most; depth = i .depth-most; nodes = omega arith }
+
+pub identified-of : (s : List ℕ) (r : Bool) → Ranged s → r ≡ allBelow (nodeCount s) (node (hasValidId s)) → not r ≡ false → Identified s
+identified-of s r w e h = record { ranged = w; ids = sym e ∙ not-false r h }
+
+-- the count, m being what the code holds for it
+pub count-few : (m n : ℕ) (b : Bool) → m ≡ n → m < 1 → false ≡ (countInRange n && b)
+count-few m n b e l = ap (λ (t : Bool). t && b) (le-leaves 1 n (leb n 64) (omega arith))
+
+pub count-many : (m n : ℕ) (b : Bool) → m ≡ n → 1 ≤ m → 64 < m → false ≡ (countInRange n && b)
+count-many m n b e l g =
+    ap (λ (t : Bool). t && b) (le-goes 1 n (leb n 64) false (omega arith) (sym (lt-leb n 64 (omega arith))))
+
+pub count-goes : (m n : ℕ) (b r : Bool) → m ≡ n → 1 ≤ m → m ≤ 64 → r ≡ b → r ≡ (countInRange n && b)
+count-goes m n b r e l g =
+    true-goes (countInRange n) b r (sym (le-goes 1 n (leb n 64) true (omega arith) (sym (le-leb n 64 (omega arith)))))
+
+-- the records and the tables past node n
+pub records-past : (s : List ℕ) (m n : ℕ) (r : Bool) → m ≡ n → r ≡ allZero (take (520 - (8 * m + 8)) (drop (8 * m + 8) s))
+    → r ≡ allZero (take (520 - (8 * n + 8)) (drop (8 * n + 8) s))
+records-past s m n r p = subst (λ (k : ℕ). r ≡ allZero (take (520 - (8 * k + 8)) (drop (8 * k + 8) s))) p
+
+pub tables-past : (t : List ℕ) (m n : ℕ) (r : Bool) → m ≡ n → r ≡ allZero (take (32768 - 512 * m) (drop (512 * m) t))
+    → r ≡ allZero (take (32768 - 512 * n) (drop (512 * n) t))
+tables-past t m n r p = subst (λ (k : ℕ). r ≡ allZero (take (32768 - 512 * k) (drop (512 * k) t))) p

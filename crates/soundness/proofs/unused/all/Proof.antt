@@ -1,0 +1,55 @@
+-- `all`: the tests are the book's, in its order. Assumes nothing.
+use borrow.Author.Needs.{needs}
+use Rattle.model.specs.Sound.{tablesRestZero, unusedZero}
+use Rattle.model.proofs.Bools.{and-leaves, and-goes}
+use Rattle.soundness.proofs.WholeLaws.{tables-past}
+use Rattle.soundness.proofs.unused.all.Statement.{statement}
+use Rattle.soundness.proofs.unused.all.Tie as tie
+
+spares-requires : tie.Need-spares-requires
+spares-requires c κs = search needs
+
+returns : tie.Need-returns
+unfolding unusedZero tablesRestZero
+returns c = search and-leaves
+
+state-rest-requires : tie.Need-state-rest-requires
+state-rest-requires c κs = search needs
+
+returns-2 : tie.Need-returns-2
+unfolding unusedZero tablesRestZero
+returns-2 c = search (and-goes, and-leaves)
+
+mul-a : tie.Need-mul-a
+mul-a c = search needs
+
+sub-bytes : tie.Need-sub-bytes
+sub-bytes c = search needs
+
+part-bytes-start : tie.Need-part-bytes-start
+part-bytes-start c = search needs
+
+part-bytes-end : tie.Need-part-bytes-end
+part-bytes-end c = search needs
+
+bytes-requires : tie.Need-bytes-requires
+bytes-requires c κs = search needs
+
+returns-3 : tie.Need-returns-3
+unfolding unusedZero tablesRestZero
+returns-3 c = search (and-goes, tables-past)
+
+pub all-spec : {M : Type 1} → statement M
+all-spec =
+    tie.close
+    (tie.spec
+    spares-requires
+    returns
+    state-rest-requires
+    returns-2
+    mul-a
+    sub-bytes
+    part-bytes-start
+    part-bytes-end
+    bytes-requires
+    returns-3)

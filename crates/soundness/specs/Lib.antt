@@ -1,0 +1,2 @@
+-- What the contracts of the whole check cite.
+pub mod Clauses

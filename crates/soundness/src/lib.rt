@@ -1,0 +1,76 @@
+// The exact check of a state: document 01, "A state is sound when ..", in the order of that sentence.
+ghost use mathlib.Core.Path.{_≡_};
+ghost use mathlib.Core.Bool.{not, _&&_};
+ghost use Prim.Native.Nat.{_≤_};
+ghost use lib.ListN.{length};
+ghost use Rattle.model.specs.Sound as book;
+ghost use Rattle.model.specs.Refusals.{memoryShort};
+ghost use Rattle.records.specs.Loaded.{SettingsOf};
+ghost use Rattle.soundness_ids.specs.Checked.{Ranged};
+ghost use Rattle.soundness.specs.Clauses.{nodesSound};
+use records::settings;
+use records::settings::Settings;
+
+mod unused;
+mod zero;
+
+// The fixed lengths of the lent memory, in words and in bytes.
+const STATE: usize = 520;
+
+const TABLES: usize = 32768;
+
+// The lent memory is as long as it must be, and the state in it is sound.
+pub fn sound(state: &[u64], tables: &[u8]) -> bool
+    ensures { λ r. ⌜
+        r ≡ (not (memoryShort (now (state .entry)) (now (tables .entry))) && book.sound (now (state .entry)) (now (tables .entry)))
+        ⌝ }
+{
+    if tables.len() < TABLES {
+        return false;
+    }
+    if state.len() < STATE {
+        return false;
+    }
+    settings_first(state, tables)
+}
+
+// "settings are in range; there are 1 to 64 members"
+fn settings_first(state: &[u64], tables: &[u8]) -> bool
+    requires { ⌜ 520 ≤ length (now state) ⌝ }
+    requires { ⌜ 32768 ≤ length (now tables) ⌝ }
+    ensures { λ r. ⌜ r ≡ book.sound (now (state .entry)) (now (tables .entry)) ⌝ }
+{
+    let s = settings::load(state);
+    if !ident::settings_in_range(s.base as u64, s.digits as u64, s.depth as u64) {
+        return false;
+    }
+    if s.nodes < 1 {
+        return false;
+    }
+    if 64 < s.nodes {
+        return false;
+    }
+    nodes_next(state, tables, s)
+}
+
+// What is asked of the nodes, their ids before anything that leans on them.
+fn nodes_next(state: &[u64], tables: &[u8], s: Settings) -> bool
+    requires { ⌜ Ranged (now state) ⌝ }
+    requires { ⌜ SettingsOf (now state) s ⌝ }
+    requires { ⌜ 32768 ≤ length (now tables) ⌝ }
+    ensures { λ r. ⌜ r ≡ nodesSound (now (state .entry)) (now (tables .entry)) ⌝ }
+{
+    if !soundness_ids::valid(state, s) {
+        return false;
+    }
+    if !soundness_ids::different(state, s) {
+        return false;
+    }
+    if !soundness_tables::all(state, tables, s) {
+        return false;
+    }
+    if !soundness_status::all(state, s) {
+        return false;
+    }
+    unused::all(state, tables, s)
+}

@@ -1,0 +1,69 @@
+// "unused places are zero": the spare words of each record, words 4 to 7, the records and the tables of no node. (The unused places of a
+// node's own table are the business of `places`.)
+ghost use mathlib.Core.Path.{_≡_};
+ghost use Prim.Native.Nat.{_≤_};
+ghost use lib.ListN.{length};
+ghost use Rattle.model.specs.Loops.{allBelow, node};
+ghost use Rattle.model.specs.Memory.{nodeCount};
+ghost use Rattle.model.specs.Sound.{spareZero, stateRestZero, unusedZero};
+ghost use Rattle.records.specs.Loaded.{SettingsOf};
+ghost use Rattle.soundness_ids.specs.Checked.{Ranged, IsNode};
+use crate::zero;
+use records::settings::Settings;
+
+// The two spare words of the record of node x.
+fn spare(state: &[u64], x: usize) -> bool
+    requires { ⌜ Ranged (now state) ⌝ }
+    requires { ⌜ IsNode (now state) x ⌝ }
+    ensures { λ r. ⌜ r ≡ spareZero (now (state .entry)) x ⌝ }
+{
+    let at = 8 * x;
+    if state[at + 6] != 0 {
+        return false;
+    }
+    state[at + 7] == 0
+}
+
+fn spares(state: &[u64], s: Settings) -> bool
+    requires { ⌜ Ranged (now state) ⌝ }
+    requires { ⌜ SettingsOf (now state) s ⌝ }
+    ensures { λ r. ⌜ r ≡ allBelow (nodeCount (now (state .entry))) (node (spareZero (now (state .entry)))) ⌝ }
+{
+    let mut k = 0;
+    while k < s.nodes {
+        if !spare(state, k + 1) {
+            return false;
+        }
+        k += 1;
+    }
+    true
+}
+
+// Words 4 to 7, and the records of no node.
+fn state_rest(state: &[u64], s: Settings) -> bool
+    requires { ⌜ Ranged (now state) ⌝ }
+    requires { ⌜ SettingsOf (now state) s ⌝ }
+    ensures { λ r. ⌜ r ≡ stateRestZero (now (state .entry)) ⌝ }
+{
+    if !zero::words(&state[4..8]) {
+        return false;
+    }
+    let a = 8 * s.nodes + 8;
+    zero::words(&state[a..520])
+}
+
+pub fn all(state: &[u64], tables: &[u8], s: Settings) -> bool
+    requires { ⌜ Ranged (now state) ⌝ }
+    requires { ⌜ SettingsOf (now state) s ⌝ }
+    requires { ⌜ 32768 ≤ length (now tables) ⌝ }
+    ensures { λ r. ⌜ r ≡ unusedZero (now (state .entry)) (now (tables .entry)) ⌝ }
+{
+    if !spares(state, s) {
+        return false;
+    }
+    if !state_rest(state, s) {
+        return false;
+    }
+    let a = 512 * s.nodes;
+    zero::bytes(&tables[a..32768])
+}

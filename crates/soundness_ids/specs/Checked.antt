@@ -1,0 +1,34 @@
+-- What the check knows of a state on its way, in the order in which it learns it. s is the state.
+use Prim.Native.Nat.{ℕ, _≤_}
+use mathlib.Core.Path.{_≡_}
+use mathlib.Core.Bool.{true}
+use mathlib.Core.List.{List}
+use lib.ListN.{length}
+use Rattle.model.specs.Loops.{allBelow, node}
+use Rattle.model.specs.Memory.{base, digits, depth, nodeCount, idOf}
+use Rattle.model.specs.Sound.{hasValidId}
+use Rattle.soundness_ids.specs.declared.node.Owner.{Owner}
+
+-- the settings and the number of nodes are in range
+pub record Ranged (s : List ℕ) : Type 0 where
+  pub long : 520 ≤ length s
+  pub base : base s ≤ 16
+  pub digits : digits s ≤ 8
+  pub depth : depth s ≤ 4
+  pub nodes : nodeCount s ≤ 64
+
+-- and the ids are valid, so that each fits 32 bits
+pub record Identified (s : List ℕ) : Type 0 where
+  pub ranged : Ranged s
+  pub ids : allBelow (nodeCount s) (node (hasValidId s)) ≡ true
+
+-- x is a node
+pub record IsNode (s : List ℕ) (x : ℕ) : Type 0 where
+  pub first : 1 ≤ x
+  pub last : x ≤ nodeCount s
+
+-- whose table or record is looked at
+pub record OwnerOf (s : List ℕ) (o : Owner) : Type 0 where
+  pub first : 1 ≤ o .number
+  pub last : o .number ≤ nodeCount s
+  pub id : o .id ≡ idOf s (o .number)

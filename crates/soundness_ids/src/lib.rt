@@ -1,0 +1,74 @@
+// "there are 1 to 64 members with valid, different ids"
+ghost use mathlib.Core.Path.{_≡_};
+ghost use Rattle.model.specs.Loops.{allBelow, node};
+ghost use Rattle.model.specs.Memory.{nodeCount};
+ghost use Rattle.model.specs.Sound.{hasValidId, hasNewId};
+ghost use Rattle.records.specs.Loaded.{SettingsOf};
+ghost use Rattle.soundness_ids.specs.Checked.{Ranged, IsNode};
+use records::record;
+use records::settings::Settings;
+
+pub mod node;
+
+const LARGEST: u64 = 0xffff_ffff;
+
+// A word above 32 bits has a bit above its eight digits.
+fn is_valid(state: &[u64], s: Settings, x: usize) -> bool
+    requires { ⌜ Ranged (now state) ⌝ }
+    requires { ⌜ SettingsOf (now state) s ⌝ }
+    requires { ⌜ IsNode (now state) x ⌝ }
+    ensures { λ r. ⌜ r ≡ hasValidId (now (state .entry)) x ⌝ }
+{
+    let id = record::id(state, x);
+    if LARGEST < id {
+        return false;
+    }
+    ident::valid_id(s.base, s.digits, id as u32)
+}
+
+pub fn valid(state: &[u64], s: Settings) -> bool
+    requires { ⌜ Ranged (now state) ⌝ }
+    requires { ⌜ SettingsOf (now state) s ⌝ }
+    ensures { λ r. ⌜ r ≡ allBelow (nodeCount (now (state .entry))) (node (hasValidId (now (state .entry)))) ⌝ }
+{
+    let mut k = 0;
+    while k < s.nodes {
+        if !is_valid(state, s, k + 1) {
+            return false;
+        }
+        k += 1;
+    }
+    true
+}
+
+// No node before x has its id.
+fn is_new(state: &[u64], x: usize) -> bool
+    requires { ⌜ Ranged (now state) ⌝ }
+    requires { ⌜ IsNode (now state) x ⌝ }
+    ensures { λ r. ⌜ r ≡ hasNewId (now (state .entry)) x ⌝ }
+{
+    let id = record::id(state, x);
+    let mut k = 0;
+    while k < x - 1 {
+        if record::id(state, k + 1) == id {
+            return false;
+        }
+        k += 1;
+    }
+    true
+}
+
+pub fn different(state: &[u64], s: Settings) -> bool
+    requires { ⌜ Ranged (now state) ⌝ }
+    requires { ⌜ SettingsOf (now state) s ⌝ }
+    ensures { λ r. ⌜ r ≡ allBelow (nodeCount (now (state .entry))) (node (hasNewId (now (state .entry)))) ⌝ }
+{
+    let mut k = 0;
+    while k < s.nodes {
+        if !is_new(state, k + 1) {
+            return false;
+        }
+        k += 1;
+    }
+    true
+}

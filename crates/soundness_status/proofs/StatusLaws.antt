@@ -1,0 +1,145 @@
+-- Laws of the statuses: what the code computes from a loaded record r is what the book says of node x. n is the number of nodes that the
+-- code holds. Assumes nothing.
+use Prim.Native.Nat.{ℕ, _≤_, _<_, _^_}
+use mathlib.Core.Path.{_≡_, sym, ap, subst, _∙_}
+use mathlib.Core.Bool.{Bool, true, false, not, _&&_, _||_, or-false}
+use mathlib.Core.List.{List}
+use native.Mathlib.Omega.{arith}
+use lib.Dec.{eqb, leb, ltb}
+use borrow.Author.Tests.{leb-true, eq-eqb, ne-eqb, not-false}
+use Rattle.model.specs.Loops.{allBelow, node}
+use Rattle.model.specs.Ids.{commonSuffix}
+use Rattle.model.specs.Memory.{digits, nodeCount, idOf, statusOf, isInSystem, isAttached, hasNode}
+use Rattle.model.specs.Sound.{suffixOf, inSystemSound, joiningSound, copyingSound, waitingSound, pendingSound, notifiedSound, notifyingSound, statusSound}
+use Rattle.model.proofs.Bools.{and-left, and-right}
+use Rattle.model.proofs.Early.{true-goes, false-leaves, false-or-goes, true-or-leaves, le-goes, le-leaves, lt-goes, lt-leaves}
+use Rattle.records.specs.Loaded.{SettingsOf, NodeOf}
+use Rattle.records.specs.declared.record.Node.{Node}
+use Rattle.records.specs.declared.settings.Settings.{Settings}
+use Rattle.records.proofs.Loads.{settingsAt, settings-is, nodeAt, node-is}
+use Rattle.soundness_ids.specs.Checked.{IsNode}
+use Rattle.soundness_status.specs.StatusFacts.{atRest, joiningAtRest, setsSound}
+
+-- a fact of the loaded settings and record is one of the book's
+carried : (P : Settings → Node → Type 0) (s : List ℕ) (x : ℕ) (v : Settings) (r : Node) → SettingsOf s v → NodeOf s x r → P v r
+    → P (settingsAt s) (nodeAt s x)
+carried P s x v r w u e =
+    subst (λ (v : Settings). P v (nodeAt s x)) (settings-is s v w) (subst (λ (r : Node). P v r) (node-is s x r u) e)
+
+pub rest-of : (s : List ℕ) (x : ℕ) (r : Node) (q : Bool) → NodeOf s x r → q ≡ atRest r → q ≡ inSystemSound s x
+unfolding inSystemSound
+rest-of s x r q w e = subst (λ (r : Node). q ≡ atRest r) (node-is s x r w) e
+
+-- ---- copying and waiting
+
+abbrev pub isNodeOf : ℕ → ℕ → Bool
+isNodeOf n t = leb 1 t && leb t n
+
+pub target-node : (s : List ℕ) (n t : ℕ) (h : Bool) → n ≡ nodeCount s → h ≡ isNodeOf n t → not h ≡ false → IsNode s t
+target-node s n t h p e g =
+    let o : isNodeOf n t ≡ true = sym e ∙ not-false h g in
+    let l : 1 ≤ t = leb-true 1 t (and-left _ _ o) in
+    let m : t ≤ n = leb-true t n (and-right (leb 1 t) _ o) in record { first = l; last = omega arith }
+
+pub copying-of : (s : List ℕ) (x : ℕ) (v : Settings) (r : Node) (q : Bool) → SettingsOf s v → NodeOf s x r
+    → q ≡ (isNodeOf (v .nodes) (r .target) && (isInSystem s (r .target) && joiningAtRest r)) → q ≡ copyingSound s x
+unfolding copyingSound joiningSound
+copying-of s x v r q =
+    carried (λ v r. q ≡ (isNodeOf (v .nodes) (r .target) && (isInSystem s (r .target) && joiningAtRest r))) s x v r
+
+pub waiting-of : (s : List ℕ) (x : ℕ) (v : Settings) (r : Node) (q : Bool) → SettingsOf s v → NodeOf s x r
+    → q ≡ (isNodeOf (v .nodes) (r .target) && (isAttached s (r .target) && joiningAtRest r)) → q ≡ waitingSound s x
+unfolding waitingSound joiningSound
+waiting-of s x v r q =
+    carried (λ v r. q ≡ (isNodeOf (v .nodes) (r .target) && (isAttached s (r .target) && joiningAtRest r))) s x v r
+
+-- ---- notifying
+
+-- a node that is not in the set, and one that is
+pub has-leaves : (nodes u : ℕ) (h b : Bool) → h ≡ hasNode nodes u → not h ≡ true → true ≡ (not (hasNode nodes u) || b)
+has-leaves nodes u h b e g = true-or-leaves (not (hasNode nodes u)) b (ap not (sym e) ∙ g)
+
+pub has-goes : (nodes u : ℕ) (h b q : Bool) → h ≡ hasNode nodes u → not h ≡ false → q ≡ b → q ≡ (not (hasNode nodes u) || b)
+has-goes nodes u h b q e g = false-or-goes (not (hasNode nodes u)) b q (ap not (sym e) ∙ g)
+
+-- k is the common suffix that the code has computed
+pub suffix-is : (s : List ℕ) (x u d a b k : ℕ) → d ≡ digits s → a ≡ idOf s x → b ≡ idOf s u → k ≡ commonSuffix d a b → k ≡ suffixOf s x u
+suffix-is s x u d a b k p q r e = cc
+
+pub suffix-leaves : (m n k : ℕ) (b : Bool) → k ≡ n → k < m → false ≡ (leb m n && b)
+suffix-leaves m n k b e l = le-leaves m n b (omega arith)
+
+pub suffix-goes : (m n k : ℕ) (b q : Bool) → k ≡ n → m ≤ k → q ≡ b → q ≡ (leb m n && b)
+suffix-goes m n k b q e l = le-goes m n b q (omega arith)
+
+-- u is not the owner
+pub other-leaves : (u x : ℕ) (b : Bool) → u ≡ x → false ≡ (not (eqb u x) && b)
+other-leaves u x b e = false-leaves (not (eqb u x)) b (ap not (eq-eqb u x e))
+
+pub other-goes : (u x : ℕ) (b q : Bool) → (u ≡ x → ⊥) → q ≡ b → q ≡ (not (eqb u x) && b)
+other-goes u x b q h = true-goes (not (eqb u x)) b q (ap not (ne-eqb u x h))
+
+pub pending-of : (s : List ℕ) (x u : ℕ) (r : Node) (q : Bool) → NodeOf s x r
+    → q ≡ (not (hasNode (r .pending) u) || (isAttached s u && (leb (r .level) (suffixOf s x u) && (not (eqb u x) && not (hasNode (r .notified) u)))))
+    → q ≡ pendingSound s x u
+unfolding pendingSound
+pending-of s x u r q w =
+    subst
+    (λ (r : Node). q ≡ (not (hasNode (r .pending) u) || (isAttached s u && (leb (r .level) (suffixOf s x u) && (not (eqb u x) && not (hasNode (r .notified) u))))))
+    (node-is s x r w)
+
+pub notified-of : (s : List ℕ) (x u : ℕ) (r : Node) (q : Bool) → NodeOf s x r
+    → q ≡ (not (hasNode (r .notified) u) || (isAttached s u && not (eqb u x))) → q ≡ notifiedSound s x u
+unfolding notifiedSound
+notified-of s x u r q w =
+    subst (λ (r : Node). q ≡ (not (hasNode (r .notified) u) || (isAttached s u && not (eqb u x)))) (node-is s x r w)
+
+-- a set that is not empty
+pub some-leaves : (m : ℕ) (b : Bool) → m ≡ 0 → false ≡ (ltb 0 m && b)
+some-leaves m b e = lt-leaves 0 m b (omega arith)
+
+pub some-goes : (m : ℕ) (b q : Bool) → (m ≡ 0 → ⊥) → q ≡ b → q ≡ (ltb 0 m && b)
+some-goes m b q h = lt-goes 0 m b q (omega arith)
+
+pub sets-of : (s : List ℕ) (x : ℕ) (v : Settings) (r : Node) (q : Bool) → SettingsOf s v → NodeOf s x r
+    → q ≡ (ltb (r .pending) (2 ^ v .nodes) && (ltb (r .notified) (2 ^ v .nodes) && (allBelow (nodeCount s) (node (pendingSound s x)) && allBelow (nodeCount s) (node (notifiedSound s x)))))
+    → q ≡ setsSound s x
+sets-of s x v r q =
+    carried
+    (λ v r. q ≡ (ltb (r .pending) (2 ^ v .nodes) && (ltb (r .notified) (2 ^ v .nodes) && (allBelow (nodeCount s) (node (pendingSound s x)) && allBelow (nodeCount s) (node (notifiedSound s x))))))
+    s x v r
+
+pub notifying-of : (s : List ℕ) (x : ℕ) (v : Settings) (r : Node) (q : Bool) → SettingsOf s v → NodeOf s x r
+    → q ≡ (eqb (r .target) 0 && (ltb (r .level) (v .digits) && (ltb 0 (r .pending) && setsSound s x))) → q ≡ notifyingSound s x
+unfolding notifyingSound
+notifying-of s x v r q =
+    carried (λ v r. q ≡ (eqb (r .target) 0 && (ltb (r .level) (v .digits) && (ltb 0 (r .pending) && setsSound s x)))) s x v r
+
+-- ---- the four statuses, by the number m that the code has read
+
+abbrev byStatus : ℕ → Bool → Bool → Bool → Bool → Bool
+byStatus m a b c d = eqb m 0 && a || (eqb m 1 && b || (eqb m 2 && c || eqb m 3 && d))
+
+module _ (s : List ℕ) (x m : ℕ) (q : Bool) (p : m ≡ statusOf s x) where
+  status-at : (k : ℕ) → m ≡ k → q ≡ byStatus k (inSystemSound s x) (copyingSound s x) (waitingSound s x) (notifyingSound s x) → q ≡ statusSound s x
+  unfolding statusSound
+  status-at k e =
+      subst (λ (k : ℕ). q ≡ byStatus k (inSystemSound s x) (copyingSound s x) (waitingSound s x) (notifyingSound s x)) (sym e ∙ p)
+
+  pub status-in-system : m ≡ 0 → q ≡ inSystemSound s x → q ≡ statusSound s x
+  status-in-system e h = status-at 0 e (h ∙ sym (or-false (inSystemSound s x)))
+
+  pub status-copying : m ≡ 1 → q ≡ copyingSound s x → q ≡ statusSound s x
+  status-copying e h = status-at 1 e (h ∙ sym (or-false (copyingSound s x)))
+
+  pub status-waiting : m ≡ 2 → q ≡ waitingSound s x → q ≡ statusSound s x
+  status-waiting e h = status-at 2 e (h ∙ sym (or-false (waitingSound s x)))
+
+  pub status-notifying : m ≡ 3 → q ≡ notifyingSound s x → q ≡ statusSound s x
+  status-notifying e h = status-at 3 e h
+
+pub status-none : (s : List ℕ) (x m : ℕ) → m ≡ statusOf s x → (m ≡ 0 → ⊥) → (m ≡ 1 → ⊥) → (m ≡ 2 → ⊥) → (m ≡ 3 → ⊥) → false ≡ statusSound s x
+unfolding statusSound
+status-none s x m p a b c d =
+    simp
+    (ne-eqb (statusOf s x) 0 (λ e. a (p ∙ e)), ne-eqb (statusOf s x) 1 (λ e. b (p ∙ e)), ne-eqb (statusOf s x) 2 (λ e. c (p ∙ e)), ne-eqb (statusOf s x) 3 (λ e. d (p ∙ e)))

@@ -1,0 +1,24 @@
+-- `sound`: the tests are the book's, in its order, of the record that was loaded. Assumes nothing.
+use borrow.Author.Needs.{needs}
+use Rattle.model.proofs.Early.{eq-goes, eq-leaves, lt-goes, lt-leaves}
+use Rattle.soundness_status.proofs.StatusLaws.{some-leaves, some-goes, notifying-of}
+use Rattle.soundness_status.proofs.notifying.sound.Statement.{statement}
+use Rattle.soundness_status.proofs.notifying.sound.Tie as tie
+
+returns : tie.Need-returns
+returns c = search (notifying-of, eq-leaves)
+
+returns-2 : tie.Need-returns-2
+returns-2 c = search (notifying-of, eq-goes, lt-leaves)
+
+returns-3 : tie.Need-returns-3
+returns-3 c = search (notifying-of, eq-goes, lt-goes, some-leaves)
+
+sets-sound-requires : tie.Need-sets-sound-requires
+sets-sound-requires c κs = search needs
+
+returns-4 : tie.Need-returns-4
+returns-4 c = search (notifying-of, eq-goes, lt-goes, some-goes)
+
+pub sound-spec : {M : Type 1} → statement M
+sound-spec = tie.close (tie.spec returns returns-2 returns-3 sets-sound-requires returns-4)

@@ -1,0 +1,2 @@
+-- What the contracts of the check of statuses cite.
+pub mod StatusFacts

@@ -1,0 +1,65 @@
+// The rules of a node that joins: "a copying member's target is settled, a waiting one's settled or notifying, and both have zero attach
+// level and sets".
+ghost use mathlib.Core.Path.{_≡_};
+ghost use mathlib.Core.Bool.{_&&_};
+ghost use lib.Dec.{leb};
+ghost use Rattle.model.specs.Sound.{copyingSound, waitingSound};
+ghost use Rattle.records.specs.Loaded.{SettingsOf, NodeOf};
+ghost use Rattle.soundness_ids.specs.Checked.{Ranged};
+ghost use Rattle.soundness_status.specs.StatusFacts.{joiningAtRest};
+use records::record::Node;
+use records::settings::Settings;
+use soundness_ids::node;
+
+fn at_rest(r: Node) -> bool
+    ensures { λ q. ⌜ q ≡ joiningAtRest r ⌝ }
+{
+    if r.level != 0 {
+        return false;
+    }
+    if r.pending != 0 {
+        return false;
+    }
+    r.notified == 0
+}
+
+fn is_node(nodes: usize, x: u64) -> bool
+    ensures { λ r. ⌜ r ≡ (leb 1 x && leb x nodes) ⌝ }
+{
+    if x < 1 {
+        return false;
+    }
+    x <= nodes as u64
+}
+
+// "a copying member's target is settled"
+pub fn copying(state: &[u64], s: Settings, x: usize, r: Node) -> bool
+    requires { ⌜ Ranged (now state) ⌝ }
+    requires { ⌜ SettingsOf (now state) s ⌝ }
+    requires { ⌜ NodeOf (now state) x r ⌝ }
+    ensures { λ q. ⌜ q ≡ copyingSound (now (state .entry)) x ⌝ }
+{
+    if !is_node(s.nodes, r.target) {
+        return false;
+    }
+    if !node::in_system(state, r.target as usize) {
+        return false;
+    }
+    at_rest(r)
+}
+
+// "a waiting one's settled or notifying"
+pub fn waiting(state: &[u64], s: Settings, x: usize, r: Node) -> bool
+    requires { ⌜ Ranged (now state) ⌝ }
+    requires { ⌜ SettingsOf (now state) s ⌝ }
+    requires { ⌜ NodeOf (now state) x r ⌝ }
+    ensures { λ q. ⌜ q ≡ waitingSound (now (state .entry)) x ⌝ }
+{
+    if !is_node(s.nodes, r.target) {
+        return false;
+    }
+    if !node::attached(state, r.target as usize) {
+        return false;
+    }
+    at_rest(r)
+}

@@ -1,0 +1,66 @@
+// The rules of each status: a settled member is in system here, the asked set is pending, the told set notified.
+ghost use mathlib.Core.Path.{_≡_};
+ghost use Rattle.model.specs.Loops.{allBelow, node};
+ghost use Rattle.model.specs.Memory.{nodeCount};
+ghost use Rattle.model.specs.Sound.{statusSound};
+ghost use Rattle.records.specs.Loaded.{SettingsOf};
+ghost use Rattle.soundness_ids.specs.Checked.{Identified, IsNode};
+ghost use Rattle.soundness_status.specs.StatusFacts.{atRest};
+use records::record;
+use records::record::Node;
+use records::settings::Settings;
+use records::status::Status;
+
+mod joining;
+mod notified;
+mod notifying;
+mod pending;
+
+// "a settled member's attach level, target and sets are zero"
+fn in_system(r: Node) -> bool
+    ensures { λ q. ⌜ q ≡ atRest r ⌝ }
+{
+    if r.level != 0 {
+        return false;
+    }
+    if r.target != 0 {
+        return false;
+    }
+    if r.pending != 0 {
+        return false;
+    }
+    r.notified == 0
+}
+
+// The rules of the status of node x; a number above 3 is no status.
+fn status(state: &[u64], s: Settings, x: usize) -> bool
+    requires { ⌜ Identified (now state) ⌝ }
+    requires { ⌜ SettingsOf (now state) s ⌝ }
+    requires { ⌜ IsNode (now state) x ⌝ }
+    ensures { λ q. ⌜ q ≡ statusSound (now (state .entry)) x ⌝ }
+{
+    let r = record::load(state, x);
+    let number = r.status;
+    match number {
+        Status::IN_SYSTEM => in_system(r),
+        Status::COPYING => joining::copying(state, s, x, r),
+        Status::WAITING => joining::waiting(state, s, x, r),
+        Status::NOTIFYING => notifying::sound(state, s, x, r),
+        _ => false,
+    }
+}
+
+pub fn all(state: &[u64], s: Settings) -> bool
+    requires { ⌜ Identified (now state) ⌝ }
+    requires { ⌜ SettingsOf (now state) s ⌝ }
+    ensures { λ r. ⌜ r ≡ allBelow (nodeCount (now (state .entry))) (node (statusSound (now (state .entry)))) ⌝ }
+{
+    let mut k = 0;
+    while k < s.nodes {
+        if !status(state, s, k + 1) {
+            return false;
+        }
+        k += 1;
+    }
+    true
+}

@@ -1,0 +1,43 @@
+// The notified set: it "names only settled or notifying others".
+ghost use mathlib.Core.Path.{_≡_};
+ghost use Rattle.model.specs.Loops.{allBelow, node};
+ghost use Rattle.model.specs.Memory.{nodeCount};
+ghost use Rattle.model.specs.Sound.{notifiedSound};
+ghost use Rattle.records.specs.Loaded.{SettingsOf, NodeOf};
+ghost use Rattle.soundness_ids.specs.Checked.{Ranged, IsNode};
+use records::record::Node;
+use records::sets;
+use records::settings::Settings;
+use soundness_ids::node;
+
+// Node u is not in the set, or may be.
+fn one(state: &[u64], x: usize, r: Node, u: usize) -> bool
+    requires { ⌜ Ranged (now state) ⌝ }
+    requires { ⌜ NodeOf (now state) x r ⌝ }
+    requires { ⌜ IsNode (now state) u ⌝ }
+    ensures { λ q. ⌜ q ≡ notifiedSound (now (state .entry)) x u ⌝ }
+{
+    if !sets::has(r.notified, u) {
+        return true;
+    }
+    if !node::attached(state, u) {
+        return false;
+    }
+    u != x
+}
+
+pub fn all(state: &[u64], s: Settings, x: usize, r: Node) -> bool
+    requires { ⌜ Ranged (now state) ⌝ }
+    requires { ⌜ SettingsOf (now state) s ⌝ }
+    requires { ⌜ NodeOf (now state) x r ⌝ }
+    ensures { λ q. ⌜ q ≡ allBelow (nodeCount (now (state .entry))) (node (notifiedSound (now (state .entry)) x)) ⌝ }
+{
+    let mut k = 0;
+    while k < s.nodes {
+        if !one(state, x, r, k + 1) {
+            return false;
+        }
+        k += 1;
+    }
+    true
+}

@@ -1,0 +1,56 @@
+// The rules of a notifying node: "target zero, attach level below d, a nonempty asked set", and what its two sets may name.
+ghost use mathlib.Core.Path.{_≡_};
+ghost use Rattle.model.specs.Sound.{notifyingSound};
+ghost use Rattle.records.specs.Loaded.{SettingsOf, NodeOf};
+ghost use Rattle.soundness_ids.specs.Checked.{Identified, IsNode};
+ghost use Rattle.soundness_status.specs.StatusFacts.{setsSound};
+use crate::notified;
+use crate::pending;
+use records::record::Node;
+use records::sets;
+use records::settings::Settings;
+use soundness_ids::node;
+use soundness_ids::node::Owner;
+
+// Both sets name nodes alone, each of them one that may stand there.
+fn sets_sound(state: &[u64], s: Settings, x: usize, r: Node) -> bool
+    requires { ⌜ Identified (now state) ⌝ }
+    requires { ⌜ SettingsOf (now state) s ⌝ }
+    requires { ⌜ IsNode (now state) x ⌝ }
+    requires { ⌜ NodeOf (now state) x r ⌝ }
+    ensures { λ q. ⌜ q ≡ setsSound (now (state .entry)) x ⌝ }
+{
+    if !sets::only_below(r.pending, s.nodes) {
+        return false;
+    }
+    if !sets::only_below(r.notified, s.nodes) {
+        return false;
+    }
+    let o = Owner {
+        number: x,
+        id: node::id(state, x),
+    };
+    if !pending::all(state, s, o, r) {
+        return false;
+    }
+    notified::all(state, s, x, r)
+}
+
+pub fn sound(state: &[u64], s: Settings, x: usize, r: Node) -> bool
+    requires { ⌜ Identified (now state) ⌝ }
+    requires { ⌜ SettingsOf (now state) s ⌝ }
+    requires { ⌜ IsNode (now state) x ⌝ }
+    requires { ⌜ NodeOf (now state) x r ⌝ }
+    ensures { λ q. ⌜ q ≡ notifyingSound (now (state .entry)) x ⌝ }
+{
+    if r.target != 0 {
+        return false;
+    }
+    if s.digits as u64 <= r.level {
+        return false;
+    }
+    if r.pending == 0 {
+        return false;
+    }
+    sets_sound(state, s, x, r)
+}

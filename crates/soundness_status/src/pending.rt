@@ -1,0 +1,54 @@
+// The pending set: "settled or notifying members, each matching it in at least as many digits as its attach level, not itself and not in its
+// told set".
+ghost use mathlib.Core.Path.{_≡_};
+ghost use Rattle.model.specs.Loops.{allBelow, node};
+ghost use Rattle.model.specs.Memory.{nodeCount};
+ghost use Rattle.model.specs.Sound.{pendingSound};
+ghost use Rattle.records.specs.Loaded.{SettingsOf, NodeOf};
+ghost use Rattle.soundness_ids.specs.Checked.{Identified, IsNode, OwnerOf};
+use records::record::Node;
+use records::sets;
+use records::settings::Settings;
+use soundness_ids::node;
+use soundness_ids::node::Owner;
+
+// Node u is not in the set, or may be.
+fn one(state: &[u64], s: Settings, o: Owner, r: Node, u: usize) -> bool
+    requires { ⌜ Identified (now state) ⌝ }
+    requires { ⌜ SettingsOf (now state) s ⌝ }
+    requires { ⌜ OwnerOf (now state) o ⌝ }
+    requires { ⌜ NodeOf (now state) (o .number) r ⌝ }
+    requires { ⌜ IsNode (now state) u ⌝ }
+    ensures { λ q. ⌜ q ≡ pendingSound (now (state .entry)) (o .number) u ⌝ }
+{
+    if !sets::has(r.pending, u) {
+        return true;
+    }
+    if !node::attached(state, u) {
+        return false;
+    }
+    if (ident::common_suffix(s.digits, o.id, node::id(state, u)) as u64) < r.level {
+        return false;
+    }
+    if u == o.number {
+        return false;
+    }
+    !sets::has(r.notified, u)
+}
+
+pub fn all(state: &[u64], s: Settings, o: Owner, r: Node) -> bool
+    requires { ⌜ Identified (now state) ⌝ }
+    requires { ⌜ SettingsOf (now state) s ⌝ }
+    requires { ⌜ OwnerOf (now state) o ⌝ }
+    requires { ⌜ NodeOf (now state) (o .number) r ⌝ }
+    ensures { λ q. ⌜ q ≡ allBelow (nodeCount (now (state .entry))) (node (pendingSound (now (state .entry)) (o .number))) ⌝ }
+{
+    let mut k = 0;
+    while k < s.nodes {
+        if !one(state, s, o, r, k + 1) {
+            return false;
+        }
+        k += 1;
+    }
+    true
+}

@@ -1,0 +1,3 @@
+-- Laws that join what the code has computed to the clauses of the book.
+pub mod SlotLaws
+pub mod TableLaws

@@ -1,0 +1,2 @@
+-- What the contracts of the check of tables cite.
+pub mod TableFacts

@@ -1,0 +1,61 @@
+// The slots of a table: "slot s (0 to 3) of entry (i, j) at 64i + 4j + s within it; 0 means empty".
+ghost use mathlib.Core.Path.{_≡_};
+ghost use Prim.Native.Nat.{_<_};
+ghost use Rattle.model.specs.Loops.{allBelow};
+ghost use Rattle.model.specs.Tables.{slotAt, slotIs};
+ghost use Rattle.model.specs.Sound.{slotDiffers, noGapBefore};
+ghost use Rattle.soundness_tables.specs.TableFacts.{EntryIn};
+
+// The node in slot k.
+pub fn at(table: &[u8], i: usize, j: usize, k: usize) -> usize
+    requires { ⌜ EntryIn (now table) i j ⌝ }
+    requires { ⌜ k < 4 ⌝ }
+    ensures { λ r. ⌜ r ≡ slotAt (now (table .entry)) i j k ⌝ }
+{
+    table[64 * i + 4 * j + k] as usize
+}
+
+// All four slots are empty.
+pub fn empty(table: &[u8], i: usize, j: usize) -> bool
+    requires { ⌜ EntryIn (now table) i j ⌝ }
+    ensures { λ r. ⌜ r ≡ allBelow 4 (slotIs (now (table .entry)) i j 0) ⌝ }
+{
+    let a = 64 * i + 4 * j;
+    table[a] | table[a + 1] | table[a + 2] | table[a + 3] == 0
+}
+
+// "without a gap": the slot before k is filled.
+pub fn no_gap(table: &[u8], i: usize, j: usize, k: usize) -> bool
+    requires { ⌜ EntryIn (now table) i j ⌝ }
+    requires { ⌜ k < 4 ⌝ }
+    ensures { λ r. ⌜ r ≡ noGapBefore (now (table .entry)) i j k ⌝ }
+{
+    if k == 0 {
+        return true;
+    }
+    at(table, i, j, k - 1) != 0
+}
+
+fn differs(table: &[u8], i: usize, j: usize, u: usize, k: usize) -> bool
+    requires { ⌜ EntryIn (now table) i j ⌝ }
+    requires { ⌜ k < 4 ⌝ }
+    ensures { λ r. ⌜ r ≡ slotDiffers (now (table .entry)) i j u k ⌝ }
+{
+    at(table, i, j, k) != u
+}
+
+// No slot before k holds u.
+pub fn new_at(table: &[u8], i: usize, j: usize, u: usize, k: usize) -> bool
+    requires { ⌜ EntryIn (now table) i j ⌝ }
+    requires { ⌜ k < 4 ⌝ }
+    ensures { λ r. ⌜ r ≡ allBelow k (slotDiffers (now (table .entry)) i j u) ⌝ }
+{
+    let mut e = 0;
+    while e < k {
+        if !differs(table, i, j, u, e) {
+            return false;
+        }
+        e += 1;
+    }
+    true
+}
