@@ -1,0 +1,2 @@
+-- What the contracts over one node's table ask.
+pub mod Places

@@ -1,0 +1,57 @@
+// An entry (i, j), level i and digit j, of one node's table: "slot s (0 to 3) of entry (i, j) at 64i + 4j + s within it; 0 means
+// empty". Only the slots below the depth are read.
+ghost use mathlib.Core.Path.{_≡_};
+ghost use Prim.Native.Nat.{_≤_, _<_};
+ghost use Rattle.model.specs.Tables as tables;
+ghost use Rattle.tables.specs.Places.{Entry};
+
+// How many nodes the entry holds: the slots before its first empty one.
+pub fn size(table: &[u8], depth: usize, i: usize, j: usize) -> usize
+    requires { ⌜ Entry (now table) depth i j ⌝ }
+    ensures { λ r. ⌜ (r ≡ tables.entrySize depth (now (table .entry)) i j) × (r ≤ depth) ⌝ }
+{
+    let entry = 64 * i + 4 * j;
+    let mut k = 0;
+    while k < depth {
+        if table[entry + k] == 0 {
+            return k;
+        }
+        k += 1;
+    }
+    depth
+}
+
+// Whether node u stands in the entry.
+pub fn holds(table: &[u8], depth: usize, i: usize, j: usize, u: usize) -> bool
+    requires { ⌜ Entry (now table) depth i j ⌝ }
+    ensures { λ r. ⌜ r ≡ tables.holds depth (now (table .entry)) i j u ⌝ }
+{
+    let entry = 64 * i + 4 * j;
+    let mut k = 0;
+    while k < depth {
+        if table[entry + k] as usize == u {
+            return true;
+        }
+        k += 1;
+    }
+    false
+}
+
+// "the front one is its first, in slot 0"; 0 where the entry is empty.
+pub fn first(table: &[u8], i: usize, j: usize) -> usize
+    requires { ⌜ Entry (now table) 1 i j ⌝ }
+    ensures { λ r. ⌜ r ≡ tables.firstOf (now (table .entry)) i j ⌝ }
+{
+    table[64 * i + 4 * j] as usize
+}
+
+// u behind the nodes of the entry, which has room.
+pub fn append(table: &mut [u8; 512], depth: usize, i: usize, j: usize, u: usize)
+    requires { ⌜ Entry (now table) depth i j ⌝ }
+    requires { ⌜ tables.entrySize depth (now table) i j < depth ⌝ }
+    requires { ⌜ u < 256 ⌝ }
+    ensures { λ r. ⌜ now (table .exit) ≡ tables.append depth (now (table .entry)) i j u ⌝ }
+{
+    let k = size(table, depth, i, j);
+    table[64 * i + 4 * j + k] = u as u8;
+}
