@@ -1,0 +1,3 @@
+-- Laws that the proofs of the check of K-consistency cite.
+mod Passed
+mod Judged

@@ -1,0 +1,49 @@
+-- What the pass over the nodes counts, and when an entry meets its count. s is the state, T the table of one node, C the counts: place
+-- 16i + j for entry (i, j).
+use Prim.Native.Nat.{ℕ, _+_, _*_, _^_, _≤_, _<_, min}
+use mathlib.Core.Path.{_≡_}
+use mathlib.Core.Bool.{Bool, not}
+use mathlib.Core.List.{List}
+use lib.Dec.{eqb}
+use lib.ListN.{length, getD, set}
+use Rattle.model.specs.Loops.{allBelow}
+use Rattle.model.specs.Ids.{digitOf}
+use Rattle.model.specs.Memory.{digits, nodeCount, idOf}
+use Rattle.model.specs.Tables.{entrySize}
+use Rattle.model.specs.Consistency.{howMany}
+use Rattle.model.proofs.Status.{IsNode}
+
+abbrev pub place : ℕ → ℕ → ℕ
+place i j = 16 * i + j
+
+-- the ids can be read
+pub record Readable (s : List ℕ) : Type 0 where
+  pub long : 520 ≤ length s
+  pub few : nodeCount s ≤ 64
+  pub digits : digits s ≤ 8
+  pub ids : (x : ℕ) → IsNode s x → idOf s x < 2 ^ 32
+
+-- every count of these levels can rise
+pub record Room (levels : ℕ) (C : List ℕ) : Type 0 where
+  pub long : length C ≡ 128
+  pub few : levels ≤ 8
+  pub left : (i j : ℕ) → i < levels → j < 16 → getD C (place i j) 0 < 255
+
+-- one more for entry (i, digit i of y)
+unfoldable pub countAt : ℕ → ℕ → List ℕ → List ℕ
+countAt y i C = set C (place i (digitOf y i)) (getD C (place i (digitOf y i)) 0 + 1)
+
+-- every entry of x has its count
+pub record Tallied (s : List ℕ) (x : ℕ) (C : List ℕ) : Type 0 where
+  pub counted : (i j : ℕ) → i < digits s → j < 16 → getD C (place i j) 0 ≡ howMany s x i j
+
+-- entry (i, j) holds the smaller of K and its count
+unfoldable pub meets : ℕ → List ℕ → List ℕ → ℕ → ℕ → Bool
+meets K T C i j = eqb (entrySize K T i j) (min K (getD C (place i j) 0))
+
+abbrev pub misses : ℕ → List ℕ → List ℕ → ℕ → ℕ → Bool
+misses K T C i j = not (meets K T C i j)
+
+-- some entry of level i misses its count
+abbrev pub levelMisses : ℕ → ℕ → List ℕ → List ℕ → ℕ → Bool
+levelMisses b K T C i = not (allBelow b (meets K T C i))

@@ -1,0 +1,2 @@
+-- Laws that the proofs of lookup cite.
+mod Hops

@@ -1,0 +1,2 @@
+-- What the contracts of lookup cite.
+pub mod Answer

@@ -1,0 +1,62 @@
+// Lookup by suffix routing, on a sound state.
+pub mod answer;
+
+ghost use mathlib.Core.Path.{_≡_};
+ghost use mathlib.Core.Logic.{_≢_};
+ghost use Rattle.model.specs.Lookup as book;
+ghost use Rattle.model.proofs.Status.{IsNode};
+ghost use Rattle.model.proofs.Sound.{Sound};
+ghost use Rattle.routing.specs.Answer.{bookLookup};
+use crate::answer::Lookup;
+use ident::common_suffix;
+use ident::digit;
+use records::record;
+use records::settings;
+use tables::entry;
+use tables::part;
+
+// "with match m, it takes the first of u's entry (m, digit m of z)"; 0 if that is empty.
+pub fn next_hop(state: &[u64], tables: &[u8], u: usize, z: usize) -> usize
+    requires { ⌜ Sound (now state) (now tables) ⌝ }
+    requires { ⌜ IsNode (now state) u ⌝ }
+    requires { ⌜ IsNode (now state) z ⌝ }
+    requires { ⌜ u ≢ z ⌝ }
+    ensures { λ r. ⌜ r ≡ book.nextHop (now (state .entry)) (now (tables .entry)) u z ⌝ }
+{
+    let from = record::id(state, u) as u32;
+    let to = record::id(state, z) as u32;
+    let digits = settings::load(state).digits;
+    let m = common_suffix(digits, from, to);
+    entry::first(part::lent(tables, u), m, digit(to, m))
+}
+
+// "A lookup from u to z has arrived if u is z. Otherwise .. if empty, it is lost at u; else a lookup goes on from the next member by
+// the same rule, one hop more."
+pub fn lookup(state: &[u64], tables: &[u8], u: usize, z: usize) -> Lookup
+    requires { ⌜ Sound (now state) (now tables) ⌝ }
+    requires { ⌜ IsNode (now state) u ⌝ }
+    requires { ⌜ IsNode (now state) z ⌝ }
+    ensures { λ r. ⌜ bookLookup r ≡ book.lookup (now (state .entry)) (now (tables .entry)) u z ⌝ }
+{
+    if u == z {
+        return Lookup {
+            arrived: true,
+            hops: 0,
+            last: u,
+        };
+    }
+    let next = next_hop(state, tables, u, z);
+    if next == 0 {
+        return Lookup {
+            arrived: false,
+            hops: 0,
+            last: u,
+        };
+    }
+    let further = lookup(state, tables, next, z);
+    Lookup {
+        arrived: further.arrived,
+        hops: further.hops + 1,
+        last: further.last,
+    }
+}
