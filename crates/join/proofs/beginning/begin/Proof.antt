@@ -1,0 +1,43 @@
+-- `begin`: the count, the new record and the new table are those of `begun`. Assumes nothing.
+use lib.ListN.{length-set}
+use borrow.Author.Needs.{needs}
+use Rattle.join.proofs.beginning.begin.Statement.{statement}
+use Rattle.join.proofs.Laws.{begun-is}
+use Rattle.join.proofs.beginning.begin.Tie as tie
+
+load-requires : tie.Need-load-requires
+load-requires c κs = search needs
+
+add-x : tie.Need-add-x
+add-x c = search needs
+
+slice-write-state : tie.Need-slice-write-state
+slice-write-state c = search needs
+
+store-requires : tie.Need-store-requires
+store-requires c κs = search needs
+
+write-own-requires : tie.Need-write-own-requires
+write-own-requires c κs = search needs
+
+same-length : tie.Need-same-length
+same-length c = simp length-set at (c .before .before .before .before .before .before .store .kept .0)
+
+same-length-2 : tie.Need-same-length-2
+same-length-2 c = search needs
+
+returns : tie.Need-returns
+returns c = (search begun-is, search needs)
+
+pub begin-spec : {M : Type 1} → statement M
+begin-spec =
+    tie.close
+    (tie.spec
+    load-requires
+    add-x
+    slice-write-state
+    store-requires
+    write-own-requires
+    same-length
+    same-length-2
+    returns)

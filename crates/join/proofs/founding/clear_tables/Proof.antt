@@ -1,0 +1,51 @@
+-- `clear_tables`: each turn clears one place more. Assumes nothing.
+use Prim.Native.Nat.{_≤_, _-_}
+use mathlib.Core.Path.{_≡_, refl}
+use native.Mathlib.Omega.{arith}
+use borrow.Author.Needs.{needs}
+use lib.ListN.{length, length-set}
+use Rattle.model.specs.Memory.{zeroed}
+use Rattle.model.proofs.Memory.{zeroed-goes, zeroed-ends}
+use Rattle.join.proofs.founding.clear_tables.Statement.{statement}
+use Rattle.join.proofs.founding.clear_tables.Tie as tie
+
+abbrev Inv-loop : tie.InvT-loop
+Inv-loop tables₀ i₀ tables i = (i ≤ 32768) × (length tables ≡ length tables₀) × (tables ≡ zeroed i tables₀)
+
+abbrev μ-loop : tie.MeasureT-loop
+μ-loop tables₀ i₀ tables i = 32768 - i
+
+loop-holds : tie.Need-loop-holds Inv-loop μ-loop
+loop-holds c = search needs
+
+slice-write-tables : tie.Need-slice-write-tables Inv-loop μ-loop
+slice-write-tables c = omega arith
+
+add-i : tie.Need-add-i Inv-loop μ-loop
+add-i c = omega arith
+
+loop-less : tie.Need-loop-less Inv-loop μ-loop
+loop-less c = omega arith
+
+loop-again : tie.Need-loop-again Inv-loop μ-loop
+loop-again c = (omega arith, simp length-set (omega arith), zeroed-goes (c .before .loop .i) _ _ _ (c .before .loop .inv .2) (omega arith) refl)
+
+same-length : tie.Need-same-length Inv-loop μ-loop
+same-length c = omega arith
+
+returns : tie.Need-returns Inv-loop μ-loop
+returns c = search (needs, zeroed-ends)
+
+pub clear-tables-spec : {M : Type 1} → statement M
+clear-tables-spec =
+    tie.close
+    (tie.spec
+    Inv-loop
+    μ-loop
+    loop-holds
+    slice-write-tables
+    add-i
+    loop-less
+    loop-again
+    same-length
+    returns)

@@ -1,0 +1,35 @@
+// Beginning a join: "Beginning a join adds the next number, copying, own entries only, target the gateway."
+ghost use mathlib.Core.Path.{_≡_};
+ghost use Prim.Native.Nat.{_+_};
+ghost use Rattle.model.specs.Memory.{nodeCount};
+ghost use Rattle.model.specs.Join.{begun};
+ghost use Rattle.join.specs.After.{after, Begins};
+use records::record;
+use records::record::Node;
+use records::settings;
+use records::status::Status;
+use tables::own;
+
+// Answers the new node's number.
+pub fn begin(state: &mut [u64], tables: &mut [u8], id: u32, gateway: usize) -> usize
+    requires { ⌜ Begins (now state) (now tables) ⌝ }
+    ensures { λ r. ⌜ (after (now (state .exit)) (now (tables .exit)) ≡ begun (now (state .entry)) (now (tables .entry)) id gateway) × (r ≡ nodeCount (now (state .entry)) + 1) ⌝ }
+{
+    let s = settings::load(state);
+    let x = s.nodes + 1;
+    state[3] = x as u64;
+    record::store(
+        state,
+        x,
+        Node {
+            id: id as u64,
+            status: Status::COPYING,
+            level: 0,
+            target: gateway as u64,
+            pending: 0,
+            notified: 0,
+        },
+    );
+    own::write_own(tables, s.digits, id, x);
+    x
+}
