@@ -1,0 +1,2 @@
+-- The laws by which the public calls meet the book.
+pub mod Laws

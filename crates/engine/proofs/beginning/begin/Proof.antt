@@ -1,0 +1,43 @@
+-- `begin`: refused, or taken on a sound state with room. Assumes nothing.
+use native.Mathlib.Omega.{arith}
+use borrow.Author.Needs.{needs}
+use Rattle.engine.proofs.Laws.{begins, begin-refused, begin-done}
+use Rattle.engine.proofs.beginning.begin.Statement.{statement}
+use Rattle.engine.proofs.beginning.begin.Tie as tie
+
+refusal-requires : tie.Need-refusal-requires
+refusal-requires c κs = search needs
+
+same-length : tie.Need-same-length
+same-length c = search needs
+
+same-length-2 : tie.Need-same-length-2
+same-length-2 c = search needs
+
+returns : tie.Need-returns
+returns c = search begin-refused
+
+begin-requires : tie.Need-begin-requires
+begin-requires c κs = search begins
+
+same-length-3 : tie.Need-same-length-3
+same-length-3 c = search needs
+
+same-length-4 : tie.Need-same-length-4
+same-length-4 c = search needs
+
+returns-2 : tie.Need-returns-2
+returns-2 c = search begin-done
+
+pub begin-spec : {M : Type 1} → statement M
+begin-spec =
+    tie.close
+    (tie.spec
+    refusal-requires
+    same-length
+    same-length-2
+    returns
+    begin-requires
+    same-length-3
+    same-length-4
+    returns-2)

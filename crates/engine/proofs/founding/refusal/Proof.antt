@@ -1,0 +1,44 @@
+-- `refusal`: each return is a sentence of the chain. Assumes nothing.
+use native.Mathlib.Omega.{arith}
+use borrow.Author.Needs.{needs}
+use Rattle.model.specs.Refusals.{foundRefusal}
+use Rattle.engine.proofs.Laws.{sentences}
+use Rattle.engine.proofs.founding.refusal.Statement.{statement}
+use Rattle.engine.proofs.founding.refusal.Tie as tie
+
+memory-short-requires : tie.Need-memory-short-requires
+memory-short-requires c κs = search needs
+
+returns : tie.Need-returns
+unfolding foundRefusal
+returns c = search sentences
+
+settings-in-range-requires : tie.Need-settings-in-range-requires
+settings-in-range-requires c κs = search needs
+
+returns-2 : tie.Need-returns-2
+unfolding foundRefusal
+returns-2 c = search sentences
+
+valid-id-requires : tie.Need-valid-id-requires
+valid-id-requires c κs = search needs
+
+returns-3 : tie.Need-returns-3
+unfolding foundRefusal
+returns-3 c = search sentences
+
+returns-4 : tie.Need-returns-4
+unfolding foundRefusal
+returns-4 c = search sentences
+
+pub refusal-spec : {M : Type 1} → statement M
+refusal-spec =
+    tie.close
+    (tie.spec
+    memory-short-requires
+    returns
+    settings-in-range-requires
+    returns-2
+    valid-id-requires
+    returns-3
+    returns-4)

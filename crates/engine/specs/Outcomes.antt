@@ -1,0 +1,17 @@
+-- What a public call leaves, as the book's outcome.
+use Prim.Native.Nat.{ℕ, _≤_}
+use mathlib.Core.Path.{_≡_}
+use mathlib.Core.List.{List, []}
+use lib.ListN.{length}
+use Rattle.model.specs.Memory.{nodeCount}
+use Rattle.model.specs.Calls.{Outcome}
+
+-- the memory after a call with no memory for output, and the answer's fields
+abbrev pub leaves : List ℕ → List ℕ → List ℕ → Outcome
+leaves s t answer = record { state = s; tables = t; out = []; answer = answer }
+
+-- the records of this many nodes stand in the state
+pub record Placed (s : List ℕ) (n : ℕ) : Type 0 where
+  pub long : 520 ≤ length s
+  pub few : n ≤ 64
+  pub count : n ≡ nodeCount s

@@ -1,0 +1,48 @@
+// Sentences that several calls judge: document 01, "What a call declines".
+ghost use mathlib.Core.Path.{_≡_};
+ghost use Prim.Native.Nat.{_≤_};
+ghost use lib.ListN.{length};
+ghost use Rattle.model.specs.Sound as book;
+ghost use Rattle.model.specs.Refusals.{memoryShort, stateRefusal};
+ghost use Rattle.model.proofs.Sound.{Sound};
+use records::settings;
+use soundness::sound;
+
+// The fixed lengths of the lent memory, in words and in bytes.
+const STATE: usize = 520;
+
+const TABLES: usize = 32768;
+
+// 1: "Lent table memory is shorter than 32,768 bytes, or other lent state memory than the fixed length".
+pub fn memory_short(state: &[u64], tables: &[u8]) -> bool
+    ensures { λ r. ⌜ r ≡ memoryShort (now (state .entry)) (now (tables .entry)) ⌝ }
+{
+    if tables.len() < TABLES {
+        return true;
+    }
+    state.len() < STATE
+}
+
+// 1 and 2: "The state isn't sound".
+pub fn state_refusal(state: &[u64], tables: &[u8]) -> u64
+    ensures { λ r. ⌜ r ≡ stateRefusal (now (state .entry)) (now (tables .entry)) 0 ⌝ }
+{
+    if memory_short(state, tables) {
+        return 1;
+    }
+    if !sound(state, tables) {
+        return 2;
+    }
+    0
+}
+
+// x is the number of a node.
+pub fn is_node(state: &[u64], x: u64) -> bool
+    requires { ⌜ 520 ≤ length (now state) ⌝ }
+    ensures { λ r. ⌜ r ≡ book.isNode (now (state .entry)) x ⌝ }
+{
+    if x < 1 {
+        return false;
+    }
+    x <= state[3]
+}
