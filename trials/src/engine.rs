@@ -1,0 +1,75 @@
+//! An engine as a caller of the C interface sees it: memory first, answers packed into one word.
+
+use crate::second::{self, Answer};
+
+/// The seven calls, and `sound`: what sentences 1 and 2 say of the memory (0, 1 or 2). Memory is lent for
+/// writing even where a call must not write, so that a trial sees it if one does.
+pub trait Engine {
+    fn name(&self) -> &str;
+
+    fn sound(&self, state: &mut [u64], tables: &mut [u8]) -> u64;
+
+    fn found(&self, state: &mut [u64], tables: &mut [u8], settings: [u64; 3], id: u32) -> u64;
+
+    fn read(&self, state: &mut [u64], tables: &mut [u8], image: &[u8]) -> u64;
+
+    fn begin(&self, state: &mut [u64], tables: &mut [u8], id: u32, gateway: u64) -> u64;
+
+    fn deliver(&self, state: &mut [u64], tables: &mut [u8], sender: u64, receiver: u64) -> u64;
+
+    fn lookup(&self, state: &mut [u64], tables: &mut [u8], from: u64, to: u64) -> u64;
+
+    fn verdict(&self, state: &mut [u64], tables: &mut [u8]) -> u64;
+
+    fn write(&self, state: &mut [u64], tables: &mut [u8], out: &mut [u8]) -> u64;
+}
+
+/// The second engine.
+pub struct Second;
+
+impl Engine for Second {
+    fn name(&self) -> &str {
+        "second"
+    }
+
+    fn sound(&self, state: &mut [u64], tables: &mut [u8]) -> u64 {
+        match second::lent_and_sound(state, tables) {
+            Ok(_) => 0,
+            Err(refusal) => refusal as u64,
+        }
+    }
+
+    fn found(
+        &self,
+        state: &mut [u64],
+        tables: &mut [u8],
+        [base, digits, depth]: [u64; 3],
+        id: u32,
+    ) -> u64 {
+        second::found(state, tables, base, digits, depth, id).pack()
+    }
+
+    fn read(&self, state: &mut [u64], tables: &mut [u8], image: &[u8]) -> u64 {
+        second::read(state, tables, image).pack()
+    }
+
+    fn begin(&self, state: &mut [u64], tables: &mut [u8], id: u32, gateway: u64) -> u64 {
+        second::begin(state, tables, id, gateway).pack()
+    }
+
+    fn deliver(&self, state: &mut [u64], tables: &mut [u8], sender: u64, receiver: u64) -> u64 {
+        second::deliver(state, tables, sender, receiver).pack()
+    }
+
+    fn lookup(&self, state: &mut [u64], tables: &mut [u8], from: u64, to: u64) -> u64 {
+        second::lookup(state, tables, from, to).pack()
+    }
+
+    fn verdict(&self, state: &mut [u64], tables: &mut [u8]) -> u64 {
+        second::verdict(state, tables).pack()
+    }
+
+    fn write(&self, state: &mut [u64], tables: &mut [u8], out: &mut [u8]) -> u64 {
+        second::write(state, tables, out).pack()
+    }
+}

@@ -1,0 +1,89 @@
+//! The memory that a caller lends: longer than any call needs, full of noise, lent only in part.
+
+use crate::engine::Engine;
+use crate::random::Rng;
+use crate::script::{Call, Lend, Line};
+use crate::second::memory::{State, Tables, STATE_WORDS, TABLE_BYTES};
+use crate::second::LONGEST_IMAGE;
+
+/// Everything there is; the parts past what is lent, and past what a call may use, are guards.
+pub const ALL: Lend = Lend {
+    state: STATE_WORDS + 16,
+    tables: TABLE_BYTES + 128,
+    out: LONGEST_IMAGE + 128,
+};
+
+#[derive(Debug, PartialEq, Eq)]
+pub struct Lent {
+    pub state: Vec<u64>,
+    pub tables: Vec<u8>,
+    pub out: Vec<u8>,
+    pub lend: Lend,
+}
+
+impl Lent {
+    /// The same noise each time, so that a script alone repeats a case.
+    pub fn noise() -> Lent {
+        let mut rng = Rng::new(1);
+        Lent {
+            state: (0..ALL.state).map(|_| rng.word()).collect(),
+            tables: (0..ALL.tables).map(|_| rng.word() as u8).collect(),
+            out: (0..ALL.out).map(|_| rng.word() as u8).collect(),
+            lend: ALL,
+        }
+    }
+
+    /// Does what the line says; a call's packed answer, 0 for other lines.
+    pub fn obey(&mut self, engine: &dyn Engine, line: &Line) -> u64 {
+        match line {
+            Line::Call(call) => return self.call(engine, call),
+            Line::Lend(lend) => self.lend = *lend,
+            Line::Word { place, value } => self.state[*place] = *value,
+            Line::Byte { place, value } => self.tables[*place] = *value,
+        }
+        0
+    }
+
+    pub fn call(&mut self, engine: &dyn Engine, call: &Call) -> u64 {
+        let state = &mut self.state[..self.lend.state];
+        let tables = &mut self.tables[..self.lend.tables];
+        match call {
+            Call::Found { settings, id } => engine.found(state, tables, *settings, *id),
+            Call::Read { image } => engine.read(state, tables, image),
+            Call::Begin { id, gateway } => engine.begin(state, tables, *id, *gateway),
+            Call::Deliver { sender, receiver } => engine.deliver(state, tables, *sender, *receiver),
+            Call::Lookup { from, to } => engine.lookup(state, tables, *from, *to),
+            Call::Verdict => engine.verdict(state, tables),
+            Call::Write => engine.write(state, tables, &mut self.out[..self.lend.out]),
+            Call::Sound => engine.sound(state, tables),
+        }
+    }
+
+    /// The part of the state that calls use, however much is lent.
+    pub fn used_state(&self) -> &State {
+        self.state.first_chunk().expect("there is enough")
+    }
+
+    pub fn used_tables(&self) -> &Tables {
+        self.tables.first_chunk().expect("there is enough")
+    }
+}
+
+/// Copies into the memory that is there already.
+impl Clone for Lent {
+    fn clone(&self) -> Lent {
+        Lent {
+            state: self.state.clone(),
+            tables: self.tables.clone(),
+            out: self.out.clone(),
+            lend: self.lend,
+        }
+    }
+
+    fn clone_from(&mut self, other: &Lent) {
+        self.state.clone_from(&other.state);
+        self.tables.clone_from(&other.tables);
+        self.out.clone_from(&other.out);
+        self.lend = other.lend;
+    }
+}

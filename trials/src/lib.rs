@@ -1,0 +1,17 @@
+//! Trials of overlay engines: a second engine, and what holds two engines against each other.
+//!
+//! - `second`: the second engine, written from document 01 alone.
+//! - `archive`: the proved engine.
+//! - `engine`: what every engine looks like from outside.
+//! - `script`: calls as lines of text, for failure reports and for running a case again.
+//! - `lent`: the memory that a caller lends, with guard space around what is lent.
+//! - `compare`: runs one script on two engines and finds the first difference.
+//! - `random`: seeded settings, ids, runs, states and images, good and bad.
+
+pub mod archive;
+pub mod compare;
+pub mod engine;
+pub mod lent;
+pub mod random;
+pub mod script;
+pub mod second;

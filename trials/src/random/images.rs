@@ -1,0 +1,123 @@
+//! Images: written by random runs, and damaged in every way that an image can be.
+
+use super::{run, Rng};
+use crate::engine::Second;
+use crate::script::Call;
+use crate::second::network::Network;
+
+/// The image of a network of some size, K-consistent or not.
+pub fn image(rng: &mut Rng) -> Vec<u8> {
+    let calls = rng.pick(&[1, 5, 20, 60, 200]);
+    let (_, mut memory) = run(rng, calls);
+    loop {
+        let outstanding = Network::decode(memory.used_state()).outstanding();
+        if outstanding.is_empty() {
+            break;
+        }
+        let (sender, receiver) = rng.pick(&outstanding);
+        let (sender, receiver) = (sender as u64, receiver as u64);
+        memory.call(&Second, &Call::Deliver { sender, receiver });
+    }
+    let length = (memory.call(&Second, &Call::Write) >> 8) as usize;
+    memory.out[..length].to_vec()
+}
+
+/// The image cut at every byte.
+pub fn cuts(image: &[u8]) -> impl Iterator<Item = Vec<u8>> + '_ {
+    (0..image.len()).map(|length| image[..length].to_vec())
+}
+
+/// Each byte changed, one at a time: to its neighbors, to 0, and to something else.
+pub fn changed_bytes<'a>(rng: &'a mut Rng, image: &'a [u8]) -> impl Iterator<Item = Vec<u8>> + 'a {
+    (0..image.len()).flat_map(move |place| {
+        let byte = image[place];
+        let values = [
+            byte.wrapping_add(1),
+            byte.wrapping_sub(1),
+            0,
+            rng.word() as u8,
+        ];
+        values.map(|value| {
+            let mut changed = image.to_vec();
+            changed[place] = value;
+            changed
+        })
+    })
+}
+
+/// The image with one damage of some kind; an image too short for it is cut instead.
+pub fn damaged_image(rng: &mut Rng, image: &[u8]) -> Vec<u8> {
+    let kind = rng.below(KINDS);
+    damaged(rng, image, kind).unwrap_or_else(|| image[..rng.below(image.len())].to_vec())
+}
+
+/// The image with each kind of damage once.
+pub fn image_damages(rng: &mut Rng, image: &[u8]) -> Vec<Vec<u8>> {
+    let each = (0..KINDS).filter_map(|kind| damaged(rng, image, kind));
+    each.collect()
+}
+
+const KINDS: usize = 14;
+
+fn damaged(rng: &mut Rng, image: &[u8], kind: usize) -> Option<Vec<u8>> {
+    let count = usize::from(*image.get(5)?);
+    let (head, records) = image.split_at_checked(8 + 4 * count)?;
+    let mut head = head.to_vec();
+    let mut records: Vec<[u8; 4]> = records
+        .chunks_exact(4)
+        .map(|record| record.try_into().expect("chunks of four"))
+        .collect();
+    match kind {
+        0 => head[rng.below(6)] = rng.word() as u8,
+        1 => head[5] += 1,
+        2 => head[5] -= 1,
+        3 => add_to_count(&mut head, 1),
+        4 => add_to_count(&mut head, u16::MAX),
+        5 => head[6 + rng.below(4 * count)] ^= 1 << rng.below(8),
+        6 => repeat_id(rng, &mut head),
+        7..=10 => {
+            damage_records(rng, &mut records, kind);
+            let place = head.len() - 2;
+            head[place..].copy_from_slice(&(records.len() as u16).to_le_bytes());
+        }
+        _ => {}
+    }
+    let mut image = [&head, records.as_flattened()].concat();
+    let longer = image.len() + [1, 4_000, 70_000][rng.below(3)];
+    match kind {
+        11 => image.push(0),
+        12 => image.resize(longer, rng.word() as u8),
+        13 => image.truncate(rng.below(image.len())),
+        _ => {}
+    }
+    Some(image)
+}
+
+/// Changes the record count alone, wrapping.
+fn add_to_count(head: &mut [u8], more: u16) {
+    let count = head.last_chunk_mut().expect("a count ends it");
+    *count = u16::from_le_bytes(*count).wrapping_add(more).to_le_bytes();
+}
+
+/// One id over another, at times over itself.
+fn repeat_id(rng: &mut Rng, head: &mut [u8]) {
+    let count = usize::from(head[5]);
+    let (from, to) = (6 + 4 * rng.below(count), 6 + 4 * rng.below(count));
+    head.copy_within(from..from + 4, to);
+}
+
+/// Records exchanged, repeated, removed, or one of their bytes changed.
+fn damage_records(rng: &mut Rng, records: &mut Vec<[u8; 4]>, kind: usize) {
+    let last = records.len() - 1;
+    let (one, other) = (rng.below(last + 1), rng.below(last + 1));
+    match kind {
+        7 if rng.once_in(2) => records.swap(one, other),
+        7 => records.swap(one, (one + 1).min(last)),
+        8 => records.insert(one, records[one]),
+        9 => drop(records.remove(one)),
+        _ => {
+            let byte = &mut records[one][rng.below(4)];
+            *byte = rng.pick(&[0, byte.wrapping_add(1), byte.wrapping_sub(1), 65, 255]);
+        }
+    }
+}

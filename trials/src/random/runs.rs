@@ -1,0 +1,230 @@
+//! Random runs: a founding, then calls in any order with many joins in flight, a quarter of them bad.
+
+use super::{bad_id, bad_number, damaged_image, fresh_id, id, set_up_built, settings, Rng};
+use crate::engine::Second;
+use crate::lent::{Lent, ALL};
+use crate::script::{Call, Lend, Line, Script};
+use crate::second::memory::{STATE_WORDS, TABLE_BYTES};
+use crate::second::network::Network;
+
+/// Writes a script while playing it, so as to know what is outstanding.
+struct Maker<'a> {
+    rng: &'a mut Rng,
+    memory: Lent,
+    script: Script,
+    /// Beginnings among this many good calls; rare ones let joins end, frequent ones let them meet.
+    pace: usize,
+    /// What was written, to be read again.
+    images: Vec<Vec<u8>>,
+}
+
+/// A run of so many lines from a founding; also answers the memory at its end.
+pub fn run(rng: &mut Rng, lines: usize) -> (Script, Lent) {
+    let mut maker = Maker::new(rng);
+    maker.found();
+    maker.go_on(lines)
+}
+
+/// The same from a state that is sound and most likely reached by no run, set up by hand.
+pub fn run_from_built(rng: &mut Rng, lines: usize) -> (Script, Lent) {
+    let set_up = set_up_built(rng);
+    let mut maker = Maker::new(rng);
+    for line in set_up {
+        maker.obey(line);
+    }
+    maker.go_on(lines)
+}
+
+impl<'a> Maker<'a> {
+    fn new(rng: &'a mut Rng) -> Maker<'a> {
+        let pace = rng.pick(&[2, 2, 3, 5, 10, 30]);
+        Maker {
+            rng,
+            memory: Lent::noise(),
+            script: Script::default(),
+            pace,
+            images: vec![],
+        }
+    }
+
+    fn go_on(mut self, lines: usize) -> (Script, Lent) {
+        let end = self.script.lines.len() + lines;
+        while self.script.lines.len() < end {
+            if self.rng.once_in(4) {
+                self.bad_call();
+            } else {
+                self.good_call();
+            }
+        }
+        (self.script, self.memory)
+    }
+
+    fn obey(&mut self, line: Line) -> u64 {
+        let answer = self.memory.obey(&Second, &line);
+        self.script.lines.push(line);
+        answer
+    }
+
+    fn call(&mut self, call: Call) -> u64 {
+        self.obey(Line::Call(call))
+    }
+
+    fn network(&self) -> Network {
+        Network::decode(self.memory.used_state())
+    }
+
+    fn found(&mut self) {
+        let chosen = settings(self.rng);
+        let id = id(self.rng, chosen);
+        let settings = [chosen.base(), chosen.digits(), chosen.depth()].map(|n| n as u64);
+        self.call(Call::Found { settings, id });
+    }
+
+    /// Any node, in the system or not.
+    fn any(&mut self) -> u64 {
+        self.rng.between(1, self.network().count() as u64)
+    }
+
+    fn good_call(&mut self) {
+        let pace = self.pace;
+        if self.rng.once_in(pace) {
+            return self.begin();
+        }
+        match self.rng.below(40) {
+            0 => self.found_or_read_again(),
+            1 | 2 => self.write(),
+            3 | 4 => self.look(Call::Verdict),
+            5..=8 => self.lookup(),
+            9 => self.look(Call::Sound),
+            _ => self.deliver(),
+        }
+    }
+
+    /// A call whose answer the run does not need.
+    fn look(&mut self, call: Call) {
+        self.call(call);
+    }
+
+    fn begin(&mut self) {
+        let network = self.network();
+        let gateways = network.iter().filter(|(_, node)| node.in_system());
+        let gateways: Vec<usize> = gateways.map(|(number, _)| number).collect();
+        if let Some(id) = fresh_id(self.rng, &network) {
+            let gateway = self.rng.pick(&gateways) as u64;
+            self.call(Call::Begin { id, gateway });
+        } else {
+            self.deliver();
+        }
+    }
+
+    fn deliver(&mut self) {
+        let outstanding = self.network().outstanding();
+        if outstanding.is_empty() {
+            return self.lookup();
+        }
+        let (sender, receiver) = self.rng.pick(&outstanding);
+        let (sender, receiver) = (sender as u64, receiver as u64);
+        self.call(Call::Deliver { sender, receiver });
+    }
+
+    fn lookup(&mut self) {
+        let (from, to) = (self.any(), self.any());
+        self.call(Call::Lookup { from, to });
+    }
+
+    fn write(&mut self) {
+        let length = (self.call(Call::Write) >> 8) as usize;
+        if length > 0 {
+            self.images.push(self.memory.out[..length].to_vec());
+        }
+    }
+
+    /// Starts a new run, rarely by founding.
+    fn found_or_read_again(&mut self) {
+        if self.images.is_empty() || self.rng.once_in(8) {
+            return self.found();
+        }
+        let place = self.rng.below(self.images.len());
+        let image = self.images[place].clone();
+        self.call(Call::Read { image });
+    }
+
+    fn bad_call(&mut self) {
+        match self.rng.below(12) {
+            0 => self.bad_founding(),
+            1 => self.bad_reading(),
+            2..=4 => self.bad_beginning(),
+            5..=7 => self.bad_delivery(),
+            8 => self.bad_lookup(),
+            9 => self.short_output(),
+            _ => self.short_memory(),
+        }
+    }
+
+    fn bad_founding(&mut self) {
+        let chosen = settings(self.rng);
+        let mut settings = [chosen.base(), chosen.digits(), chosen.depth()].map(|n| n as u64);
+        let worse = [0, 1, 5, 9, 17, 256 + 2, (1 << 32) + 3, 1 << 63];
+        let id = bad_id(self.rng, chosen).filter(|_| self.rng.once_in(2));
+        if id.is_none() {
+            settings[self.rng.below(3)] = self.rng.pick(&worse);
+        }
+        let id = id.unwrap_or(u32::MAX);
+        self.call(Call::Found { settings, id });
+    }
+
+    fn bad_reading(&mut self) {
+        let image = self.images.last().cloned().unwrap_or(vec![4, 1, 2, 2, 1]);
+        let image = damaged_image(self.rng, &image);
+        self.call(Call::Read { image });
+    }
+
+    fn bad_beginning(&mut self) {
+        let network = self.network();
+        let known = network.node(self.any() as usize).id;
+        let bad = bad_id(self.rng, network.settings).unwrap_or(known);
+        let fresh = fresh_id(self.rng, &network).unwrap_or(known);
+        let id = self.rng.pick(&[known, bad, fresh, fresh]);
+        let gateway = if self.rng.once_in(2) {
+            bad_number(self.rng, network.count())
+        } else {
+            self.any()
+        };
+        self.call(Call::Begin { id, gateway });
+    }
+
+    fn bad_delivery(&mut self) {
+        let count = self.network().count();
+        let (any, other, bad) = (self.any(), self.any(), bad_number(self.rng, count));
+        let pairs = [(any, bad), (bad, any), (bad, bad), (any, any), (any, other)];
+        let (sender, receiver) = self.rng.pick(&pairs);
+        self.call(Call::Deliver { sender, receiver });
+    }
+
+    fn bad_lookup(&mut self) {
+        let count = self.network().count();
+        let (any, bad) = (self.any(), bad_number(self.rng, count));
+        let (from, to) = self.rng.pick(&[(any, bad), (bad, any), (bad, bad)]);
+        self.call(Call::Lookup { from, to });
+    }
+
+    fn short_output(&mut self) {
+        let image = self.images.last().map_or(40, Vec::len);
+        let out = self.rng.pick(&[0, 1, image - 1, image, image + 1]);
+        self.obey(Line::Lend(Lend { out, ..ALL }));
+        self.write();
+        self.obey(Line::Lend(ALL));
+    }
+
+    /// A call with too little memory, or with just enough.
+    fn short_memory(&mut self) {
+        let state = self.rng.pick(&[0, 1, STATE_WORDS - 1, STATE_WORDS]);
+        let tables = self.rng.pick(&[0, 511, TABLE_BYTES - 1, TABLE_BYTES]);
+        let (short, full) = (Lend { state, ..ALL }, Lend { tables, ..ALL });
+        let both = Lend { tables, ..short };
+        let lend = self.rng.pick(&[short, full, both]);
+        self.obey(Line::Lend(lend));
+        self.good_call();
+        self.obey(Line::Lend(ALL));
+    }
+}

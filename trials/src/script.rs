@@ -1,0 +1,177 @@
+//! A script: one line a call, or a change of the memory between calls.
+//!
+//! ```text
+//! found 2 2 1 0            base, digits, depth; id in hexadecimal
+//! read 0401020201..        an image in hexadecimal, nothing for an empty one
+//! begin 1 1                id in hexadecimal; gateway
+//! deliver 2 1              sender, receiver
+//! lookup 1 2               from, to
+//! verdict
+//! write
+//! sound                    what sentences 1 and 2 say of the memory
+//! lend 520 32768 24584     words of state, bytes of tables and of output lent from here on
+//! word 12 5                state word 12 becomes 5 (hexadecimal), by the caller's hand
+//! byte 300 7               table byte 300 becomes 7 (hexadecimal), by the caller's hand
+//! ```
+
+use std::fmt::{self, Display, Formatter};
+use std::num::ParseIntError;
+use std::str::FromStr;
+
+#[derive(Clone, Debug, PartialEq, Eq)]
+pub enum Call {
+    Found { settings: [u64; 3], id: u32 },
+    Read { image: Vec<u8> },
+    Begin { id: u32, gateway: u64 },
+    Deliver { sender: u64, receiver: u64 },
+    Lookup { from: u64, to: u64 },
+    Verdict,
+    Write,
+    Sound,
+}
+
+#[derive(Clone, Debug, PartialEq, Eq)]
+pub enum Line {
+    Call(Call),
+    Lend(Lend),
+    Word { place: usize, value: u64 },
+    Byte { place: usize, value: u8 },
+}
+
+/// How much of each memory is lent.
+#[derive(Clone, Copy, Debug, PartialEq, Eq)]
+pub struct Lend {
+    pub state: usize,
+    pub tables: usize,
+    pub out: usize,
+}
+
+#[derive(Clone, Debug, Default, PartialEq, Eq)]
+pub struct Script {
+    pub lines: Vec<Line>,
+}
+
+impl Script {
+    pub fn call(&mut self, call: Call) {
+        self.lines.push(Line::Call(call));
+    }
+}
+
+impl Display for Call {
+    fn fmt(&self, out: &mut Formatter) -> fmt::Result {
+        match self {
+            Call::Found { settings, id } => {
+                let [base, digits, depth] = settings;
+                write!(out, "found {base} {digits} {depth} {id:x}")
+            }
+            Call::Read { image } => {
+                out.write_str("read ")?;
+                image.iter().try_for_each(|byte| write!(out, "{byte:02x}"))
+            }
+            Call::Begin { id, gateway } => write!(out, "begin {id:x} {gateway}"),
+            Call::Deliver { sender, receiver } => write!(out, "deliver {sender} {receiver}"),
+            Call::Lookup { from, to } => write!(out, "lookup {from} {to}"),
+            Call::Verdict => out.write_str("verdict"),
+            Call::Write => out.write_str("write"),
+            Call::Sound => out.write_str("sound"),
+        }
+    }
+}
+
+impl Display for Line {
+    fn fmt(&self, out: &mut Formatter) -> fmt::Result {
+        match self {
+            Line::Call(call) => call.fmt(out),
+            Line::Lend(lend) => write!(out, "lend {} {} {}", lend.state, lend.tables, lend.out),
+            Line::Word { place, value } => write!(out, "word {place} {value:x}"),
+            Line::Byte { place, value } => write!(out, "byte {place} {value:x}"),
+        }
+    }
+}
+
+impl Display for Script {
+    fn fmt(&self, out: &mut Formatter) -> fmt::Result {
+        self.lines
+            .iter()
+            .try_for_each(|line| writeln!(out, "{line}"))
+    }
+}
+
+impl FromStr for Script {
+    type Err = String;
+
+    fn from_str(text: &str) -> Result<Script, String> {
+        let lines = text.lines().filter(|line| !line.trim().is_empty());
+        let lines = lines.map(Line::from_str).collect::<Result<_, _>>()?;
+        Ok(Script { lines })
+    }
+}
+
+impl FromStr for Line {
+    type Err = String;
+
+    fn from_str(text: &str) -> Result<Line, String> {
+        let words: Vec<&str> = text.split_whitespace().collect();
+        let line = parse_line(&words).map_err(|error| format!("{text}: {error}"))?;
+        line.ok_or_else(|| format!("{text}: no such line"))
+    }
+}
+
+/// None for words that make no line.
+fn parse_line(words: &[&str]) -> Result<Option<Line>, ParseIntError> {
+    let id = |word| u32::from_str_radix(word, 16);
+    let call = match *words {
+        ["found", base, digits, depth, number] => Call::Found {
+            settings: [base.parse()?, digits.parse()?, depth.parse()?],
+            id: id(number)?,
+        },
+        ["read"] => Call::Read { image: vec![] },
+        ["read", image] if image.len() % 2 == 0 && image.is_ascii() => Call::Read {
+            image: parse_bytes(image)?,
+        },
+        ["begin", number, gateway] => Call::Begin {
+            id: id(number)?,
+            gateway: gateway.parse()?,
+        },
+        ["deliver", sender, receiver] => Call::Deliver {
+            sender: sender.parse()?,
+            receiver: receiver.parse()?,
+        },
+        ["lookup", from, to] => Call::Lookup {
+            from: from.parse()?,
+            to: to.parse()?,
+        },
+        ["verdict"] => Call::Verdict,
+        ["write"] => Call::Write,
+        ["sound"] => Call::Sound,
+        _ => return parse_memory_line(words),
+    };
+    Ok(Some(Line::Call(call)))
+}
+
+fn parse_memory_line(words: &[&str]) -> Result<Option<Line>, ParseIntError> {
+    Ok(Some(match *words {
+        ["lend", state, tables, out] => Line::Lend(Lend {
+            state: state.parse()?,
+            tables: tables.parse()?,
+            out: out.parse()?,
+        }),
+        ["word", place, value] => Line::Word {
+            place: place.parse()?,
+            value: u64::from_str_radix(value, 16)?,
+        },
+        ["byte", place, value] => Line::Byte {
+            place: place.parse()?,
+            value: u8::from_str_radix(value, 16)?,
+        },
+        _ => return Ok(None),
+    }))
+}
+
+/// Pairs of hexadecimal digits.
+fn parse_bytes(text: &str) -> Result<Vec<u8>, ParseIntError> {
+    (0..text.len())
+        .step_by(2)
+        .map(|at| u8::from_str_radix(&text[at..at + 2], 16))
+        .collect()
+}

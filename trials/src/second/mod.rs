@@ -1,0 +1,34 @@
+//! The second engine: document 01 in plain Rust, written without sight of the first engine.
+//!
+//! A call judges the lent memory where it lies, decodes what it needs into a `Network` and `Table`s, works on
+//! those, and encodes them back only when nothing was refused.
+
+mod answers;
+mod beginning;
+mod consistency;
+mod delivering;
+mod founding;
+mod learning;
+mod lookup;
+pub mod memory;
+pub mod network;
+mod node_set;
+mod reading;
+mod refusal;
+mod settings;
+mod soundness;
+pub mod table;
+mod writing;
+
+pub use answers::{Answer, Begun, Consistency, Delivered, Found, Looked, Written};
+pub use beginning::begin;
+pub use consistency::verdict;
+pub use delivering::deliver;
+pub use founding::found;
+pub use lookup::{lookup, very_hops};
+pub use node_set::NodeSet;
+pub use reading::read;
+pub use refusal::Refusal;
+pub use settings::{digit, Settings};
+pub use soundness::{lent_and_sound, sound};
+pub use writing::{write, LONGEST_IMAGE};

@@ -1,0 +1,24 @@
+//! Trials of the second engine by itself.
+
+#[path = "second_engine/differences.rs"]
+mod differences;
+#[path = "second_engine/edges.rs"]
+mod edges;
+#[path = "second_engine/images.rs"]
+mod images;
+#[path = "second_engine/orders.rs"]
+mod orders;
+#[path = "second_engine/plain.rs"]
+mod plain;
+#[path = "second_engine/refusals.rs"]
+mod refusals;
+#[path = "second_engine/runs.rs"]
+mod runs;
+#[path = "second_engine/scripts.rs"]
+mod scripts;
+#[path = "second_engine/soundness.rs"]
+mod soundness;
+#[path = "second_engine/support.rs"]
+mod support;
+#[path = "second_engine/wrong_turns.rs"]
+mod wrong_turns;

@@ -1,0 +1,155 @@
+//! The comparison itself: it must see whatever an engine does otherwise.
+
+use trials::compare::compare;
+use trials::engine::{Engine, Second};
+use trials::script::Script;
+
+/// The second engine, but spoiled in what a beginning, a lookup or a writing does.
+struct Spoiled {
+    begin: fn(&mut [u64], &mut [u8], u64) -> u64,
+    lookup: fn(&mut [u64], &mut [u8]),
+    write: fn(&mut [u8]),
+}
+
+const UNSPOILED: Spoiled = Spoiled {
+    begin: |_, _, answer| answer,
+    lookup: |_, _| {},
+    write: |_| {},
+};
+
+impl Engine for Spoiled {
+    fn name(&self) -> &str {
+        "spoiled"
+    }
+
+    fn sound(&self, state: &mut [u64], tables: &mut [u8]) -> u64 {
+        Second.sound(state, tables)
+    }
+
+    fn found(&self, state: &mut [u64], tables: &mut [u8], settings: [u64; 3], id: u32) -> u64 {
+        Second.found(state, tables, settings, id)
+    }
+
+    fn read(&self, state: &mut [u64], tables: &mut [u8], image: &[u8]) -> u64 {
+        Second.read(state, tables, image)
+    }
+
+    fn begin(&self, state: &mut [u64], tables: &mut [u8], id: u32, gateway: u64) -> u64 {
+        let answer = Second.begin(state, tables, id, gateway);
+        (self.begin)(state, tables, answer)
+    }
+
+    fn deliver(&self, state: &mut [u64], tables: &mut [u8], sender: u64, receiver: u64) -> u64 {
+        Second.deliver(state, tables, sender, receiver)
+    }
+
+    fn lookup(&self, state: &mut [u64], tables: &mut [u8], from: u64, to: u64) -> u64 {
+        (self.lookup)(state, tables);
+        Second.lookup(state, tables, from, to)
+    }
+
+    fn verdict(&self, state: &mut [u64], tables: &mut [u8]) -> u64 {
+        Second.verdict(state, tables)
+    }
+
+    fn write(&self, state: &mut [u64], tables: &mut [u8], out: &mut [u8]) -> u64 {
+        let answer = Second.write(state, tables, out);
+        (self.write)(out);
+        answer
+    }
+}
+
+const SCRIPT: &str = "found 2 2 1 0\nwrite\nlookup 1 1\nbegin 1 1\nbegin 1 1\nverdict\nsound\n";
+
+/// The line of the first difference between two engines.
+fn first_difference(a: &dyn Engine, b: &dyn Engine) -> Option<usize> {
+    let script: Script = SCRIPT.parse().unwrap();
+    compare(a, b, &script).err().map(|found| found.line + 1)
+}
+
+#[test]
+fn equal_engines_do_not_differ() {
+    assert_eq!(first_difference(&UNSPOILED, &Second), None);
+}
+
+#[test]
+fn every_difference_is_seen() {
+    let begin = |begin| Spoiled { begin, ..UNSPOILED };
+    let lookup = |lookup| Spoiled {
+        lookup,
+        ..UNSPOILED
+    };
+    let write = |write| Spoiled { write, ..UNSPOILED };
+    let spoiled = [
+        (begin(|_, _, answer| answer + 0x100), 4),
+        (
+            begin(|_, _, answer| if answer == 8 { 9 } else { answer }),
+            5,
+        ),
+        (
+            begin(|_, tables, answer| {
+                tables[513] = 2;
+                answer
+            }),
+            4,
+        ),
+        (
+            begin(|state, _, answer| {
+                state[520] ^= 1;
+                answer
+            }),
+            4,
+        ),
+        (
+            begin(|_, tables, answer| {
+                tables[32_768] ^= 1;
+                answer
+            }),
+            4,
+        ),
+        (lookup(|state, _| state[519] ^= 1), 3),
+        (lookup(|_, tables| tables[32_767] ^= 1), 3),
+        (write(|out| *out.last_mut().unwrap() ^= 1), 2),
+        (write(|out| out[0] = 5), 2),
+    ];
+    for (number, (engine, line)) in spoiled.iter().enumerate() {
+        assert_eq!(first_difference(engine, &Second), Some(*line), "{number}");
+        assert_eq!(first_difference(&Second, engine), Some(*line), "{number}");
+    }
+}
+
+#[test]
+fn two_engines_with_the_same_fault_are_seen_where_guards_are_touched() {
+    let fault = || Spoiled {
+        begin: |state, _, answer| {
+            state[520] ^= 1;
+            answer
+        },
+        ..UNSPOILED
+    };
+    assert_eq!(first_difference(&fault(), &fault()), Some(4));
+    let refused_with_more = || Spoiled {
+        begin: |_, _, answer| if answer == 8 { 0x108 } else { answer },
+        ..UNSPOILED
+    };
+    assert_eq!(
+        first_difference(&refused_with_more(), &refused_with_more()),
+        Some(5)
+    );
+}
+
+#[test]
+fn a_report_has_the_seed_and_the_script() {
+    let script: Script = SCRIPT.parse().unwrap();
+    let spoiled = Spoiled {
+        begin: |_, _, _| 3,
+        ..UNSPOILED
+    };
+    let difference = compare(&spoiled, &Second, &script).unwrap_err();
+    let report = difference.report(77, &script);
+    assert_eq!(
+        report,
+        "seed 77\nfound 2 2 1 0\nwrite\nlookup 1 1\nbegin 1 1\n\
+         line 4: spoiled and second answer 0x3 and 0x200"
+    );
+}

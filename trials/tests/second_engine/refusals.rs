@@ -1,0 +1,214 @@
+//! The first true sentence wins, and a refused call changes nothing.
+
+use trials::lent::Lent;
+use trials::second;
+
+use crate::support::{Trial, E1};
+
+/// A network of 64 nodes, all in the system.
+fn full() -> Trial {
+    let mut trial = Trial::founded([16, 2, 1], 0);
+    for id in 1..64 {
+        trial.begin(id, 1);
+        trial.settle();
+    }
+    trial
+}
+
+/// Nodes 1 and 2 are in the system, 3 and 4 have begun.
+fn two_joins() -> Trial {
+    let mut trial = Trial::founded([2, 3, 1], 0x000);
+    trial.begin(0x001, 1);
+    trial.settle();
+    trial.begin(0x010, 1);
+    trial.begin(0x110, 1);
+    trial
+}
+
+fn damaged(place: usize, value: u8) -> Vec<u8> {
+    let mut image = E1.to_vec();
+    image[place] = value;
+    image
+}
+
+#[test]
+fn founding_and_reading_judge_in_order() {
+    let mut trial = Trial::new();
+    let before = trial.memory.clone();
+    for settings in [
+        [1, 2, 1],
+        [17, 2, 1],
+        [2, 0, 1],
+        [2, 9, 1],
+        [2, 2, 0],
+        [2, 2, 5],
+    ] {
+        assert_eq!(trial.found(settings, u32::MAX).refusal, 5);
+    }
+    assert_eq!(trial.found([2 + (1 << 32), 2, 1], 0).refusal, 5);
+    assert_eq!(trial.found([2, 2, 1], 2).refusal, 7);
+    for length in 0..E1.len() {
+        let refusal = if length < 5 { 3 } else { 6 };
+        assert_eq!(
+            trial.read(&E1[..length]).refusal,
+            refusal,
+            "cut at {length}"
+        );
+    }
+    let cases = [
+        (damaged(0, 5), 3),
+        (damaged(1, 2), 4),
+        (damaged(2, 1), 5),
+        (damaged(3, 9), 5),
+        (damaged(4, 0), 5),
+        (damaged(5, 0), 6),
+        (damaged(5, 65), 6),
+        (damaged(14, 5), 6),
+        (damaged(15, 1), 6),
+        (damaged(6, 2), 7),
+        (damaged(13, 1), 7),
+        (damaged(10, 0), 8),
+        (damaged(16, 0), 9),
+        (damaged(16, 3), 9),
+        (damaged(19, 0), 9),
+        (damaged(35, 3), 9),
+        (damaged(17, 2), 10),
+        (damaged(18, 2), 10),
+        (damaged(19, 2), 10),
+        (damaged(16, 2), 10),
+    ];
+    for (image, refusal) in cases {
+        assert_eq!(trial.read(&image).refusal, refusal, "{image:x?}");
+    }
+    assert_eq!(trial.memory, before);
+}
+
+#[test]
+fn an_overlong_image_is_refused_whatever_its_counts() {
+    let mut image = E1.to_vec();
+    image[14..16].copy_from_slice(&20_000_u16.to_le_bytes());
+    image.resize(16 + 4 * 20_000, 1);
+    assert_eq!(Trial::new().read(&image).refusal, 6);
+    image[1] = 0;
+    assert_eq!(Trial::new().read(&image).refusal, 4);
+}
+
+#[test]
+fn a_sentence_is_judged_over_the_whole_image_first() {
+    let mut repeated_then_bad = damaged(10, 0);
+    repeated_then_bad[5] = 3;
+    repeated_then_bad.splice(14..14, [2, 0, 0, 0]);
+    assert_eq!(Trial::new().read(&repeated_then_bad).refusal, 7);
+    let mut falling_then_unknown = damaged(17, 1);
+    falling_then_unknown[36] = 3;
+    assert_eq!(Trial::new().read(&falling_then_unknown).refusal, 9);
+}
+
+#[test]
+fn beginning_judges_in_order() {
+    let mut trial = full();
+    let before = trial.memory.clone();
+    assert_eq!(trial.begin(0x100, 0).refusal, 7);
+    assert_eq!(trial.begin(5, 0).refusal, 8);
+    for gateway in [0, 65, 1 << 63, (1 << 32) + 1] {
+        assert_eq!(trial.begin(0xff, gateway).refusal, 9);
+    }
+    assert_eq!(trial.begin(0xff, 64).refusal, 11);
+    assert_eq!(trial.memory, before);
+    let mut trial = two_joins();
+    assert_eq!(trial.begin(0x111, 3).refusal, 12);
+    assert_eq!(trial.begin(0x111, 5).refusal, 9);
+}
+
+#[test]
+fn delivering_judges_in_order() {
+    let mut trial = two_joins();
+    for (sender, receiver) in [(0, 1), (1, 0), (5, 1), (1, 5), (3 + (1 << 8), 1)] {
+        assert_eq!(trial.deliver(sender, receiver).refusal, 9);
+    }
+    for (sender, receiver) in [(1, 1), (3, 3), (1, 3), (3, 2), (2, 1)] {
+        assert_eq!(trial.deliver(sender, receiver).refusal, 13);
+    }
+    assert_eq!(trial.deliver(3, 1).kind, 1);
+    let attached = trial.deliver(3, 1);
+    assert_eq!(
+        (attached.kind, attached.level, attached.settled),
+        (3, 1, true)
+    );
+}
+
+#[test]
+fn a_held_wait_stays_outstanding() {
+    let mut trial = Trial::founded([2, 3, 1], 0x000);
+    trial.begin(0x100, 1);
+    trial.settle();
+    trial.begin(0x010, 1);
+    trial.deliver(3, 1);
+    let attached = trial.deliver(3, 1);
+    assert_eq!(
+        (attached.kind, attached.level, attached.settled),
+        (3, 1, false)
+    );
+
+    trial.begin(0x110, 1);
+    assert_eq!(trial.deliver(4, 1).kind, 1);
+    let before = trial.memory.clone();
+    assert_eq!(trial.deliver(4, 3).refusal, 14);
+    assert_eq!(trial.memory, before);
+
+    let notified = trial.deliver(3, 2);
+    assert_eq!((notified.kind, notified.settled), (4, true));
+    assert_eq!(trial.deliver(4, 3).kind, 3);
+}
+
+#[test]
+fn lookup_verdict_and_writing_judge_in_order() {
+    let mut trial = two_joins();
+    for (from, to) in [(0, 1), (1, 0), (5, 1), (1, 5), (1 << 63, 1)] {
+        assert_eq!(trial.lookup(from, to).refusal, 9);
+    }
+    assert_eq!(trial.lookup(3, 4).refusal, 0);
+    assert_eq!(trial.verdict().refusal, 15);
+    assert_eq!(trial.write().refusal, 15);
+    let mut trial = Trial::read_in(&E1);
+    let Lent {
+        state, tables, out, ..
+    } = &mut trial.memory;
+    assert_eq!(second::write(state, tables, &mut out[..39]).refusal, 16);
+    assert_eq!(second::write(state, tables, &mut out[..40]).length, 40);
+}
+
+#[test]
+fn memory_too_short_comes_first_and_unsound_next() {
+    let Lent {
+        mut state,
+        mut tables,
+        mut out,
+        ..
+    } = Lent::noise();
+    for (words, bytes, refusal) in [
+        (519, 32_768, 1),
+        (520, 32_767, 1),
+        (0, 0, 1),
+        (520, 32_768, 2),
+    ] {
+        let (state, tables) = (&mut state[..words], &mut tables[..bytes]);
+        assert_eq!(second::begin(state, tables, 0, 0).refusal, refusal);
+        assert_eq!(second::deliver(state, tables, 0, 0).refusal, refusal);
+        assert_eq!(second::lookup(state, tables, 0, 0).refusal, refusal);
+        assert_eq!(second::verdict(state, tables).refusal, refusal);
+        assert_eq!(second::write(state, tables, &mut out).refusal, refusal);
+    }
+    assert_eq!(
+        second::found(&mut state[..519], &mut tables, 0, 0, 0, 0).refusal,
+        1
+    );
+    assert_eq!(
+        second::read(&mut state, &mut tables[..32_767], &[]).refusal,
+        1
+    );
+    assert_eq!(
+        second::read(&mut state[..520], &mut tables[..32_768], &E1).refusal,
+        0
+    );
+}
