@@ -1,5 +1,4 @@
--- Refusals in code: `refuse-..` are the ways of a chain of early returns, and the others a call's two ends, refused or taken.
--- Assumes nothing.
+-- Refusals in code: the sentences of each call, and a call's two ends, refused or taken. Assumes nothing.
 use Prim.Native.Nat.{ℕ, _+_, _≤_, _<_}
 use mathlib.Core.Path.{_≡_, refl, sym, ap, ap₂, _∙_}
 use mathlib.Core.Logic.{_≢_}
@@ -10,37 +9,20 @@ use lib.ListN.{length}
 use native.Mathlib.Nat.{le-trans}
 use borrow.Author.Tests.{eq-eqb, ne-eqb, not-true, not-false}
 use Rattle.model.specs.Ids.{validId}
-use Rattle.model.specs.Memory.{base, digits, nodeCount, statusOf, isInSystem}
+use Rattle.model.specs.Memory.{Memory, base, digits, nodeCount, statusOf, isInSystem}
 use Rattle.model.specs.Sound.{isNode, sound}
-use Rattle.model.specs.Join.{Memory, founded, begun}
+use Rattle.model.specs.Join.{founded, begun}
 use Rattle.model.specs.Lookup as book
 use Rattle.model.specs.Refusals.{refuse, memoryShort, idTaken, areNodes, foundRefusal, stateRefusal, beginSentences, beginRefusal, lookupRefusal}
 use Rattle.model.specs.Calls.{Outcome, refused, taken, unlessRefused, lookupFields, foundCall, beginCall, lookupCall}
 use Rattle.model.proofs.Calls.{taken-is, refused-is}
+use Rattle.model.proofs.Refusals.{refuse-leaves, refuse-goes, refuse-not-leaves, refuse-not-goes}
 use Rattle.model.proofs.Sound.{Sound}
 use Rattle.model.proofs.Status.{IsNode, is-node}
 use Rattle.model.proofs.Taken.{state-taken, state-free, found-taken, begin-taken, lookup-taken}
 use Rattle.records.specs.Loaded.{Placed}
 use Rattle.join.specs.After.{Begins}
 use Rattle.engine.specs.Outcomes.{leaves}
-
--- ---- a chain of sentences
-
-pub refuse-leaves : (test : Bool) (n later : ℕ) (r : Bool) → r ≡ test → r ≡ true → n ≡ refuse test n later
-unfolding refuse
-refuse-leaves test n later r e h = ap (λ (b : Bool). cond b n later) (sym h ∙ e)
-
-pub refuse-goes : (test : Bool) (n later x : ℕ) (r : Bool) → r ≡ test → r ≡ false → x ≡ later → x ≡ refuse test n later
-unfolding refuse
-refuse-goes test n later x r e h q = q ∙ ap (λ (b : Bool). cond b n later) (sym h ∙ e)
-
-pub refuse-not-leaves : (test : Bool) (n later : ℕ) (r : Bool) → r ≡ test → not r ≡ true → n ≡ refuse (not test) n later
-refuse-not-leaves test n later r e h = refuse-leaves (not test) n later (not r) (ap not e) h
-
-pub refuse-not-goes : (test : Bool) (n later x : ℕ) (r : Bool) → r ≡ test → not r ≡ false → x ≡ later → x ≡ refuse (not test) n later
-refuse-not-goes test n later x r e h q = refuse-goes (not test) n later x (not r) (ap not e) h q
-
-pub ruleset sentences = (refuse-leaves, refuse-goes, refuse-not-leaves, refuse-not-goes)
 
 -- ---- 1 and 2
 

@@ -3,9 +3,9 @@ use Prim.Native.Nat.{ℕ, _+_}
 use mathlib.Core.Path.{_≡_, ap, ap₂, _∙_}
 use mathlib.Core.List.{List}
 use lib.ListN.{set}
-use Rattle.model.specs.Memory.{digits, nodeCount, copying, zeroed, withNode, withTable}
+use Rattle.model.specs.Memory.{Memory, digits, nodeCount, copying, zeroed, withNode, withTable}
 use Rattle.model.specs.Tables.{ownTable}
-use Rattle.model.specs.Join.{Memory, withSettings, inSystemNode, joiningNode, founded, begun}
+use Rattle.model.specs.Join.{withSettings, inSystemNode, joiningNode, founded, begun}
 use Rattle.join.specs.After.{after}
 
 pub founded-is : (s t s₁ t₁ s₂ s₃ t₂ : List ℕ) (b d K id : ℕ) → s₁ ≡ zeroed 520 s → t₁ ≡ zeroed 32768 t → s₂ ≡ withSettings s₁ b d K 1

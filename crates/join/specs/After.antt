@@ -2,8 +2,7 @@
 use Prim.Native.Nat.{ℕ, _≤_, _<_}
 use mathlib.Core.List.{List}
 use lib.ListN.{length}
-use Rattle.model.specs.Memory.{digits, nodeCount}
-use Rattle.model.specs.Join.{Memory}
+use Rattle.model.specs.Memory.{Memory, digits, nodeCount}
 
 -- state and tables as the book's memory
 abbrev pub after : List ℕ → List ℕ → Memory

@@ -1,4 +1,2 @@
--- What the contracts of founding and joining cite.
+-- What the contracts of founding and beginning cite.
 pub mod After
-pub mod Answers
-pub mod Delivers

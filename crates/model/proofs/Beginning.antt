@@ -14,7 +14,8 @@ use Rattle.model.specs.Ids.{validId}
 use Rattle.model.specs.Memory.{stateLength, tablesLength, base, digits, depth, nodeCount, idOf, statusOf, isAttached, isInSystem, copying, tableStart, tableOf, withNode}
 use Rattle.model.specs.Tables.{ownTable}
 use Rattle.model.specs.Sound.{spareZero, sound}
-use Rattle.model.specs.Join.{Memory, joiningNode, begun}
+use Rattle.model.specs.Memory.{Memory}
+use Rattle.model.specs.Join.{joiningNode, begun}
 use Rattle.model.proofs.Bools.{and-left, and-right, and-intro}
 use Rattle.model.proofs.Memory.{Stored, node-length, node-stored, node-outside, stored-length, stored-outside, stored-same, stored-other}
 use Rattle.model.proofs.Status.{IsNode, StatusOk, is-copying}

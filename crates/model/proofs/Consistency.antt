@@ -1,24 +1,27 @@
 -- Laws of the verdict: a yes says of every entry that it holds min(K, H) nodes, and that every lookup arrives. Assumes nothing.
 use Prim.Native.Nat.{ℕ, _+_, _-_, _≤_, _<_, min}
-use mathlib.Core.Path.{_≡_, refl, sym, subst}
-use mathlib.Core.Logic.{_≢_}
-use mathlib.Core.Bool.{true}
-use mathlib.Core.List.{List}
+use mathlib.Core.Path.{_≡_, refl, sym, ap, subst, _∙_}
+use mathlib.Core.Logic.{_≢_, _⊎_, inl, inr, ⊎-elim}
+use mathlib.Core.Bool.{true, false}
+use mathlib.Core.List.{List, [], _∷_}
+use lib.ListN.{length, getD}
 use native.Mathlib.Omega.{arith}
 use borrow.Author.Tests.{eqb-true, eq-eqb, not-true}
-use Rattle.model.specs.Loops.{firstBelow, node}
+use Rattle.model.specs.Loops.{anyBelow, firstBelow, node}
 use Rattle.model.specs.Ids.{digitOf}
 use Rattle.model.specs.Memory.{base, digits, depth, nodeCount, idOf, tableOf}
-use Rattle.model.specs.Tables.{entrySize}
+use Rattle.model.specs.Tables.{slotPlace, entrySize}
 use Rattle.model.specs.Sound.{suffixOf, qualifies}
 use Rattle.model.specs.Lookup.{nextHop, lookup}
-use Rattle.model.specs.Consistency.{howMany, entryWhole, levelWhole, nodeWhole, consistent, nodeShort, levelShort, entryShort, firstShort, verdict}
-use Rattle.model.proofs.Loops.{all-at, all-of, count-some, first-holds, first-whole, first-short, first-fails}
-use Rattle.model.proofs.Nodes.{nodes-at, nodes-of}
+use Rattle.model.specs.Consistency.{howMany, neighbors, HasSuffix, EntryConsistent, KConsistent, entryWhole, levelWhole, nodeWhole, consistent, nodeShort, levelShort, entryShort, firstShort, verdict}
+use Rattle.model.proofs.Bools.{true-or-false, not-both}
+use Rattle.model.proofs.Memory.{table-length}
+use Rattle.model.proofs.Loops.{all-at, all-of, any-found, count-some, count-none, first-holds, first-whole, first-short, first-fails}
+use Rattle.model.proofs.Nodes.{nodes-at, nodes-of, no-node-at}
 use Rattle.model.proofs.Ids.{suffix-self, qualified-of, valid-digit}
-use Rattle.model.proofs.Tables.{size-least}
-use Rattle.model.proofs.Status.{IsNode}
-use Rattle.model.proofs.Sound.{Sound}
+use Rattle.model.proofs.Tables.{size-le, size-filled, size-least, entry-length, entry-at}
+use Rattle.model.proofs.Status.{IsNode, is-node, is-node-of}
+use Rattle.model.proofs.Sound.{Sound, table-fits}
 use Rattle.model.proofs.Delivering.{suffix-below}
 use Rattle.model.proofs.Lookup.{walk, arrives-is, lookup-hop}
 
@@ -35,6 +38,10 @@ pub owner-counts : (s : List ℕ) (x i : ℕ) → IsNode s x → i ≤ digits s 
 owner-counts s x i n h =
     counts s x i (digitOf (idOf s x) i) x n
     (qualified-of (digits s) (idOf s x) (idOf s x) i (digitOf (idOf s x) i) (rw suffix-self h) refl)
+
+length-none : (xs : List ℕ) → length xs ≡ 0 → xs ≡ []
+length-none [] e = refl
+length-none (x ∷ xs) e = absurd (omega arith)
 
 -- ---- "The verdict is yes exactly when each entry of each member holds min(K, H) members"
 
@@ -59,6 +66,75 @@ module _ (s t : List ℕ) where
       all-of (digits s) (levelWhole s t x)
       (λ i hi.
       all-of (base s) (entryWhole s t x i) (λ j hj. eq-eqb _ _ (h x i j (record { low = a; high = b }) hi hj))))
+
+  -- ---- Definition 3.3 of TR-07-31, both ways, in a sound state
+
+  module _ (x i j : ℕ) where
+    -- V_{j·x[i−1]…x[0]} has a node, or none
+    some-or-none : ((y : ℕ) × HasSuffix s x i j y) ⊎ ((y : ℕ) → HasSuffix s x i j y → ⊥)
+    some-or-none = go (true-or-false (anyBelow (nodeCount s) (node (qualifies s x i j))))
+      where
+        go : (anyBelow (nodeCount s) (node (qualifies s x i j)) ≡ true) ⊎ (anyBelow (nodeCount s) (node (qualifies s x i j)) ≡ false)
+            → ((y : ℕ) × HasSuffix s x i j y) ⊎ ((y : ℕ) → HasSuffix s x i j y → ⊥)
+        go (inl e) =
+            let f = any-found (nodeCount s) (node (qualifies s x i j)) e in
+            inl (f .0 + 1, record { node = is-node-of s (f .0 + 1) (record { low = omega arith; high = omega (arith, f .1) }); suffix = f .2 })
+        go (inr e) =
+            inr (λ y h. let n = is-node s y (h .node) in not-both _ (h .suffix) (no-node-at (nodeCount s) (qualifies s x i j) e y (n .low) (n .high)))
+
+    none-many : ((y : ℕ) → HasSuffix s x i j y → ⊥) → howMany s x i j ≡ 0
+    unfolding howMany
+    none-many none =
+        count-none (nodeCount s) (node (qualifies s x i j))
+        (λ k l.
+        ⊎-elim
+        (λ e. absurd (none (k + 1) (record { node = is-node-of s (k + 1) (record { low = omega arith; high = omega (arith, l) }); suffix = e })))
+        (λ e. e) (true-or-false (qualifies s x i j (k + 1))))
+
+  module _ (S : Sound s t) (x i j : ℕ) (nx : IsNode s x) (hi : i < digits s) (hj : j < base s) where
+    fits : slotPlace i j (depth s) ≤ length (tableOf t x)
+    fits = omega (arith, table-length t x (table-fits s t S x nx), S .settings .digits-most, S .settings .base-most, S .settings .depth-most)
+
+    size-is-length : length (neighbors s t x i j) ≡ entrySize (depth s) (tableOf t x) i j
+    size-is-length = entry-length (depth s) (tableOf t x) i j fits
+
+    -- a node of an entry qualifies for it
+    pub entry-within : (k : ℕ) → k < length (neighbors s t x i j) → HasSuffix s x i j (getD (neighbors s t x i j) k 0)
+    entry-within k h =
+        let below : k < entrySize (depth s) (tableOf t x) i j = subst (λ (n : ℕ). k < n) size-is-length h in
+        let filled = size-filled (depth s) (tableOf t x) i j k below in
+        let ok = S .tables x nx .slots i j k hi hj (omega (arith, below, size-le (depth s) (tableOf t x) i j)) filled in
+        subst (HasSuffix s x i j) (sym (entry-at (depth s) (tableOf t x) i j fits k below))
+        (record { node = is-node-of s _ (record { low = omega (arith, filled); high = ok .within }); suffix = ok .qual })
+
+    entry-of : entrySize (depth s) (tableOf t x) i j ≡ min (depth s) (howMany s x i j) → EntryConsistent s t x i j
+    entry-of w = record {
+      filled = λ y h. size-is-length ∙ w;
+      within = entry-within;
+      empty = λ none. length-none _ (omega (arith, size-is-length, w, none-many x i j none));
+    }
+
+    entry-back : EntryConsistent s t x i j → entrySize (depth s) (tableOf t x) i j ≡ min (depth s) (howMany s x i j)
+    entry-back c = go (some-or-none x i j)
+      where
+        go : ((y : ℕ) × HasSuffix s x i j y) ⊎ ((y : ℕ) → HasSuffix s x i j y → ⊥)
+            → entrySize (depth s) (tableOf t x) i j ≡ min (depth s) (howMany s x i j)
+        go (inl (y, h)) = sym size-is-length ∙ c .filled y h
+        go (inr none) =
+            let z : length (neighbors s t x i j) ≡ 0 = ap length (c .empty none) in
+            omega (arith, size-is-length, z, none-many x i j none)
+
+  pub consistent-is : Sound s t → consistent s t ≡ true → KConsistent s t
+  unfolding KConsistent
+  consistent-is S e x i j n hi hj =
+      let nx = is-node s x n in
+      entry-of S x i j nx hi hj (consistent-whole e x i j nx hi hj)
+
+  pub is-consistent : Sound s t → KConsistent s t → consistent s t ≡ true
+  unfolding KConsistent
+  is-consistent S h = whole-consistent (λ x i j nx hi hj. entry-back S x i j nx hi hj (h x i j (is-node-of s x nx) hi hj))
+
+  -- ---- a yes makes every lookup arrive
 
   module _ (S : Sound s t) (yes : consistent s t ≡ true) (z : ℕ) (nz : IsNode s z) where
     -- the destination qualifies for the entry of the next hop, so that entry is not empty

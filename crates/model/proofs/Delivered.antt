@@ -7,7 +7,8 @@ use mathlib.Core.List.{List}
 use lib.Dec.{eqb}
 use Rattle.model.specs.Memory.{idOf, statusOf, inSystem, copying, waiting, notifying, isInSystem, isAttached, withNode, tableOf, withTable}
 use Rattle.model.specs.Sound.{suffixOf}
-use Rattle.model.specs.Join.{Memory, Delivery, joiningNode, roomAtSuffix, firstAtSuffix, outstanding, deliverCopying, deliverSentOn, deliverAttached, deliverWaiting, deliverNotifying, delivery, delivered}
+use Rattle.model.specs.Memory.{Memory}
+use Rattle.model.specs.Join.{Delivery, joiningNode, roomAtSuffix, firstAtSuffix, outstanding, deliverCopying, deliverSentOn, deliverAttached, deliverWaiting, deliverNotifying, delivery, delivered}
 use Rattle.model.specs.Learning.{learnTable}
 use Rattle.model.specs.Refusals.{waitHeld}
 use Rattle.model.proofs.Bools.{true-or-false}

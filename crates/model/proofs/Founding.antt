@@ -13,7 +13,8 @@ use Rattle.model.specs.Ids.{validId}
 use Rattle.model.specs.Memory.{stateLength, tablesLength, base, digits, depth, nodeCount, idOf, zeroed, tableStart, tableOf}
 use Rattle.model.specs.Tables.{ownTable}
 use Rattle.model.specs.Sound.{spareZero, sound}
-use Rattle.model.specs.Join.{Memory, withSettings, inSystemNode, founded}
+use Rattle.model.specs.Memory.{Memory}
+use Rattle.model.specs.Join.{withSettings, inSystemNode, founded}
 use Rattle.model.proofs.Bools.{and-intro}
 use Rattle.model.proofs.Memory.{Stored, node-length, node-stored, node-outside, stored-length, stored-outside, stored-same, zeroed-length, zeroed-within}
 use Rattle.model.proofs.Status.{IsNode, StatusOk, is-in-system}

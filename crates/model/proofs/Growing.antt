@@ -11,7 +11,8 @@ use lib.Dec.{eqb}
 use lib.ListN.{length}
 use Rattle.model.specs.Memory.{digits, nodeCount, Node, idOf, statusOf, inSystem, copying, waiting, notifying, isAttached, isInSystem, withNode, tableStart, tableOf, withTable}
 use Rattle.model.specs.Tables.{ownTable}
-use Rattle.model.specs.Join.{Memory, Delivery, inSystemNode, joiningNode, notifyingNode, settle, begun, roomAtSuffix, firstAtSuffix, deliverCopying, deliverSentOn, deliverAttached, deliverWaiting, deliverNotifying, delivery, delivered}
+use Rattle.model.specs.Memory.{Memory}
+use Rattle.model.specs.Join.{Delivery, inSystemNode, joiningNode, notifyingNode, settle, begun, roomAtSuffix, firstAtSuffix, deliverCopying, deliverSentOn, deliverAttached, deliverWaiting, deliverNotifying, delivery, delivered}
 use Rattle.model.proofs.Bools.{back-false, not-both}
 use Rattle.model.proofs.Memory.{node-stored, table-length, stored-length, stored-same, stored-other}
 use Rattle.model.proofs.Tables.{Grows, grows-refl, grows-trans}

@@ -32,5 +32,6 @@ pub mod Growing
 pub mod Unchanged
 pub mod Picked
 pub mod Loading
+pub mod Refusals
 pub mod Taken
 pub mod Calls

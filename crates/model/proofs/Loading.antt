@@ -17,7 +17,8 @@ use Rattle.model.specs.Ids.{validId, digitOf}
 use Rattle.model.specs.Memory.{stateLength, tablesLength, base, digits, depth, nodeCount, idOf, statusOf, zeroed, tableStart, tableOf, withTable, isAttached}
 use Rattle.model.specs.Tables.{qualified, slotPlace, slotAt, firstOf, entrySize, entry, holds, append}
 use Rattle.model.specs.Sound.{mayStand, qualifies, placeUsed, spareZero}
-use Rattle.model.specs.Join.{Memory, withSettings}
+use Rattle.model.specs.Memory.{Memory}
+use Rattle.model.specs.Join.{withSettings}
 use Rattle.model.specs.Image.{imBase, imDigits, imDepth, imNodes, imId, imRecords, recNode, recLevel, recDigit, recNeighbor, sameEntry, recOrdered, recAllowed, sameNeighbor, recOwn, recOwnerFirst, recOfOwn, ownHasRecord, ownHaveRecords, loadId, loadRecord, loaded}
 use Rattle.model.proofs.Bools.{back-false, or-right, and-left, and-right, and-intro, or-intro-right, not-both}
 use Rattle.model.proofs.Loops.{all-at, any-at, any-false, any-found, count-some, each-leads}

@@ -216,6 +216,12 @@ unfolding countBelow
 count-some n f k l e =
     le-ind (λ (m : ℕ). 1 ≤ countBelow m f) (rw e (omega arith)) (λ m g h. omega (arith, h)) n l
 
+-- where it holds nowhere the count is 0
+pub count-none : (n : ℕ) (f : ℕ → Bool) → ((k : ℕ) → k < n → f k ≡ false) → countBelow n f ≡ 0
+unfolding countBelow
+count-none zero f h = refl
+count-none (suc n) f h = rw (h n (omega arith), count-none n f (λ k l. h k (omega (arith, l))))
+
 pub count-hit : (i : ℕ) (f : ℕ → Bool) (r : Bool) (x y : ℕ) → x ≡ countBelow i f → r ≡ f i → r ≡ true → y ≡ x + 1 → y ≡ countBelow (i + 1) f
 count-hit i f r x y e q h g = g ∙ ap₂ (λ (n : ℕ) (b : Bool). n + cond b 1 0) e (sym h ∙ q) ∙ sym (count-step i f)
 

@@ -14,7 +14,7 @@ use Rattle.model.specs.Memory.{stateLength, tablesLength, base, digits, 
 use Rattle.model.specs.Sound.{isNode, sound}
 use Rattle.model.specs.Join.{outstanding}
 use Rattle.model.specs.Image.{imNodes, imBase, imDigits, imDepth, imRecords, imId, imIdValid, imIdDiffers, imIdNew, imIsNode, recNode, recNeighbor, recNodesGood, recOrdered, recAllowed, recOwnerFirst, ownHaveRecords, recordsGood, lengthRight, imageOf}
-use Rattle.model.specs.Refusals.{refuse, memoryShort, noSettings, otherVersion, countsWrong, hasId, idTaken, areNodes, waitHeld, someNotInSystem, foundRefusal, recordsRefusal, idsRefusal, readRefusal, stateRefusal, beginSentences, beginRefusal, deliverRefusal, lookupRefusal, verdictRefusal, writeRefusal}
+use Rattle.model.specs.Refusals.{refuse, memoryShort, noSettings, otherVersion, countsWrong, hasId, idTaken, areNodes, waitHeld, someNotInSystem, foundRefusal, imageRefusal, readRefusal, stateRefusal, beginSentences, beginRefusal, deliverRefusal, lookupRefusal, verdictRefusal, writeRefusal}
 use Rattle.model.proofs.Bools.{and-left, and-right, back-false}
 use Rattle.model.proofs.Loops.{all-at, any-at}
 use Rattle.model.proofs.Nodes.{nodes-at, no-node-at}
@@ -140,7 +140,7 @@ im-node : (im : List ℕ) (x : ℕ) → imIsNode im x ≡ true → (1 ≤ x) × 
 im-node im x e = (leb-true 1 x (and-left _ _ e), leb-true x (imNodes im) (and-right (leb 1 x) _ e))
 
 pub read-taken : (s t im : List ℕ) → readRefusal s t im ≡ 0 → Long s t × Readable im
-unfolding readRefusal idsRefusal recordsRefusal recordsGood
+unfolding readRefusal imageRefusal recordsGood
 read-taken s t im e =
     let p1 = passed _ 0 _ e in
     let p3 = passed _ 2 _ (p1 .1) in

@@ -1,12 +1,14 @@
 -- The verdict: document 01, "The verdict is yes exactly when each entry of each member holds min(K, H) members ..".
-use Prim.Native.Nat.{ℕ, _+_, min}
-use mathlib.Core.Bool.{Bool, cond, not}
-use mathlib.Core.List.{List}
+use Prim.Native.Nat.{ℕ, _+_, _<_, min}
+use mathlib.Core.Path.{_≡_}
+use mathlib.Core.Bool.{Bool, true, cond, not}
+use mathlib.Core.List.{List, []}
 use lib.Dec.{eqb}
+use lib.ListN.{length, getD}
 use Rattle.model.specs.Loops.{allBelow, countBelow, firstBelow, node}
 use Rattle.model.specs.Memory.{base, digits, depth, nodeCount, tableOf}
-use Rattle.model.specs.Tables.{entrySize}
-use Rattle.model.specs.Sound.{qualifies}
+use Rattle.model.specs.Tables.{entrySize, entry}
+use Rattle.model.specs.Sound.{isNode, qualifies}
 
 -- "H being how many members qualify, the owner included"
 unfoldable pub howMany : List ℕ → ℕ → ℕ → ℕ → ℕ
@@ -25,6 +27,33 @@ nodeWhole s t x = allBelow (digits s) (levelWhole s t x)
 -- "The verdict is yes exactly when each entry of each member holds min(K, H) members"
 unfoldable pub consistent : List ℕ → List ℕ → Bool
 consistent s t = allBelow (nodeCount s) (node (nodeWhole s t))
+
+-- ---- the same as TR-07-31 states it, in Definition 3.3; laws turn the test above into it and back (proofs/Consistency)
+
+-- N_x(i, j): the nodes in entry (i, j) of x
+abbrev pub neighbors : List ℕ → List ℕ → ℕ → ℕ → ℕ → List ℕ
+neighbors s t x i j = entry (depth s) (tableOf t x) i j
+
+-- y is in V_{j·x[i−1]…x[0]}: a node whose id ends in j and then the low i digits of x
+pub record HasSuffix (s : List ℕ) (x i j y : ℕ) : Type 0 where
+  pub node : isNode s y ≡ true
+  pub suffix : qualifies s x i j y ≡ true
+
+-- "each entry in its table satisfies the following conditions"
+pub record EntryConsistent (s t : List ℕ) (x i j : ℕ) : Type 0 where
+  -- "(a) If V_{j·x[i−1]…x[0]} ≠ ∅, then N_x(i, j).size = min(K, |V_{j·x[i−1]…x[0]}|)"
+  pub filled : (y : ℕ) → HasSuffix s x i j y → length (neighbors s t x i j) ≡ min (depth s) (howMany s x i j)
+  -- "where N_x(i, j) ⊆ V_{j·x[i−1]…x[0]}"
+  pub within : (k : ℕ) → k < length (neighbors s t x i j) → HasSuffix s x i j (getD (neighbors s t x i j) k 0)
+  -- "(b) If V_{j·x[i−1]…x[0]} = ∅, .. then N_x(i, j) = ∅"
+  pub empty : ((y : ℕ) → HasSuffix s x i j y → ⊥) → neighbors s t x i j ≡ []
+
+-- "The network .. satisfies K-consistency, K ≥ 1, if for any node x": i ∈ [d], j ∈ [b]
+unfoldable pub KConsistent : List ℕ → List ℕ → Type 0
+KConsistent s t =
+    (x i j : ℕ) → isNode s x ≡ true → i < digits s → j < base s → EntryConsistent s t x i j
+
+-- ---- the verdict
 
 abbrev pub nodeShort : List ℕ → List ℕ → ℕ → Bool
 nodeShort s t x = not (nodeWhole s t x)

@@ -8,7 +8,8 @@ use Rattle.model.specs.Loops.{allBelow, anyBelow, countBelow, eachBelow,
 use Rattle.model.specs.Ids.{validId, digitOf}
 use Rattle.model.specs.Memory.{stateLength, tablesLength, base, digits, depth, nodeCount, idOf, zeroed, tableOf, withTable}
 use Rattle.model.specs.Tables.{qualified, slotAt, append}
-use Rattle.model.specs.Join.{Memory, withSettings}
+use Rattle.model.specs.Memory.{Memory}
+use Rattle.model.specs.Join.{withSettings}
 
 -- ---- writing
 

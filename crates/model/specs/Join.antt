@@ -6,17 +6,12 @@ use lib.ListN.{getD, set}
 use lib.Dec.{leb, ltb, eqb}
 use Rattle.model.specs.Loops.{allBelow, firstBelow, eachBelow}
 use Rattle.model.specs.Ids.{digitOf}
-use Rattle.model.specs.Memory.{stateLength, tablesLength, digits, depth, nodeCount, zeroed, Node, idOf, statusOf, levelOf, targetOf}
+use Rattle.model.specs.Memory.{stateLength, tablesLength, digits, depth, nodeCount, zeroed, Node, Memory, idOf, statusOf, levelOf, targetOf}
 use Rattle.model.specs.Memory.{pendingOf, notifiedOf, withNode, inSystem, copying, waiting, notifying, isInSystem, isJoining}
 use Rattle.model.specs.Memory.{hasNode, addNode, removeNode, tableOf, withTable}
 use Rattle.model.specs.Tables.{entrySize, firstOf, ownTable}
 use Rattle.model.specs.Sound.{suffixOf}
 use Rattle.model.specs.Learning.{learn, learnTable}
-
--- state and table memory
-pub record Memory : Type 0 where
-  pub state : List ℕ
-  pub tables : List ℕ
 
 -- ---- founding and beginning
 
@@ -59,17 +54,17 @@ outstanding s x y = isJoining s x && eqb (targetOf s x) y || hasNode (pendingOf 
 -- ---- a delivery: x sends to y. Tx and Ty are their tables before the step, h their match.
 
 -- the kinds that a delivery answers: "copied .., sent on .., attached with its level, or notified"
-abbrev pub copied : ℕ
-copied = 1
+abbrev pub kindCopied : ℕ
+kindCopied = 1
 
-abbrev pub sentOn : ℕ
-sentOn = 2
+abbrev pub kindSentOn : ℕ
+kindSentOn = 2
 
-abbrev pub attached : ℕ
-attached = 3
+abbrev pub kindAttached : ℕ
+kindAttached = 3
 
-abbrev pub notified : ℕ
-notified = 4
+abbrev pub kindNotified : ℕ
+kindNotified = 4
 
 -- what a delivery does: x's record, x's table and y's table after it, and what it was, with the level if it attached
 pub record Delivery : Type 0 where
@@ -102,7 +97,7 @@ deliverCopying s x y Tx Ty =
           (joiningNode (idOf s x) (cond (isInSystem s next) copying waiting) next);
       senderTable = learnTable s x Ty Tx;
       receiverTable = Ty;
-      kind = copied;
+      kind = kindCopied;
       level = 0;
     }
 
@@ -113,7 +108,7 @@ deliverSentOn s x y Tx Ty =
       sender = joiningNode (idOf s x) waiting (firstAtSuffix s Ty x y);
       senderTable = learnTable s x Ty Tx;
       receiverTable = Ty;
-      kind = sentOn;
+      kind = kindSentOn;
       level = 0;
     }
 
@@ -165,7 +160,7 @@ deliverAttached s x y Tx Ty =
       sender = notifyingNode (idOf s x) k (gather s x k told Ty′ (gather s x k told Tx′ 0)) told;
       senderTable = Tx′;
       receiverTable = Ty′;
-      kind = attached;
+      kind = kindAttached;
       level = k;
     }
 
@@ -185,7 +180,7 @@ deliverNotifying s x y Tx Ty =
       sender = notifyingNode (idOf s x) k (gather s x k told Ty′ (removeNode (pendingOf s x) y)) told;
       senderTable = learnTable s x Ty′ Tx;
       receiverTable = Ty′;
-      kind = notified;
+      kind = kindNotified;
       level = 0;
     }
 

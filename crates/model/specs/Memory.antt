@@ -6,6 +6,11 @@ use mathlib.Core.List.{List, _++_}
 use lib.ListN.{getD, set, take, drop, replicate}
 use lib.Dec.{eqb}
 
+-- state and table memory
+pub record Memory : Type 0 where
+  pub state : List ℕ
+  pub tables : List ℕ
+
 -- the fixed lengths of the state in words and of the table memory in bytes
 abbrev pub stateLength : ℕ
 stateLength = 520

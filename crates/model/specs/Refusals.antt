@@ -54,25 +54,20 @@ unfoldable pub foundRefusal : List ℕ → List ℕ → ℕ → ℕ → ℕ → 
 foundRefusal s t b d K id =
     refuse (memoryShort s t) 1 (refuse (not (settingsInRange b d K)) 5 (refuse (not (validId b d id)) 7 0))
 
--- the records: "A member number, in a call or a record, is 0 or above the member count"; "Image records break their order or the table
--- rules."
-unfoldable pub recordsRefusal : List ℕ → ℕ
-recordsRefusal im =
-    refuse (not (allBelow (imRecords im) (recNodesGood im))) 9 (refuse (not (recordsGood im)) 10 0)
-
--- the ids: "An id has a digit not below b, or a bit above its digits"; or "occurs twice in an image"
-unfoldable pub idsRefusal : List ℕ → ℕ
-idsRefusal im =
-    refuse (not (allBelow (imNodes im) (node (imIdValid im)))) 7
-    (refuse (not (allBelow (imNodes im) (node (imIdNew im)))) 8 (recordsRefusal im))
-
-unfoldable pub readRefusal : List ℕ → List ℕ → List ℕ → ℕ
-readRefusal s t im =
-    refuse (memoryShort s t) 1
-    (refuse (noSettings im) 3
+-- what the image itself decides. 7, "An id has a digit not below b, or a bit above its digits"; 8, it "occurs twice in an image"; 9, "A
+-- member number, in a call or a record, is 0 or above the member count"; 10, "Image records break their order or the table rules."
+unfoldable pub imageRefusal : List ℕ → ℕ
+imageRefusal im =
+    refuse (noSettings im) 3
     (refuse (otherVersion im) 4
     (refuse (not (settingsInRange (imBase im) (imDigits im) (imDepth im))) 5
-    (refuse (countsWrong im) 6 (idsRefusal im)))))
+    (refuse (countsWrong im) 6
+    (refuse (not (allBelow (imNodes im) (node (imIdValid im)))) 7
+    (refuse (not (allBelow (imNodes im) (node (imIdNew im)))) 8
+    (refuse (not (allBelow (imRecords im) (recNodesGood im))) 9 (refuse (not (recordsGood im)) 10 0)))))))
+
+unfoldable pub readRefusal : List ℕ → List ℕ → List ℕ → ℕ
+readRefusal s t im = refuse (memoryShort s t) 1 (imageRefusal im)
 
 -- the sentences that every call on a state has first: 1, and 2, "The state isn't sound"
 unfoldable pub stateRefusal : List ℕ → List ℕ → ℕ → ℕ

@@ -4,7 +4,8 @@ use mathlib.Core.Bool.{Bool, true, false, cond, not, _&&_, _||_}
 use mathlib.Core.List.{List, [], _∷_}
 use lib.ListN.{getD}
 use lib.Dec.{eqb}
-use Rattle.model.specs.Join.{Memory, copied, sentOn}
+use Rattle.model.specs.Memory.{Memory}
+use Rattle.model.specs.Join.{kindCopied, kindSentOn}
 use Rattle.model.specs.Calls.{Outcome, foundCall, readCall, beginCall, deliverCall, lookupCall, verdictCall, writeCall}
 
 -- a call with its arguments
@@ -82,7 +83,7 @@ isRun m c cs = starts m c && goesOn (after m c) cs
 
 -- "copied or sent on"
 abbrev pub keepsAsking : ℕ → Bool
-keepsAsking kind = eqb kind copied || eqb kind sentOn
+keepsAsking kind = eqb kind kindCopied || eqb kind kindSentOn
 
 -- "A taken beginning sends one request, its new member's, and each taken delivery that leaves its sender copying or waiting sends one,
 -- that sender's; its answer then is copied or sent on."

@@ -10,8 +10,8 @@ use native.Mathlib.Omega.{arith}
 use lib.Dec.{eqb}
 use lib.ListN.{getD}
 use borrow.Author.Tests.{eq-eqb, ne-eqb, not-true, not-false}
-use Rattle.model.specs.Memory.{digits, nodeCount, idOf}
-use Rattle.model.specs.Join.{Memory, Delivery, begun, delivery, delivered}
+use Rattle.model.specs.Memory.{Memory, digits, nodeCount, idOf}
+use Rattle.model.specs.Join.{Delivery, begun, delivery, delivered}
 use Rattle.model.specs.Refusals.{beginRefusal, deliverRefusal}
 use Rattle.model.specs.Calls.{Outcome, refused, taken, unlessRefused, deliveryFields, beginCall, deliverCall}
 use Rattle.model.specs.Run.{Call, begin, deliver, step, after, play, Event, history, isTaken, starts, goesOn, isSentBy, keepsAsking, sent}

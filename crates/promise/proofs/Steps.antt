@@ -8,8 +8,8 @@ use native.Mathlib.Decide.{ℕ-discrete}
 use lib.Dec.{eqb}
 use lib.ListN.{getD, length, drop}
 use borrow.Author.Tests.{ne-eqb}
-use Rattle.model.specs.Memory.{nodeCount}
-use Rattle.model.specs.Join.{Memory, Delivery, founded, begun, delivery, delivered}
+use Rattle.model.specs.Memory.{Memory, nodeCount}
+use Rattle.model.specs.Join.{Delivery, founded, begun, delivery, delivered}
 use Rattle.model.specs.Lookup as book
 use Rattle.model.specs.Consistency as verdicts
 use Rattle.model.specs.Image.{loaded, imageOf}

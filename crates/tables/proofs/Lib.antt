@@ -1,2 +1,2 @@
 -- Laws for the callers of the code over one node's table.
-pub mod Readable
+pub mod Lent

@@ -2,7 +2,7 @@
 use native.Mathlib.Omega.{arith}
 use borrow.Author.Needs.{needs}
 use Rattle.model.specs.Refusals.{foundRefusal}
-use Rattle.engine.proofs.Laws.{sentences}
+use Rattle.model.proofs.Refusals.{sentences}
 use Rattle.engine.proofs.founding.refusal.Statement.{statement}
 use Rattle.engine.proofs.founding.refusal.Tie as tie
 

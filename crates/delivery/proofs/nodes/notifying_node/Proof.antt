@@ -1,0 +1,15 @@
+-- `notifying_node`: the branch is the test of `settle`. Assumes nothing.
+use Rattle.delivery.proofs.Deliveries.{settles, stays}
+use native.Mathlib.Omega.{arith}
+use borrow.Author.Needs.{needs}
+use Rattle.delivery.proofs.nodes.notifying_node.Statement.{statement}
+use Rattle.delivery.proofs.nodes.notifying_node.Tie as tie
+
+returns : tie.Need-returns
+returns c = search settles
+
+returns-2 : tie.Need-returns-2
+returns-2 c = search stays
+
+pub notifying-node-spec : {M : Type 1} → statement M
+notifying-node-spec = tie.close (tie.spec returns returns-2)

@@ -1,0 +1,18 @@
+-- `to_ask`: what is gathered from x's table goes on with y's. Assumes nothing.
+use Rattle.delivery.proofs.Learned.{gathers-own, gathers-theirs}
+use native.Mathlib.Omega.{arith}
+use borrow.Author.Needs.{needs}
+use Rattle.delivery.proofs.waiting.to_ask.Statement.{statement}
+use Rattle.delivery.proofs.waiting.to_ask.Tie as tie
+
+gather-from-requires : tie.Need-gather-from-requires
+gather-from-requires c κs = search gathers-own
+
+gather-from-requires-2 : tie.Need-gather-from-requires-2
+gather-from-requires-2 c κs = search gathers-theirs
+
+returns : tie.Need-returns
+returns c = cc
+
+pub to-ask-spec : {M : Type 1} → statement M
+to-ask-spec = tie.close (tie.spec gather-from-requires gather-from-requires-2 returns)

@@ -1,0 +1,3 @@
+-- What the contracts of the deliveries cite.
+pub mod Answers
+pub mod Delivers

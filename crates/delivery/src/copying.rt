@@ -1,0 +1,46 @@
+// A copy request: "x learns y's table. If E holds fewer than K, x becomes waiting with target y. Otherwise the target is the first of
+// E: x stays copying if that member is settled, else becomes waiting."
+ghost use mathlib.Core.Path.{_≡_};
+ghost use Rattle.model.specs.Memory.{tableOf};
+ghost use Rattle.model.specs.Join.{deliverCopying};
+ghost use Rattle.records.specs.Loaded.{bookNode};
+ghost use Rattle.delivery.specs.Answers.{outcome, tookDelivery};
+ghost use Rattle.delivery.specs.Delivers.{Delivers};
+use crate::answer::Answer;
+use crate::answer::Step;
+use crate::meeting::learn_from;
+use crate::nodes::joining_node;
+use crate::room::suffix_entry;
+use records::record;
+use records::record::Node;
+use records::status::Status;
+
+// x's record with its next request.
+fn next_request(state: &[u64], tables: &[u8], x: usize, y: usize) -> Node
+    requires { ⌜ Delivers (now state) (now tables) x y ⌝ }
+    ensures { λ r. ⌜ bookNode r ≡ deliverCopying (now (state .entry)) x y (tableOf (now (tables .entry)) x) (tableOf (now (tables .entry)) y) .sender ⌝ }
+{
+    let id = record::id(state, x);
+    let entry = suffix_entry(state, tables, x, y);
+    let first = entry.first;
+    if entry.room {
+        return joining_node(id, Status::WAITING, y);
+    }
+    if record::status(state, first) == Status::IN_SYSTEM {
+        return joining_node(id, Status::COPYING, first);
+    }
+    joining_node(id, Status::WAITING, first)
+}
+
+pub fn deliver_copying(state: &mut [u64], tables: &mut [u8], x: usize, y: usize) -> Answer
+    requires { ⌜ Delivers (now state) (now tables) x y ⌝ }
+    ensures { λ r. ⌜ outcome (now (state .exit)) (now (tables .exit)) r ≡ tookDelivery (now (state .entry)) (now (tables .entry)) x y (deliverCopying (now (state .entry)) x y (tableOf (now (tables .entry)) x) (tableOf (now (tables .entry)) y)) ⌝ }
+{
+    let node = next_request(state, tables, x, y);
+    learn_from(state, tables, x, y);
+    record::store(state, x, node);
+    Answer {
+        step: Step::Copied,
+        settled: false,
+    }
+}

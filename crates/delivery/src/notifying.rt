@@ -1,0 +1,40 @@
+// A notification: "y learns x, x learns y's table, y moves from asked to told, and members of y's table that match x in at least the
+// attach level, aren't x, told or asked, join the asked set."
+ghost use mathlib.Core.Path.{_≡_};
+ghost use Rattle.model.specs.Memory.{tableOf};
+ghost use Rattle.model.specs.Join.{deliverNotifying};
+ghost use Rattle.delivery.specs.Answers.{outcome, tookDelivery};
+ghost use Rattle.delivery.specs.Delivers.{Delivers, Meets, told};
+use crate::answer::Answer;
+use crate::answer::Step;
+use crate::meeting::gather_from;
+use crate::meeting::learn_from;
+use crate::meeting::teach;
+use crate::nodes::store_notifying;
+use records::record;
+use records::sets;
+
+// "y learns x, x learns y's table"
+fn notify(state: &[u64], tables: &mut [u8], x: usize, y: usize)
+    requires { ⌜ Meets (now state) (now tables) x y ⌝ }
+    ensures { λ r. ⌜ now (tables .exit) ≡ told (now (state .entry)) (now (tables .entry)) x y ⌝ }
+{
+    teach(state, tables, x, y);
+    learn_from(state, tables, x, y);
+}
+
+pub fn deliver_notifying(state: &mut [u64], tables: &mut [u8], x: usize, y: usize) -> Answer
+    requires { ⌜ Delivers (now state) (now tables) x y ⌝ }
+    ensures { λ r. ⌜ outcome (now (state .exit)) (now (tables .exit)) r ≡ tookDelivery (now (state .entry)) (now (tables .entry)) x y (deliverNotifying (now (state .entry)) x y (tableOf (now (tables .entry)) x) (tableOf (now (tables .entry)) y)) ⌝ }
+{
+    let node = record::load(state, x);
+    let told = sets::add(node.notified, y);
+    let left = sets::remove(node.pending, y);
+    notify(state, tables, x, y);
+    let asked = gather_from(state, tables, x, y, node.level as usize, told, left);
+    let settled = store_notifying(state, x, node.level, asked, told);
+    Answer {
+        step: Step::Notified,
+        settled,
+    }
+}

@@ -1,0 +1,2 @@
+-- Laws for the callers of learning and gathering.
+pub mod Readable

@@ -1,0 +1,2 @@
+-- What the contracts of learning and gathering ask.
+pub mod Learners

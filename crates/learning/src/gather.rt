@@ -1,0 +1,53 @@
+// Gathering: "every member of x's table or y's that matches x in k digits or more and isn't x or told".
+ghost use mathlib.Core.Path.{_≡_};
+ghost use Prim.Native.Nat.{_<_};
+ghost use Rattle.model.specs.Join as join;
+ghost use Rattle.learning.specs.Learners.{OwnerOf, ReadableTable};
+use crate::owner::Owner;
+use records::sets;
+
+// The set with the node at place p, if it is one of them.
+fn gather_place(
+    state: &[u64],
+    owner: Owner,
+    level: usize,
+    told: u64,
+    table: &[u8],
+    p: usize,
+    nodes: u64,
+) -> u64
+    requires { ⌜ OwnerOf (now state) owner ⌝ }
+    requires { ⌜ ReadableTable (now state) (now table) ⌝ }
+    requires { ⌜ p < 512 ⌝ }
+    ensures { λ r. ⌜ r ≡ join.gatherPlace (now (state .entry)) (owner .number) level told (now (table .entry)) p nodes ⌝ }
+{
+    let u = table[p] as usize;
+    if u == 0 {
+        return nodes;
+    }
+    if u == owner.number {
+        return nodes;
+    }
+    if owner.suffix(state, u) < level {
+        return nodes;
+    }
+    if sets::has(told, u) {
+        return nodes;
+    }
+    sets::add(nodes, u)
+}
+
+// The set with every one of them in the table.
+pub fn gather(state: &[u64], owner: Owner, level: usize, told: u64, table: &[u8], nodes: u64) -> u64
+    requires { ⌜ OwnerOf (now state) owner ⌝ }
+    requires { ⌜ ReadableTable (now state) (now table) ⌝ }
+    ensures { λ r. ⌜ r ≡ join.gather (now (state .entry)) (owner .number) level told (now (table .entry)) nodes ⌝ }
+{
+    let mut gathered = nodes;
+    let mut p = 0;
+    while p < 512 {
+        gathered = gather_place(state, owner, level, told, table, p, gathered);
+        p += 1;
+    }
+    gathered
+}

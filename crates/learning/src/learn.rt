@@ -1,0 +1,85 @@
+// Learning: "x learns u, another member, by appending it to entry (i, digit i of u) for each level i from u's floor to the match of x
+// and u, where u is absent and fewer than K stand". own is the learner's table.
+ghost use mathlib.Core.Path.{_≡_};
+ghost use Prim.Native.Nat.{_<_};
+ghost use Rattle.model.specs.Learning as learning;
+ghost use Rattle.model.specs.Learning.{floorOf};
+ghost use Rattle.learning.specs.Learners.{Readable, LearnsAt, Learns, LearnsTable};
+use crate::owner::Owner;
+use ident::digit;
+use records::record;
+use records::status::Status;
+use tables::entry;
+
+// "The floor of a settled member is 0, of a notifying one its attach level."
+fn floor(state: &[u64], u: usize) -> u64
+    requires { ⌜ Readable (now state) u ⌝ }
+    ensures { λ r. ⌜ r ≡ floorOf (now (state .entry)) u ⌝ }
+{
+    let node = record::load(state, u);
+    let status = Status {
+        number: node.status,
+    };
+    status.floor(node.level)
+}
+
+// At level i, which is not below u's floor.
+fn learn_at(state: &[u64], own: &mut [u8; 512], depth: usize, u: usize, i: usize)
+    requires { ⌜ LearnsAt (now state) depth u i ⌝ }
+    ensures { λ r. ⌜ now (own .exit) ≡ learning.learnAt (now (state .entry)) u i (now (own .entry)) ⌝ }
+{
+    let id = record::id(state, u) as u32;
+    let j = digit(id, i);
+    if entry::holds(own, depth, i, j, u) {
+        return;
+    }
+    if entry::size(own, depth, i, j) < depth {
+        entry::append(own, depth, i, j, u);
+    }
+}
+
+// The learner learns u. Levels below the floor change nothing, so the loop starts there.
+pub fn learn(state: &[u64], own: &mut [u8; 512], learner: Owner, u: usize)
+    requires { ⌜ Learns (now state) learner u ⌝ }
+    ensures { λ r. ⌜ now (own .exit) ≡ learning.learn (now (state .entry)) (learner .number) u (now (own .entry)) ⌝ }
+{
+    let floor = floor(state, u) as usize;
+    let suffix = learner.suffix(state, u);
+    if suffix < floor {
+        return;
+    }
+    let mut i = floor;
+    while i <= suffix {
+        learn_at(state, own, learner.depth, u, i);
+        i += 1;
+    }
+}
+
+// The node at place p of a table, unless there is none or it is the learner.
+fn learn_place(state: &[u64], own: &mut [u8; 512], learner: Owner, theirs: &[u8], p: usize)
+    requires { ⌜ LearnsTable (now state) learner (now theirs) ⌝ }
+    requires { ⌜ p < 512 ⌝ }
+    ensures { λ r. ⌜ now (own .exit) ≡ learning.learnPlace (now (state .entry)) (learner .number) (now (theirs .entry)) p (now (own .entry)) ⌝ }
+{
+    let u = theirs[p] as usize;
+    if u == 0 {
+        return;
+    }
+    if u == learner.number {
+        return;
+    }
+    learn(state, own, learner, u);
+}
+
+// "Learning a table means learning each member in it but x, by level, digit and slot, rising": the places rise with these. theirs is
+// the answering node's table, a part of the lent table memory.
+pub fn learn_table(state: &[u64], own: &mut [u8; 512], learner: Owner, theirs: &[u8])
+    requires { ⌜ LearnsTable (now state) learner (now theirs) ⌝ }
+    ensures { λ r. ⌜ now (own .exit) ≡ learning.learnTable (now (state .entry)) (learner .number) (now (theirs .entry)) (now (own .entry)) ⌝ }
+{
+    let mut p = 0;
+    while p < 512 {
+        learn_place(state, own, learner, theirs, p);
+        p += 1;
+    }
+}

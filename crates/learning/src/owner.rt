@@ -1,0 +1,38 @@
+// The node whose table it is, and what it compares other nodes by, loaded once.
+ghost use mathlib.Core.Path.{_≡_};
+ghost use Rattle.model.specs.Sound.{suffixOf};
+ghost use Rattle.learning.specs.Learners.{Readable, OwnerOf};
+use ident::common_suffix;
+use records::record;
+use records::settings;
+
+pub struct Owner {
+    pub number: usize,
+    pub id: u32,
+    pub digits: usize,
+    pub depth: usize,
+}
+
+impl Owner {
+    pub fn load(state: &[u64], x: usize) -> Owner
+        requires { ⌜ Readable (now state) x ⌝ }
+        ensures { λ r. ⌜ (r .number ≡ x) × OwnerOf (now (state .entry)) r ⌝ }
+    {
+        let s = settings::load(state);
+        Owner {
+            number: x,
+            id: record::id(state, x) as u32,
+            digits: s.digits,
+            depth: s.depth,
+        }
+    }
+
+    // The match of the owner and node u.
+    pub fn suffix(self, state: &[u64], u: usize) -> usize
+        requires { ⌜ OwnerOf (now state) self ⌝ }
+        requires { ⌜ Readable (now state) u ⌝ }
+        ensures { λ r. ⌜ r ≡ suffixOf (now (state .entry)) (self .number) u ⌝ }
+    {
+        common_suffix(self.digits, self.id, record::id(state, u) as u32)
+    }
+}
