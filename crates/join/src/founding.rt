@@ -2,7 +2,6 @@
 ghost use mathlib.Core.Path.{_≡_};
 ghost use Prim.Native.Nat.{_≤_};
 ghost use lib.ListN.{length};
-ghost use Rattle.model.specs.Memory.{zeroed};
 ghost use Rattle.model.specs.Join.{founded};
 ghost use Rattle.join.specs.After.{after};
 use records::record;
@@ -11,28 +10,6 @@ use records::settings;
 use records::settings::Settings;
 use records::status::Status;
 use tables::own;
-
-fn clear_state(state: &mut [u64])
-    requires { ⌜ 520 ≤ length (now state) ⌝ }
-    ensures { λ r. ⌜ now (state .exit) ≡ zeroed 520 (now (state .entry)) ⌝ }
-{
-    let mut i = 0;
-    while i < 520 {
-        state[i] = 0;
-        i += 1;
-    }
-}
-
-fn clear_tables(tables: &mut [u8])
-    requires { ⌜ 32768 ≤ length (now tables) ⌝ }
-    ensures { λ r. ⌜ now (tables .exit) ≡ zeroed 32768 (now (tables .entry)) ⌝ }
-{
-    let mut i = 0;
-    while i < 32768 {
-        tables[i] = 0;
-        i += 1;
-    }
-}
 
 pub fn found(
     state: &mut [u64],
@@ -47,8 +24,8 @@ pub fn found(
     requires { ⌜ digits ≤ 8 ⌝ }
     ensures { λ r. ⌜ after (now (state .exit)) (now (tables .exit)) ≡ founded (now (state .entry)) (now (tables .entry)) base digits depth id ⌝ }
 {
-    clear_state(state);
-    clear_tables(tables);
+    records::clear::clear(state);
+    tables::clear::clear(tables);
     settings::store(
         state,
         Settings {

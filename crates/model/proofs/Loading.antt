@@ -5,7 +5,7 @@ use mathlib.Core.Path.{_≡_, refl, sym, ap, ap₂, subst, subst₂, subst₃, _
 use mathlib.Core.Logic.{_≢_, _⊎_, inl, inr, ⊎-elim}
 use mathlib.Core.Bool.{Bool, true, false, cond, not, _&&_, _||_}
 use mathlib.Core.List.{List, [], _∷_, _++_, append-nil}
-use native.Mathlib.Nat.{le-of-suc-le-suc, eq-or-lt-of-le}
+use native.Mathlib.Nat.{le-refl, le-of-suc-le-suc, eq-or-lt-of-le}
 use native.Mathlib.Decide.{ℕ-discrete, decLt}
 use native.Mathlib.Omega.{arith}
 use lib.Dec.{eqb, ltb, leb}
@@ -401,11 +401,22 @@ module _ (im s : List ℕ) (R : Readable im) (W : Words im s) where
           rest = λ p l g. stored-outside t x T′ T′-long x-fits p (inr (omega arith)) ∙ L .rest p l g;
         })
 
+  -- the tables after the first r records
+  pub tables-loading : (t : List ℕ) → tablesLength ≤ length t → (r : ℕ) → r ≤ imRecords im
+      → Loaded im s r (eachBelow r (loadRecord im) (zeroed tablesLength t))
+  unfolding z
+  tables-loading t long r h =
+      each-leads (Loaded im s) r (loadRecord im) (zeroed tablesLength t) (nothing t long) (λ q t l L. one-more q (omega (arith, l)) t L)
+
   pub tables-loaded : (t : List ℕ) → tablesLength ≤ length t
       → Loaded im s (imRecords im) (eachBelow (imRecords im) (loadRecord im) (zeroed tablesLength t))
-  unfolding z
-  tables-loaded t long =
-      each-leads (Loaded im s) (imRecords im) (loadRecord im) (zeroed tablesLength t) (nothing t long) (λ r t l L. one-more r l t L)
+  tables-loaded t long = tables-loading t long (imRecords im) (le-refl (imRecords im))
+
+  -- the entry of the next record has room
+  pub record-room : (t : List ℕ) → tablesLength ≤ length t → (r : ℕ) → r < imRecords im
+      → entrySize (depth s) (tableOf (eachBelow r (loadRecord im) (zeroed tablesLength t)) (recNode im r)) (recLevel im r) (recDigit im r) < depth s
+  record-room t long r h =
+      room r h (eachBelow r (loadRecord im) (zeroed tablesLength t)) (tables-loading t long r (omega (arith, h)))
 
   -- ---- the own entries
 

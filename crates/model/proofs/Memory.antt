@@ -4,13 +4,13 @@ use mathlib.Core.Path.{_≡_, refl, sym, ap, subst, _∙_}
 use mathlib.Core.Logic.{_≢_, _⊎_, inl, inr, ⊎-elim}
 use mathlib.Core.List.{List, [], _∷_, _++_, append-assoc}
 use native.Mathlib.Nat.{add-zero, le-antisymm}
-use native.Mathlib.Decide.{decLt}
+use native.Mathlib.Decide.{ℕ-discrete, decLt}
 use native.Mathlib.Numerals.{towards-suc}
 use native.Mathlib.Omega.{arith}
-use lib.ListN.{length, getD, set, take, drop, replicate, length-append, length-drop, length-replicate, getD-replicate, List·getD-append}
+use lib.ListN.{length, getD, set, take, drop, replicate, length-set, length-append, length-drop, length-replicate, getD-replicate, List·getD-append}
 use borrow.Author.Fill.{fill-more}
 use lib.Dec.{lit<}
-use lib.Seq.{sets, sets-eq, getD-drop, getD-append-add, ext-getD}
+use lib.Seq.{sets, sets-eq, getD-set-same, getD-set-other, getD-drop, getD-append-add, ext-getD}
 use Rattle.model.specs.Memory.{Node, idOf, statusOf, levelOf, targetOf, pendingOf, notifiedOf, withNode, tableStart, tableOf, withTable, zeroed}
 use Rattle.model.proofs.Splice.{splice, splice-length, splice-before, splice-at, splice-after, part-length, part-at, part-same}
 
@@ -109,6 +109,46 @@ module _ (t : List ℕ) (x : ℕ) (T : List ℕ) (size : length T ≡ 512) (fits
       apart : (k : ℕ) → k < 512 → Dec (y < x) → (tableStart y + k < tableStart x) ⊎ (tableStart x + 512 ≤ tableStart y + k)
       apart k h (yes l) = inl (omega arith)
       apart k h (no g) = inr (omega arith)
+
+-- a byte stored in x's table is one stored in the table memory
+pub table-set : (t : List ℕ) (x p v : ℕ) → tableStart x + 512 ≤ length t → p < 512
+    → withTable t x (set (tableOf t x) p v) ≡ set t (tableStart x + p) v
+unfolding withTable
+table-set t x p v fits h =
+    ext-getD 0 (withTable t x T) (set t (tableStart x + p) v) (long ∙ sym (length-set t (tableStart x + p) v))
+    (λ k l. go k (decLt k (tableStart x)) (decLt k (tableStart x + 512)))
+  where
+    T : List ℕ
+    T = set (tableOf t x) p v
+
+    size : length T ≡ 512
+    size = length-set (tableOf t x) p v ∙ table-length t x fits
+
+    long : length (withTable t x T) ≡ length t
+    long = stored-length t x T size fits
+
+    outside : (k : ℕ) → (k < tableStart x) ⊎ (tableStart x + 512 ≤ k) → k ≢ tableStart x + p
+        → getD (withTable t x T) k 0 ≡ getD (set t (tableStart x + p) v) k 0
+    outside k o e = stored-outside t x T size fits k o ∙ sym (getD-set-other t (tableStart x + p) k v 0 e)
+
+    inside : (q : ℕ) → q < 512 → Dec (q ≡ p) → getD T q 0 ≡ getD (set t (tableStart x + p) v) (tableStart x + q) 0
+    inside q l (yes e) =
+        subst (λ (q : ℕ). getD T q 0 ≡ getD (set t (tableStart x + p) v) (tableStart x + q) 0) (sym e)
+        (getD-set-same (tableOf t x) p v 0 (omega (arith, table-length t x fits))
+        ∙ sym (getD-set-same t (tableStart x + p) v 0 (omega arith)))
+    inside q l (no e) =
+        getD-set-other (tableOf t x) p q v 0 e
+        ∙ table-at t x fits q l
+        ∙ sym (getD-set-other t (tableStart x + p) (tableStart x + q) v 0 (λ w. e (omega arith)))
+
+    go : (k : ℕ) → Dec (k < tableStart x) → Dec (k < tableStart x + 512) → getD (withTable t x T) k 0 ≡ getD (set t (tableStart x + p) v) k 0
+    go k (yes l) g = outside k (inl l) (omega arith)
+    go k (no l) (no g) = outside k (inr (omega arith)) (omega arith)
+    go k (no l) (yes g) =
+        let w : tableStart x + (k - tableStart x) ≡ k = omega arith in
+        subst (λ (k : ℕ). getD (withTable t x T) k 0 ≡ getD (set t (tableStart x + p) v) k 0) w
+        (splice-at (tableStart x) 512 T t size fits (k - tableStart x) (omega arith)
+        ∙ inside (k - tableStart x) (omega arith) (ℕ-discrete (k - tableStart x) p))
 
 -- ---- memory with zeros in its fixed length
 

@@ -1,4 +1,5 @@
 // The lent words: the settings, a node's record, the status of a node, sets of nodes.
+pub mod clear;
 pub mod record;
 pub mod sets;
 pub mod settings;

@@ -4,11 +4,11 @@ use Rattle.join.proofs.founding.found.Statement.{statement}
 use Rattle.join.proofs.Laws.{founded-is}
 use Rattle.join.proofs.founding.found.Tie as tie
 
-clear-state-requires : tie.Need-clear-state-requires
-clear-state-requires c κs = search needs
+clear-requires : tie.Need-clear-requires
+clear-requires c κs = search needs
 
-clear-tables-requires : tie.Need-clear-tables-requires
-clear-tables-requires c κs = search needs
+clear-requires-2 : tie.Need-clear-requires-2
+clear-requires-2 c κs = search needs
 
 store-requires : tie.Need-store-requires
 store-requires c κs = search needs
@@ -32,8 +32,8 @@ pub found-spec : {M : Type 1} → statement M
 found-spec =
     tie.close
     (tie.spec
-    clear-state-requires
-    clear-tables-requires
+    clear-requires
+    clear-requires-2
     store-requires
     store-requires-2
     write-own-requires

@@ -1,4 +1,4 @@
--- `clear_state`: each turn clears one place more. Assumes nothing.
+-- `clear`: each turn clears one place more. Assumes nothing.
 use Prim.Native.Nat.{_≤_, _-_}
 use mathlib.Core.Path.{_≡_, refl}
 use native.Mathlib.Omega.{arith}
@@ -6,23 +6,20 @@ use borrow.Author.Needs.{needs}
 use lib.ListN.{length, length-set}
 use Rattle.model.specs.Memory.{zeroed}
 use Rattle.model.proofs.Memory.{zeroed-goes, zeroed-ends}
-use Rattle.join.proofs.founding.clear_state.Statement.{statement}
-use Rattle.join.proofs.founding.clear_state.Tie as tie
+use Rattle.tables.proofs.clear.clear.Statement.{statement}
+use Rattle.tables.proofs.clear.clear.Tie as tie
 
 abbrev Inv-loop : tie.InvT-loop
-Inv-loop state₀ i₀ state i = (i ≤ 520) × (length state ≡ length state₀) × (state ≡ zeroed i state₀)
+Inv-loop tables₀ i₀ tables i = (i ≤ 32768) × (length tables ≡ length tables₀) × (tables ≡ zeroed i tables₀)
 
 abbrev μ-loop : tie.MeasureT-loop
-μ-loop state₀ i₀ state i = 520 - i
+μ-loop tables₀ i₀ tables i = 32768 - i
 
 loop-holds : tie.Need-loop-holds Inv-loop μ-loop
 loop-holds c = search needs
 
-mul-state : tie.Need-mul-state Inv-loop μ-loop
-mul-state c = omega arith
-
-slice-write-state : tie.Need-slice-write-state Inv-loop μ-loop
-slice-write-state c = omega arith
+slice-write-tables : tie.Need-slice-write-tables Inv-loop μ-loop
+slice-write-tables c = omega arith
 
 add-i : tie.Need-add-i Inv-loop μ-loop
 add-i c = omega arith
@@ -39,15 +36,14 @@ same-length c = omega arith
 returns : tie.Need-returns Inv-loop μ-loop
 returns c = search (needs, zeroed-ends)
 
-pub clear-state-spec : {M : Type 1} → statement M
-clear-state-spec =
+pub clear-spec : {M : Type 1} → statement M
+clear-spec =
     tie.close
     (tie.spec
     Inv-loop
     μ-loop
     loop-holds
-    mul-state
-    slice-write-state
+    slice-write-tables
     add-i
     loop-less
     loop-again

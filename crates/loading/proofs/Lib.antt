@@ -1,0 +1,2 @@
+-- The laws by which the code of loading meets the book.
+pub mod Steps

@@ -1,0 +1,62 @@
+-- `load_records`: a record more each turn. Assumes nothing.
+use mathlib.Core.Path.{refl}
+use Rattle.model.proofs.Loops.{each-ends, each-loop}
+use Rattle.loading.proofs.Steps.{appends, record-step}
+use Prim.Native.Nat.{_-_, _≤_}
+use mathlib.Core.Path.{_≡_}
+use lib.ListN.{length}
+use Rattle.model.specs.Loops.{eachBelow}
+use Rattle.model.specs.Image.{loadRecord}
+use native.Mathlib.Omega.{arith}
+use borrow.Author.Needs.{needs}
+use Rattle.loading.proofs.load_records.Statement.{statement}
+use Rattle.loading.proofs.load_records.Tie as tie
+
+abbrev Inv-loop : tie.InvT-loop
+Inv-loop tables₀ image nodes depth n r₀ tables r = (r ≤ n) × (length tables ≡ length tables₀) × (tables ≡ eachBelow r (loadRecord image) tables₀)
+
+abbrev μ-loop : tie.MeasureT-loop
+μ-loop tables₀ image nodes depth n r₀ tables r = n - r
+
+records-requires : tie.Need-records-requires Inv-loop μ-loop
+records-requires c κs = search needs
+
+loop-holds : tie.Need-loop-holds Inv-loop μ-loop
+loop-holds c = (omega arith, refl, search each-loop)
+
+record-at-requires : tie.Need-record-at-requires Inv-loop μ-loop
+record-at-requires c κs = search needs
+
+append-requires : tie.Need-append-requires Inv-loop μ-loop
+append-requires c κs = search appends
+
+add-r : tie.Need-add-r Inv-loop μ-loop
+add-r c = omega arith
+
+loop-less : tie.Need-loop-less Inv-loop μ-loop
+loop-less c = omega arith
+
+loop-again : tie.Need-loop-again Inv-loop μ-loop
+loop-again c = (omega arith, omega arith, search (each-loop, record-step))
+
+same-length : tie.Need-same-length Inv-loop μ-loop
+same-length c = omega arith
+
+returns : tie.Need-returns Inv-loop μ-loop
+returns c = each-ends _ _ _ (c .before .loop .r) _ (c .before .loop .inv .2) (omega arith) (omega arith)
+
+pub load-records-spec : {M : Type 1} → statement M
+load-records-spec =
+    tie.close
+    (tie.spec
+    Inv-loop
+    μ-loop
+    records-requires
+    loop-holds
+    record-at-requires
+    append-requires
+    add-r
+    loop-less
+    loop-again
+    same-length
+    returns)

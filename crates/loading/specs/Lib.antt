@@ -1,0 +1,2 @@
+-- What the contracts of loading an image ask.
+pub mod Loads

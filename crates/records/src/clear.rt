@@ -1,0 +1,16 @@
+// The words of the fixed length set to zero; those past it stay.
+ghost use mathlib.Core.Path.{_≡_};
+ghost use Prim.Native.Nat.{_≤_};
+ghost use lib.ListN.{length};
+ghost use Rattle.model.specs.Memory.{zeroed};
+
+pub fn clear(state: &mut [u64])
+    requires { ⌜ 520 ≤ length (now state) ⌝ }
+    ensures { λ r. ⌜ now (state .exit) ≡ zeroed 520 (now (state .entry)) ⌝ }
+{
+    let mut i = 0;
+    while i < 520 {
+        state[i] = 0;
+        i += 1;
+    }
+}

@@ -1,0 +1,16 @@
+// The bytes of the fixed length set to zero; those past it stay.
+ghost use mathlib.Core.Path.{_≡_};
+ghost use Prim.Native.Nat.{_≤_};
+ghost use lib.ListN.{length};
+ghost use Rattle.model.specs.Memory.{zeroed};
+
+pub fn clear(tables: &mut [u8])
+    requires { ⌜ 32768 ≤ length (now tables) ⌝ }
+    ensures { λ r. ⌜ now (tables .exit) ≡ zeroed 32768 (now (tables .entry)) ⌝ }
+{
+    let mut i = 0;
+    while i < 32768 {
+        tables[i] = 0;
+        i += 1;
+    }
+}
