@@ -1,8 +1,7 @@
 -- Refusals in code: the sentences of each call, and a call's two ends, refused or taken. Assumes nothing.
-use Prim.Native.Nat.{ℕ, _+_, _≤_, _<_}
+use Prim.Native.Nat.{ℕ, _+_, _≤_}
 use mathlib.Core.Path.{_≡_, refl, sym, ap, ap₂, _∙_}
-use mathlib.Core.Logic.{_≢_}
-use mathlib.Core.Bool.{Bool, true, false, cond, not, _&&_, _||_}
+use mathlib.Core.Bool.{Bool, true, false, cond, not, _&&_}
 use mathlib.Core.List.{List, [], _∷_}
 use lib.Dec.{eqb}
 use lib.ListN.{length}
@@ -14,7 +13,7 @@ use Rattle.model.specs.Sound.{isNode, sound}
 use Rattle.model.specs.Join.{founded, begun}
 use Rattle.model.specs.Lookup as book
 use Rattle.model.specs.Refusals.{refuse, memoryShort, idTaken, areNodes, foundRefusal, stateRefusal, beginSentences, beginRefusal, lookupRefusal}
-use Rattle.model.specs.Calls.{Outcome, refused, taken, unlessRefused, lookupFields, foundCall, beginCall, lookupCall}
+use Rattle.model.specs.Calls.{refused, taken, lookupFields, foundCall, beginCall, lookupCall}
 use Rattle.model.proofs.Calls.{taken-is, refused-is}
 use Rattle.model.proofs.Refusals.{refuse-leaves, refuse-goes, refuse-not-leaves, refuse-not-goes}
 use Rattle.model.proofs.Sound.{Sound}

@@ -1,2 +1,3 @@
 -- The laws by which the public calls meet the book.
 pub mod Laws
+pub mod VerdictLaws

@@ -15,3 +15,8 @@ pub record Placed (s : List ℕ) (n : ℕ) : Type 0 where
   pub long : 520 ≤ length s
   pub few : n ≤ 64
   pub count : n ≡ nodeCount s
+
+-- the records of the state's nodes stand in it
+pub record Counted (s : List ℕ) : Type 0 where
+  pub long : 520 ≤ length s
+  pub few : nodeCount s ≤ 64

@@ -4,3 +4,4 @@ pub mod beginning;
 pub mod founding;
 pub mod lookup;
 pub mod sentences;
+pub mod verdict;

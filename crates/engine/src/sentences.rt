@@ -2,10 +2,14 @@
 ghost use mathlib.Core.Path.{_≡_};
 ghost use Prim.Native.Nat.{_≤_};
 ghost use lib.ListN.{length};
+ghost use Rattle.model.specs.Loops.{allBelow, node};
+ghost use Rattle.model.specs.Memory.{nodeCount, isInSystem};
 ghost use Rattle.model.specs.Sound as book;
 ghost use Rattle.model.specs.Refusals.{memoryShort, stateRefusal};
-ghost use Rattle.model.proofs.Sound.{Sound};
+ghost use Rattle.engine.specs.Outcomes.{Counted};
+use records::record;
 use records::settings;
+use records::status::Status;
 use soundness::sound;
 
 // The fixed lengths of the lent memory, in words and in bytes.
@@ -45,4 +49,20 @@ pub fn is_node(state: &[u64], x: u64) -> bool
         return false;
     }
     x <= state[3]
+}
+
+// Not 15: "Verdict or writing finds a member not settled."
+pub fn all_in_system(state: &[u64]) -> bool
+    requires { ⌜ Counted (now state) ⌝ }
+    ensures { λ r. ⌜ r ≡ allBelow (nodeCount (now (state .entry))) (node (isInSystem (now (state .entry)))) ⌝ }
+{
+    let nodes = settings::load(state).nodes;
+    let mut k = 0;
+    while k < nodes {
+        if record::status(state, k + 1) != Status::IN_SYSTEM {
+            return false;
+        }
+        k += 1;
+    }
+    true
 }

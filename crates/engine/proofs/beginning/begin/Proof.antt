@@ -1,5 +1,4 @@
 -- `begin`: refused, or taken on a sound state with room. Assumes nothing.
-use native.Mathlib.Omega.{arith}
 use borrow.Author.Needs.{needs}
 use Rattle.engine.proofs.Laws.{begins, begin-refused, begin-done}
 use Rattle.engine.proofs.beginning.begin.Statement.{statement}

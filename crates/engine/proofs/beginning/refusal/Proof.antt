@@ -1,5 +1,4 @@
 -- `refusal`: 1 and 2, or the later sentences of a sound state. Assumes nothing.
-use native.Mathlib.Omega.{arith}
 use borrow.Author.Needs.{needs}
 use Rattle.engine.proofs.Laws.{state-sound, begin-state, begin-sentences}
 use Rattle.engine.proofs.beginning.refusal.Statement.{statement}

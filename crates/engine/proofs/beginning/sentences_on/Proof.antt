@@ -1,5 +1,4 @@
 -- `sentences_on`: each return is a sentence of the chain. Assumes nothing.
-use native.Mathlib.Omega.{arith}
 use borrow.Author.Needs.{needs}
 use Rattle.engine.proofs.Laws.{begin-7, begin-8, begin-9, begin-11, begin-12, begin-none, gateway-placed}
 use Rattle.engine.proofs.beginning.sentences_on.Statement.{statement}

@@ -1,5 +1,4 @@
 -- `found`: refused, or taken on memory that is long enough with digits in range. Assumes nothing.
-use native.Mathlib.Omega.{arith}
 use borrow.Author.Needs.{needs}
 use Rattle.engine.proofs.Laws.{founds, found-refused, found-done}
 use Rattle.engine.proofs.founding.found.Statement.{statement}

@@ -1,5 +1,4 @@
 -- `refusal`: each return is a sentence of the chain. Assumes nothing.
-use native.Mathlib.Omega.{arith}
 use borrow.Author.Needs.{needs}
 use Rattle.model.specs.Refusals.{foundRefusal}
 use Rattle.model.proofs.Refusals.{sentences}

@@ -1,5 +1,4 @@
 -- `lookup`: refused, or the lookup of the sound state. Assumes nothing.
-use native.Mathlib.Omega.{arith}
 use borrow.Author.Needs.{needs}
 use Rattle.routing.specs.Answer.{bookLookup}
 use Rattle.engine.proofs.Laws.{looks, lookup-refused, lookup-done}

@@ -1,5 +1,4 @@
 -- `refusal`: each return is a sentence of the chain. Assumes nothing.
-use native.Mathlib.Omega.{arith}
 use borrow.Author.Needs.{needs}
 use Rattle.engine.proofs.Laws.{state-long, lookup-state, lookup-from, lookup-to, lookup-none}
 use Rattle.engine.proofs.lookup.refusal.Statement.{statement}

@@ -1,5 +1,4 @@
 -- `is_node`: its two tests are those of `isNode`. Assumes nothing.
-use native.Mathlib.Omega.{arith}
 use borrow.Author.Needs.{needs}
 use Rattle.model.proofs.Early.{le-leaves, le-goes}
 use Rattle.engine.proofs.sentences.is_node.Statement.{statement}

@@ -1,6 +1,4 @@
 -- `memory_short`: its two tests are those of `memoryShort`. Assumes nothing.
-use native.Mathlib.Omega.{arith}
-use borrow.Author.Needs.{needs}
 use mathlib.Core.Path.{refl}
 use borrow.Author.Tests.{lt-ltb, le-ltb}
 use Rattle.model.proofs.Early.{true-or-leaves, false-or-goes}

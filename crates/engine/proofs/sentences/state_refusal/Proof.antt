@@ -1,5 +1,4 @@
 -- `state_refusal`: each return is a sentence of the chain. Assumes nothing.
-use native.Mathlib.Omega.{arith}
 use borrow.Author.Needs.{needs}
 use Rattle.engine.proofs.Laws.{state-short, state-unsound, state-good}
 use Rattle.engine.proofs.sentences.state_refusal.Statement.{statement}
