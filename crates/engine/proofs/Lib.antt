@@ -1,3 +1,4 @@
 -- The laws by which the public calls meet the book.
 pub mod Laws
 pub mod VerdictLaws
+pub mod DeliverLaws
