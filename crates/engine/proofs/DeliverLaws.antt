@@ -1,16 +1,15 @@
 -- Delivering: its sentences by what the code found, and its two ends, refused or taken. Assumes nothing.
-use Prim.Native.Nat.{ℕ, _≤_}
+use Prim.Native.Nat.{ℕ}
 use mathlib.Core.Path.{_≡_, refl, sym, ap, ap₂, _∙_}
 use mathlib.Core.Bool.{Bool, true, false, not, _&&_, _||_}
-use mathlib.Core.List.{List, [], _∷_}
+use mathlib.Core.List.{List, []}
 use lib.Dec.{eqb}
-use native.Mathlib.Nat.{le-trans}
-use borrow.Author.Tests.{eq-eqb, ne-eqb, not-true, not-false}
+use borrow.Author.Tests.{not-true, not-false}
 use Rattle.model.specs.Memory.{statusOf, targetOf, pendingOf, copying, waiting, hasNode, isInSystem, isJoining}
 use Rattle.model.specs.Sound.{isNode}
-use Rattle.model.specs.Join.{delivery, delivered, outstanding}
+use Rattle.model.specs.Join.{delivery, outstanding}
 use Rattle.model.specs.Refusals.{refuse, areNodes, waitHeld, stateRefusal, deliverRefusal}
-use Rattle.model.specs.Calls.{Outcome, refused, taken, deliveryFields, deliverCall}
+use Rattle.model.specs.Calls.{Outcome, refused, deliverCall}
 use Rattle.model.proofs.Calls.{taken-is, refused-is}
 use Rattle.model.proofs.Early.{true-or-leaves, false-or-goes, eq-goes, eq-leaves}
 use Rattle.model.proofs.Refusals.{refuse-leaves, refuse-goes, refuse-not-leaves, refuse-not-goes}

@@ -1,10 +1,17 @@
 // The C interface: see include/overlay.h. Each function is one public call of the engine on lent memory, with its answer packed into 64
 // bits; bits 0 to 7 are the refusal.
+mod delivered;
+mod pack;
+
 ghost use mathlib.Core.Path.{_≡_};
 ghost use mathlib.Core.List.{[], _∷_};
 ghost use Rattle.model.specs.Refusals.{stateRefusal};
-ghost use Rattle.model.specs.Calls.{foundCall};
+ghost use Rattle.model.specs.Calls.{foundCall, beginCall, deliverCall, lookupCall};
 ghost use Rattle.engine.specs.Outcomes.{leaves};
+ghost use Rattle.overlay.specs.Packed.{gives, packing};
+use crate::delivered::as_numbers;
+use crate::pack::bit;
+use crate::pack::pack;
 
 // Founding: base, digits, depth and the id of node 1. Answers the refusal.
 #[no_mangle]
@@ -19,6 +26,38 @@ pub extern "C" fn overlay_found(
     ensures { λ r. ⌜ leaves (now (state .exit)) (now (tables .exit)) (r ∷ []) ≡ foundCall (now (state .entry)) (now (tables .entry)) base digits depth id ⌝ }
 {
     engine::founding::found(state, tables, base, digits, depth, id)
+}
+
+// Beginning a join: the id and the gateway. Answers the new node.
+#[no_mangle]
+pub extern "C" fn overlay_begin(state: &mut [u64], tables: &mut [u8], id: u32, gateway: u64) -> u64
+    ensures { λ r. ⌜ gives (now (state .exit)) (now (tables .exit)) r ≡ packing (beginCall (now (state .entry)) (now (tables .entry)) id gateway) ⌝ }
+{
+    let begun = engine::beginning::begin(state, tables, id, gateway);
+    pack(begun.refusal, begun.node, 0, 0, 0)
+}
+
+// Delivering the request of one node to another. Answers what it was, the attach level if it attached, and whether the sender settled.
+#[no_mangle]
+pub extern "C" fn overlay_deliver(
+    state: &mut [u64],
+    tables: &mut [u8],
+    sender: u64,
+    receiver: u64,
+) -> u64
+    ensures { λ r. ⌜ gives (now (state .exit)) (now (tables .exit)) r ≡ packing (deliverCall (now (state .entry)) (now (tables .entry)) sender receiver) ⌝ }
+{
+    let answer = as_numbers(engine::delivering::deliver(state, tables, sender, receiver));
+    pack(answer.refusal, answer.kind, answer.level, answer.settled, 0)
+}
+
+// Lookup from one node to another. Answers whether it arrived, the hops and the last node.
+#[no_mangle]
+pub extern "C" fn overlay_lookup(state: &[u64], tables: &[u8], from: u64, to: u64) -> u64
+    ensures { λ r. ⌜ gives (now (state .entry)) (now (tables .entry)) r ≡ packing (lookupCall (now (state .entry)) (now (tables .entry)) from to) ⌝ }
+{
+    let found = engine::lookup::lookup(state, tables, from, to);
+    pack(found.refusal, bit(found.arrived), found.hops, found.last, 0)
 }
 
 // What sentences 1 and 2 say of this memory: 1 too short, 2 not sound, 0 neither.

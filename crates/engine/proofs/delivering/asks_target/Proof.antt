@@ -1,5 +1,4 @@
 -- `asks_target`: a node that neither copies nor waits asks no target. Assumes nothing.
-use native.Mathlib.Omega.{arith}
 use borrow.Author.Needs.{needs}
 use mathlib.Core.Path.{refl}
 use Rattle.model.proofs.Bools.{and-leaves, and-goes}

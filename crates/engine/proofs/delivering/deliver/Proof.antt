@@ -1,5 +1,4 @@
 -- `deliver`: refused, or taken on a sound state with the request outstanding. Assumes nothing.
-use native.Mathlib.Omega.{arith}
 use borrow.Author.Needs.{needs}
 use Rattle.engine.proofs.DeliverLaws.{delivers, deliver-refused, deliver-done}
 use Rattle.engine.proofs.delivering.deliver.Statement.{statement}

@@ -1,5 +1,4 @@
 -- `outstanding`: the target of its own request, or a node of its asked set. Assumes nothing.
-use native.Mathlib.Omega.{arith}
 use borrow.Author.Needs.{needs}
 use Rattle.engine.proofs.DeliverLaws.{asks-target, asks-pending}
 use Rattle.engine.proofs.delivering.outstanding.Statement.{statement}

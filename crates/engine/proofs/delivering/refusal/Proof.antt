@@ -1,5 +1,4 @@
 -- `refusal`: each return is a sentence of the chain. Assumes nothing.
-use native.Mathlib.Omega.{arith}
 use borrow.Author.Needs.{needs}
 use Rattle.engine.proofs.Laws.{state-long}
 use Rattle.engine.proofs.DeliverLaws.{placed, deliver-state, deliver-sender, deliver-receiver, deliver-sentences}

@@ -1,5 +1,4 @@
 -- `sentences_on`: each return is a sentence of the chain. Assumes nothing.
-use native.Mathlib.Omega.{arith}
 use borrow.Author.Needs.{needs}
 use Rattle.engine.proofs.DeliverLaws.{deliver-13, deliver-14, deliver-none}
 use Rattle.engine.proofs.delivering.sentences_on.Statement.{statement}

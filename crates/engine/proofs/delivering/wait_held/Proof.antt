@@ -1,5 +1,4 @@
 -- `wait_held`: the sender waits, and the receiver is not settled. Assumes nothing.
-use native.Mathlib.Omega.{arith}
 use borrow.Author.Needs.{needs}
 use Rattle.engine.proofs.DeliverLaws.{not-waiting, waits-on}
 use Rattle.engine.proofs.delivering.wait_held.Statement.{statement}

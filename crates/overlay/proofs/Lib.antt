@@ -1,0 +1,2 @@
+-- The laws by which the C interface packs the answers of the public calls.
+pub mod Fields

@@ -1,0 +1,45 @@
+// A delivery's answer as numbers: the refusal; 1 copied, 2 sent on, 3 attached, 4 notified; the level where it attached; 1 if the
+// sender settled.
+ghost use mathlib.Core.Path.{_≡_};
+ghost use Rattle.delivery.specs.Answers.{answerFields};
+ghost use Rattle.overlay.specs.Numbers.{listed, takenFields};
+use crate::pack::bit;
+use delivery::answer::Answer;
+use delivery::answer::Step;
+
+pub struct Numbers {
+    pub refusal: u64,
+    pub kind: u64,
+    pub level: u64,
+    pub settled: u64,
+}
+
+fn taken(kind: u64, level: u64, settled: bool) -> Numbers
+    ensures { λ r. ⌜ listed r ≡ takenFields kind level settled ⌝ }
+{
+    Numbers {
+        refusal: 0,
+        kind,
+        level,
+        settled: bit(settled),
+    }
+}
+
+pub fn as_numbers(answer: Answer) -> Numbers
+    ensures { λ r. ⌜ listed r ≡ answerFields answer ⌝ }
+{
+    let settled = answer.settled;
+    let step = answer.step;
+    match step {
+        Step::Refused(number) => Numbers {
+            refusal: number,
+            kind: 0,
+            level: 0,
+            settled: 0,
+        },
+        Step::Copied => taken(1, 0, settled),
+        Step::SentOn => taken(2, 0, settled),
+        Step::Attached(level) => taken(3, level, settled),
+        Step::Notified => taken(4, 0, settled),
+    }
+}
