@@ -27,7 +27,7 @@ use Rattle.delivery.specs.Answers.{outcome, stepFields, answerFields}
 use Rattle.engine.specs.Outcomes.{leaves}
 use Rattle.overlay.specs.declared.delivered.Numbers.{Numbers}
 use Rattle.overlay.specs.Numbers.{listed, takenFields}
-use Rattle.overlay.specs.Packed.{packed, packing, gives, Fit}
+use Rattle.overlay.specs.Packed.{packed, packing, gives}
 
 -- each field is below 256
 unfoldable pub Bytes : List ℕ → Type 0
@@ -182,51 +182,86 @@ module _ (r : Answer) where
 
 -- ---- what the calls pack
 
-module _ (o : Outcome) (h : Bytes (o .answer)) (s t : List ℕ) where
-  -- the answer's fields, as the code passes them
-  fit-2 : (r a : ℕ) → leaves s t (r ∷ a ∷ []) ≡ o → Fit r a 0 0 0
-  unfolding Bytes
-  fit-2 r a e =
-      let k : Bytes (r ∷ a ∷ []) = subst (λ (o : Outcome). Bytes (o .answer)) (sym e) h in
-      record { refusal = k .0; first = k .1 .0; second = omega arith; third = omega arith; fourth = omega arith }
+-- a field that is not there
+pub zero-fits : 0 < 256
+zero-fits = omega arith
 
-  fit-4 : (r a b c : ℕ) → leaves s t (r ∷ a ∷ b ∷ c ∷ []) ≡ o → Fit r a b c 0
-  unfolding Bytes
-  fit-4 r a b c e =
-      let k : Bytes (r ∷ a ∷ b ∷ c ∷ []) = subst (λ (o : Outcome). Bytes (o .answer)) (sym e) h in
-      record { refusal = k .0; first = k .1 .0; second = k .1 .1 .0; third = k .1 .1 .1 .0; fourth = omega arith }
+packs : (o : Outcome) (s t fields : List ℕ) (n : ℕ) → leaves s t fields ≡ o → n ≡ packed fields → gives s t n ≡ packing o
+unfolding packing
+packs o s t fields n e f = ap (λ (n : ℕ). gives s t n) f ∙ ap packing e
 
-  packs : (fields : List ℕ) (n : ℕ) → leaves s t fields ≡ o → n ≡ packed fields → gives s t n ≡ packing o
-  unfolding packing
-  packs fields n e f = ap (λ (n : ℕ). gives s t n) f ∙ ap packing e
+answered : (o : Outcome) (s t fields : List ℕ) → Bytes (o .answer) → leaves s t fields ≡ o → Bytes fields
+answered o s t fields h e = subst (λ (o : Outcome). Bytes (o .answer)) (sym e) h
 
 module _ (s t s₁ t₁ : List ℕ) (id g r x : ℕ) (e : leaves s₁ t₁ (r ∷ x ∷ []) ≡ beginCall s t id g) where
-  pub begin-fit : Fit r x 0 0 0
-  begin-fit = fit-2 (beginCall s t id g) (begin-bytes s t id g) s₁ t₁ r x e
+  fields-begun : Bytes (r ∷ x ∷ [])
+  fields-begun = answered (beginCall s t id g) s₁ t₁ (r ∷ x ∷ []) (begin-bytes s t id g) e
+
+  pub begun-refusal : r < 256
+  unfolding Bytes
+  begun-refusal = fields-begun .0
+
+  pub begun-node : x < 256
+  unfolding Bytes
+  begun-node = fields-begun .1 .0
 
   pub begin-packs : (n : ℕ) → n ≡ packed (r ∷ x ∷ 0 ∷ 0 ∷ 0 ∷ []) → gives s₁ t₁ n ≡ packing (beginCall s t id g)
   unfolding packed
-  begin-packs n f = packs (beginCall s t id g) (begin-bytes s t id g) s₁ t₁ (r ∷ x ∷ []) n e f
+  begin-packs n f = packs (beginCall s t id g) s₁ t₁ (r ∷ x ∷ []) n e f
+
+pub ruleset begun-fits = (begun-refusal, begun-node, zero-fits)
 
 module _ (s t s₁ t₁ : List ℕ) (x y : ℕ) (a : Answer) (n : Numbers) (e : outcome s₁ t₁ a ≡ deliverCall s t x y) (f : listed n ≡ answerFields a) where
-  deliver-is : leaves s₁ t₁ (listed n) ≡ deliverCall s t x y
-  deliver-is = ap (leaves s₁ t₁) f ∙ e
+  delivered-is : leaves s₁ t₁ (listed n) ≡ deliverCall s t x y
+  delivered-is = ap (leaves s₁ t₁) f ∙ e
 
-  pub deliver-fit : Fit (n .refusal) (n .kind) (n .level) (n .settled) 0
-  deliver-fit = fit-4 (deliverCall s t x y) (deliver-bytes s t x y) s₁ t₁ _ _ _ _ deliver-is
+  fields-delivered : Bytes (listed n)
+  fields-delivered = answered (deliverCall s t x y) s₁ t₁ (listed n) (deliver-bytes s t x y) delivered-is
+
+  pub delivered-refusal : n .refusal < 256
+  unfolding Bytes
+  delivered-refusal = fields-delivered .0
+
+  pub delivered-kind : n .kind < 256
+  unfolding Bytes
+  delivered-kind = fields-delivered .1 .0
+
+  pub delivered-level : n .level < 256
+  unfolding Bytes
+  delivered-level = fields-delivered .1 .1 .0
+
+  pub delivered-settled : n .settled < 256
+  unfolding Bytes
+  delivered-settled = fields-delivered .1 .1 .1 .0
 
   pub deliver-packs : (m : ℕ) → m ≡ packed (n .refusal ∷ n .kind ∷ n .level ∷ n .settled ∷ 0 ∷ []) → gives s₁ t₁ m ≡ packing (deliverCall s t x y)
   unfolding packed
-  deliver-packs m h = packs (deliverCall s t x y) (deliver-bytes s t x y) s₁ t₁ (listed n) m deliver-is h
+  deliver-packs m h = packs (deliverCall s t x y) s₁ t₁ (listed n) m delivered-is h
 
-module _ (s t : List ℕ) (u z r b hops last : ℕ) (a : Bool) (q : b ≡ cond a 1 0)
-    (e : leaves s t (r ∷ cond a 1 0 ∷ hops ∷ last ∷ []) ≡ lookupCall s t u z) where
-  lookup-is : leaves s t (r ∷ b ∷ hops ∷ last ∷ []) ≡ lookupCall s t u z
-  lookup-is = ap (λ (b : ℕ). leaves s t (r ∷ b ∷ hops ∷ last ∷ [])) q ∙ e
+pub ruleset delivered-fits = (delivered-refusal, delivered-kind, delivered-level, delivered-settled, zero-fits)
 
-  pub lookup-fit : Fit r b hops last 0
-  lookup-fit = fit-4 (lookupCall s t u z) (lookup-bytes s t u z) s t _ _ _ _ lookup-is
+module _ (s t : List ℕ) (u z r hops last : ℕ) (a : Bool) (e : leaves s t (r ∷ cond a 1 0 ∷ hops ∷ last ∷ []) ≡ lookupCall s t u z) where
+  fields-found : Bytes (r ∷ cond a 1 0 ∷ hops ∷ last ∷ [])
+  fields-found = answered (lookupCall s t u z) s t (r ∷ cond a 1 0 ∷ hops ∷ last ∷ []) (lookup-bytes s t u z) e
 
-  pub lookup-packs : (n : ℕ) → n ≡ packed (r ∷ b ∷ hops ∷ last ∷ 0 ∷ []) → gives s t n ≡ packing (lookupCall s t u z)
+  pub found-refusal : r < 256
+  unfolding Bytes
+  found-refusal = fields-found .0
+
+  pub found-arrived : (b : ℕ) → b ≡ cond a 1 0 → b < 256
+  found-arrived b q = subst (λ (b : ℕ). b < 256) (sym q) (bit-below a)
+
+  pub found-hops : hops < 256
+  unfolding Bytes
+  found-hops = fields-found .1 .1 .0
+
+  pub found-last : last < 256
+  unfolding Bytes
+  found-last = fields-found .1 .1 .1 .0
+
+  pub lookup-packs : (b n : ℕ) → b ≡ cond a 1 0 → n ≡ packed (r ∷ b ∷ hops ∷ last ∷ 0 ∷ []) → gives s t n ≡ packing (lookupCall s t u z)
   unfolding packed
-  lookup-packs n h = packs (lookupCall s t u z) (lookup-bytes s t u z) s t (r ∷ b ∷ hops ∷ last ∷ []) n lookup-is h
+  lookup-packs b n q h =
+      packs (lookupCall s t u z) s t (r ∷ b ∷ hops ∷ last ∷ []) n (ap (λ (b : ℕ). leaves s t (r ∷ b ∷ hops ∷ last ∷ [])) q ∙ e) h
+
+pub ruleset found-fits = (found-refusal, found-arrived, found-hops, found-last, zero-fits)
