@@ -1,5 +1,7 @@
 //! The proved engine, linked from its archive by the C interface. A slice passes as a pointer and a length.
 
+use crate::engine::{Engine, Second};
+
 mod interface {
     extern "C" {
         pub fn overlay_found(
@@ -13,6 +15,33 @@ mod interface {
             id: u32,
         ) -> u64;
 
+        pub fn overlay_begin(
+            state: *mut u64,
+            state_len: usize,
+            tables: *mut u8,
+            tables_len: usize,
+            id: u32,
+            gateway: u64,
+        ) -> u64;
+
+        pub fn overlay_deliver(
+            state: *mut u64,
+            state_len: usize,
+            tables: *mut u8,
+            tables_len: usize,
+            sender: u64,
+            receiver: u64,
+        ) -> u64;
+
+        pub fn overlay_lookup(
+            state: *const u64,
+            state_len: usize,
+            tables: *const u8,
+            tables_len: usize,
+            from: u64,
+            to: u64,
+        ) -> u64;
+
         pub fn overlay_sound(
             state: *const u64,
             state_len: usize,
@@ -22,25 +51,55 @@ mod interface {
     }
 }
 
-pub fn found(state: &mut [u64], tables: &mut [u8], settings: [u64; 3], id: u32) -> u64 {
-    let [base, digits, depth] = settings;
-    // SAFETY: the two slices are valid for their lengths, may be written and do not overlap.
-    unsafe {
-        interface::overlay_found(
-            state.as_mut_ptr(),
-            state.len(),
-            tables.as_mut_ptr(),
-            tables.len(),
-            base,
-            digits,
-            depth,
-            id,
-        )
-    }
-}
+/// The proved engine. It has no reading, verdict and writing yet: the second engine stands in for them, so that runs
+/// with these calls go on.
+pub struct Archive;
 
-/// What sentences 1 and 2 say of the memory: 0, 1 or 2.
-pub fn sound(state: &[u64], tables: &[u8]) -> u64 {
-    // SAFETY: the two slices are valid for their lengths.
-    unsafe { interface::overlay_sound(state.as_ptr(), state.len(), tables.as_ptr(), tables.len()) }
+// SAFETY of every call below: the two slices are valid for their lengths, may be written and do not overlap.
+impl Engine for Archive {
+    fn name(&self) -> &str {
+        "proved"
+    }
+
+    fn sound(&self, state: &mut [u64], tables: &mut [u8]) -> u64 {
+        let (words, bytes) = (state.len(), tables.len());
+        unsafe { interface::overlay_sound(state.as_mut_ptr(), words, tables.as_mut_ptr(), bytes) }
+    }
+
+    fn found(&self, state: &mut [u64], tables: &mut [u8], settings: [u64; 3], id: u32) -> u64 {
+        let (words, bytes) = (state.len(), tables.len());
+        let (state, tables) = (state.as_mut_ptr(), tables.as_mut_ptr());
+        let [base, digits, depth] = settings;
+        unsafe { interface::overlay_found(state, words, tables, bytes, base, digits, depth, id) }
+    }
+
+    fn read(&self, state: &mut [u64], tables: &mut [u8], image: &[u8]) -> u64 {
+        Second.read(state, tables, image)
+    }
+
+    fn begin(&self, state: &mut [u64], tables: &mut [u8], id: u32, gateway: u64) -> u64 {
+        let (words, bytes) = (state.len(), tables.len());
+        let (state, tables) = (state.as_mut_ptr(), tables.as_mut_ptr());
+        unsafe { interface::overlay_begin(state, words, tables, bytes, id, gateway) }
+    }
+
+    fn deliver(&self, state: &mut [u64], tables: &mut [u8], sender: u64, receiver: u64) -> u64 {
+        let (words, bytes) = (state.len(), tables.len());
+        let (state, tables) = (state.as_mut_ptr(), tables.as_mut_ptr());
+        unsafe { interface::overlay_deliver(state, words, tables, bytes, sender, receiver) }
+    }
+
+    fn lookup(&self, state: &mut [u64], tables: &mut [u8], from: u64, to: u64) -> u64 {
+        let (words, bytes) = (state.len(), tables.len());
+        let (state, tables) = (state.as_mut_ptr(), tables.as_mut_ptr());
+        unsafe { interface::overlay_lookup(state, words, tables, bytes, from, to) }
+    }
+
+    fn verdict(&self, state: &mut [u64], tables: &mut [u8]) -> u64 {
+        Second.verdict(state, tables)
+    }
+
+    fn write(&self, state: &mut [u64], tables: &mut [u8], out: &mut [u8]) -> u64 {
+        Second.write(state, tables, out)
+    }
 }

@@ -29,32 +29,62 @@ impl Display for Difference {
     }
 }
 
+/// Two engines, each with the same memory of its own.
+pub struct Pair<'a> {
+    engines: [&'a dyn Engine; 2],
+    memories: [Lent; 2],
+    before: Lent,
+}
+
+impl<'a> Pair<'a> {
+    pub fn new(a: &'a dyn Engine, b: &'a dyn Engine) -> Pair<'a> {
+        Pair {
+            engines: [a, b],
+            memories: [Lent::noise(), Lent::noise()],
+            before: Lent::noise(),
+        }
+    }
+
+    pub fn memory(&self) -> &Lent {
+        &self.memories[0]
+    }
+
+    /// Does what the line says with both engines; a call's packed answer, 0 for other lines.
+    pub fn obey(&mut self, line: &Line) -> Result<u64, String> {
+        self.before.clone_from(&self.memories[0]);
+        let [answer, other] = [0, 1].map(|at| self.memories[at].obey(self.engines[at], line));
+        self.differ(answer, other)?;
+        left_alone(line, answer, &self.before, &self.memories[0])?;
+        Ok(answer)
+    }
+
+    /// Puts words and bytes at the start of both memories.
+    pub fn restore(&mut self, words: &[u64], bytes: &[u8]) {
+        for memory in &mut self.memories {
+            memory.state[..words.len()].copy_from_slice(words);
+            memory.tables[..bytes.len()].copy_from_slice(bytes);
+        }
+    }
+
+    fn differ(&self, answer: u64, other: u64) -> Result<(), String> {
+        let [a, b] = &self.memories;
+        let names = || format!("{} and {}", self.engines[0].name(), self.engines[1].name());
+        if answer != other {
+            return Err(format!("{} answer {answer:#x} and {other:#x}", names()));
+        }
+        same(names, "state word", &a.state, &b.state)?;
+        same(names, "table byte", &a.tables, &b.tables)?;
+        same(names, "output byte", &a.out, &b.out)
+    }
+}
+
 pub fn compare(a: &dyn Engine, b: &dyn Engine, script: &Script) -> Result<(), Difference> {
-    let (mut with_a, mut with_b) = (Lent::noise(), Lent::noise());
-    let mut before = with_a.clone();
+    let mut pair = Pair::new(a, b);
     for (number, line) in script.lines.iter().enumerate() {
-        before.clone_from(&with_a);
-        let answer = with_a.obey(a, line);
-        let other = with_b.obey(b, line);
-        let judged = differ((a, answer, &with_a), (b, other, &with_b))
-            .and_then(|()| left_alone(line, answer, &before, &with_a));
+        let judged = pair.obey(line);
         judged.map_err(|what| Difference { line: number, what })?;
     }
     Ok(())
-}
-
-/// An engine with its answer and the memory after it.
-type Outcome<'a> = (&'a dyn Engine, u64, &'a Lent);
-
-fn differ(a: Outcome, b: Outcome) -> Result<(), String> {
-    let ((a, answer, with_a), (b, other, with_b)) = (a, b);
-    let names = format!("{} and {}", a.name(), b.name());
-    if answer != other {
-        return Err(format!("{names} answer {answer:#x} and {other:#x}"));
-    }
-    same(&names, "state word", &with_a.state, &with_b.state)?;
-    same(&names, "table byte", &with_a.tables, &with_b.tables)?;
-    same(&names, "output byte", &with_a.out, &with_b.out)
 }
 
 /// What a call may not touch: guards always, everything on a refusal, the state in a call that only looks.
@@ -77,7 +107,7 @@ fn left_alone(line: &Line, answer: u64, before: &Lent, after: &Lent) -> Result<(
     };
     let written = if *call == Call::Write { answer >> 8 } else { 0 };
     let out = written as usize;
-    let names = "before and after";
+    let names = || "before and after".to_string();
     same(
         names,
         "state word",
@@ -93,7 +123,12 @@ fn left_alone(line: &Line, answer: u64, before: &Lent, after: &Lent) -> Result<(
     same(names, "output byte", &before.out[out..], &after.out[out..])
 }
 
-fn same<T: PartialEq + Display>(names: &str, what: &str, a: &[T], b: &[T]) -> Result<(), String> {
+fn same<T: PartialEq + Display>(
+    names: impl Fn() -> String,
+    what: &str,
+    a: &[T],
+    b: &[T],
+) -> Result<(), String> {
     if a == b {
         return Ok(());
     }
@@ -103,6 +138,7 @@ fn same<T: PartialEq + Display>(names: &str, what: &str, a: &[T], b: &[T]) -> Re
         .expect("of one length");
     let length = a.len();
     Err(format!(
-        "{names}: {what} {place} of {length} is {one} and {other}"
+        "{}: {what} {place} of {length} is {one} and {other}",
+        names()
     ))
 }

@@ -9,7 +9,7 @@ mod states;
 pub use damage::damage;
 pub use ids::{bad_id, bad_number, fresh_id, id, settings};
 pub use images::{changed_bytes, cuts, damaged_image, image, image_damages};
-pub use runs::{run, run_from_built};
+pub use runs::{run, run_from_built, run_in};
 pub use states::{built_state, reached_state, set_up_built};
 
 /// Splitmix64.

@@ -6,8 +6,6 @@ mod differences;
 mod edges;
 #[path = "second_engine/images.rs"]
 mod images;
-#[path = "second_engine/orders.rs"]
-mod orders;
 #[path = "second_engine/plain.rs"]
 mod plain;
 #[path = "second_engine/refusals.rs"]

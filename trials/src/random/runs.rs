@@ -6,6 +6,7 @@ use crate::lent::{Lent, ALL};
 use crate::script::{Call, Lend, Line, Script};
 use crate::second::memory::{STATE_WORDS, TABLE_BYTES};
 use crate::second::network::Network;
+use crate::second::Settings;
 
 /// Writes a script while playing it, so as to know what is outstanding.
 struct Maker<'a> {
@@ -20,8 +21,14 @@ struct Maker<'a> {
 
 /// A run of so many lines from a founding; also answers the memory at its end.
 pub fn run(rng: &mut Rng, lines: usize) -> (Script, Lent) {
+    let settings = settings(rng);
+    run_in(rng, settings, lines)
+}
+
+/// The same with these settings, until a founding or a reading among the lines changes them.
+pub fn run_in(rng: &mut Rng, settings: Settings, lines: usize) -> (Script, Lent) {
     let mut maker = Maker::new(rng);
-    maker.found();
+    maker.found(settings);
     maker.go_on(lines)
 }
 
@@ -73,8 +80,7 @@ impl<'a> Maker<'a> {
         Network::decode(self.memory.used_state())
     }
 
-    fn found(&mut self) {
-        let chosen = settings(self.rng);
+    fn found(&mut self, chosen: Settings) {
         let id = id(self.rng, chosen);
         let settings = [chosen.base(), chosen.digits(), chosen.depth()].map(|n| n as u64);
         self.call(Call::Found { settings, id });
@@ -142,7 +148,8 @@ impl<'a> Maker<'a> {
     /// Starts a new run, rarely by founding.
     fn found_or_read_again(&mut self) {
         if self.images.is_empty() || self.rng.once_in(8) {
-            return self.found();
+            let chosen = settings(self.rng);
+            return self.found(chosen);
         }
         let place = self.rng.below(self.images.len());
         let image = self.images[place].clone();

@@ -1,0 +1,90 @@
+//! The edges that document 01 lists without a P. Answers are packed: the refusal lowest, then a byte for each field.
+
+use trials::script::Call;
+use trials::second::Settings;
+
+use crate::support::Both;
+
+const CONSISTENT: u64 = 0x100;
+const COPIED: u64 = 0x100;
+const ATTACHED: u64 = 0x300;
+const SETTLED: u64 = 1 << 24;
+
+#[test]
+fn joining_one_node_makes_e1() {
+    let mut both = Both::founded([2, 2, 1], 0);
+    assert_eq!(both.begin(1, 1), 2 << 8);
+    assert_eq!(both.deliver(2, 1), COPIED);
+    assert_eq!(both.deliver(2, 1), ATTACHED | SETTLED);
+    assert_eq!(both.deliver(2, 1), 13);
+    assert!(both.network().all_in_system());
+    let e1 = [
+        4, 1, 2, 2, 1, // settings
+        2, 0, 0, 0, 0, 1, 0, 0, 0, // nodes
+        6, 0, 1, 0, 0, 1, 1, 0, 1, 2, 1, 1, 0, 1, 2, 0, 0, 1, 2, 0, 1, 2, 2, 1, 0,
+        2, // records
+    ];
+    assert_eq!(both.image(), e1);
+}
+
+/// 10261 joins alone the network of 11261, 13061, 31701 and 10353, in any order of these and by any gateway.
+#[test]
+fn attach_level_falls_as_depth_grows() {
+    let others = [0x11261, 0x13061, 0x31701, 0x10353];
+    for (depth, level) in [(1, 3), (2, 2), (3, 1), (4, 0)] {
+        for founder in 0..4 {
+            for gateway in 1..=4 {
+                let mut both = Both::founded([8, 5, depth], others[founder]);
+                for step in 1..4 {
+                    both.begin(others[(founder + step) % 4], 1);
+                    both.settle();
+                }
+                assert_eq!(both.call(Call::Verdict), CONSISTENT);
+                assert_eq!(both.begin(0x10261, gateway), 5 << 8);
+                let taken = both.settle();
+                let attached = taken.iter().find(|&answer| answer & 0xffff == ATTACHED);
+                assert_eq!(attached.unwrap() >> 16 & 0xff, level, "depth {depth}");
+                assert_eq!(both.call(Call::Verdict), CONSISTENT);
+            }
+        }
+    }
+}
+
+#[test]
+fn a_64th_node_joins_and_a_65th_is_refused() {
+    for settings in [[16, 2, 1], [4, 4, 2], [2, 7, 3], [16, 8, 4]] {
+        let [base, digits, depth] = settings;
+        let valid = Settings::new(base, digits, depth).unwrap();
+        let ids: Vec<u32> = (0..).filter(|&id| valid.valid(id)).take(65).collect();
+        let mut both = Both::founded(settings, ids[0]);
+        for (&id, number) in ids[1..64].iter().zip(2..) {
+            let gateway = u64::from(id) % (number - 1) + 1;
+            assert_eq!(both.begin(id, gateway), number << 8);
+            both.settle();
+        }
+        assert_eq!(both.network().count(), 64);
+        assert_eq!(both.call(Call::Verdict), CONSISTENT);
+        assert_eq!(both.begin(ids[64], 1), 11);
+        let (from, to) = (1, 64);
+        assert_eq!(
+            both.call(Call::Lookup { from, to }) & 0xff00_ffff,
+            0x4000_0100
+        );
+    }
+}
+
+/// "A wait request's receiver isn't settled; the request stays outstanding."
+#[test]
+fn a_held_wait_is_not_answered() {
+    let mut both = Both::founded([2, 3, 1], 0x000);
+    both.begin(0x100, 1);
+    both.settle();
+    both.begin(0x010, 1);
+    assert_eq!(both.deliver(3, 1), COPIED);
+    assert_eq!(both.deliver(3, 1), ATTACHED | 1 << 16);
+    both.begin(0x110, 1);
+    assert_eq!(both.deliver(4, 1), COPIED);
+    assert_eq!(both.deliver(4, 3), 14);
+    assert_eq!(both.deliver(3, 2), 0x400 | SETTLED);
+    assert_eq!(both.deliver(4, 3) & 0xffff, ATTACHED);
+}

@@ -1,0 +1,106 @@
+//! Random runs with many joins in flight, a quarter of the calls bad.
+
+use trials::archive::Archive;
+use trials::compare::compare;
+use trials::engine::Second;
+use trials::lent::Lent;
+use trials::random::{bad_number, damage, fresh_id, run, run_from_built, run_in, Rng};
+use trials::script::{Call, Line, Script};
+use trials::second::network::Network;
+use trials::second::Settings;
+
+fn agree(seed: u64, script: &Script) {
+    if let Err(difference) = compare(&Archive, &Second, script) {
+        panic!("{}", difference.report(seed, script));
+    }
+}
+
+#[test]
+fn runs_agree() {
+    for seed in 0..800 {
+        let mut rng = Rng::new(seed);
+        let lines = rng.pick(&[50, 200, 800]);
+        agree(seed, &run(&mut rng, lines).0);
+    }
+}
+
+#[test]
+fn runs_in_every_setting_agree() {
+    let settings = (2..=16).flat_map(|base| {
+        (1..=8).flat_map(move |digits| (1..=4).map(move |depth| (base, digits, depth)))
+    });
+    for (seed, (base, digits, depth)) in (10_000..).zip(settings) {
+        let settings = Settings::new(base, digits, depth).expect("in range");
+        agree(seed, &run_in(&mut Rng::new(seed), settings, 250).0);
+    }
+}
+
+#[test]
+fn runs_from_any_sound_state_agree() {
+    for seed in 20_000..20_600 {
+        agree(seed, &run_from_built(&mut Rng::new(seed), 100).0);
+    }
+}
+
+/// A call of each kind that changes or follows tables: arguments mostly good, now and then a bad number.
+fn calls(rng: &mut Rng, network: &Network) -> [Call; 4] {
+    let count = network.count();
+    let node = |rng: &mut Rng| match rng.below(8) {
+        0 => bad_number(rng, count),
+        _ => rng.between(1, count as u64),
+    };
+    let outstanding = network.outstanding();
+    let (sender, receiver) = match outstanding.is_empty() {
+        true => (node(rng), node(rng)),
+        false => {
+            let (sender, receiver) = rng.pick(&outstanding);
+            (sender as u64, receiver as u64)
+        }
+    };
+    [
+        Call::Sound,
+        Call::Lookup {
+            from: node(rng),
+            to: node(rng),
+        },
+        Call::Deliver { sender, receiver },
+        Call::Begin {
+            id: fresh_id(rng, network).unwrap_or(0),
+            gateway: node(rng),
+        },
+    ]
+}
+
+/// The line that undoes a damage.
+fn undone(line: &Line, memory: &Lent) -> Line {
+    match *line {
+        Line::Byte { place, .. } => Line::Byte {
+            place,
+            value: memory.tables[place],
+        },
+        Line::Word { place, .. } => Line::Word {
+            place,
+            value: memory.state[place],
+        },
+        _ => unreachable!("damage is a word or a byte"),
+    }
+}
+
+#[test]
+fn calls_on_damaged_states_agree() {
+    for seed in 30_000..30_600 {
+        let mut rng = Rng::new(seed);
+        let (mut script, memory) = run(&mut rng, 60);
+        let network = Network::decode(memory.used_state());
+        for _ in 0..12 {
+            let line = damage(&mut rng, &memory);
+            let undo = undone(&line, &memory);
+            script.lines.push(line);
+            calls(&mut rng, &network)
+                .into_iter()
+                .for_each(|call| script.call(call));
+            script.lines.push(undo);
+        }
+        agree(seed, &script);
+    }
+}
