@@ -1,5 +1,5 @@
 -- What a call that is not refused may go by: each sentence that did not refuse it, as a fact. Assumes nothing.
-use Prim.Native.Nat.{ℕ, suc, _+_, _-_, _≤_, _<_}
+use Prim.Native.Nat.{ℕ, suc, _+_, _-_, _*_, _≤_, _<_}
 use mathlib.Core.Path.{_≡_, refl, ap₂, subst, _∙_}
 use mathlib.Core.Logic.{_≢_}
 use mathlib.Core.Bool.{Bool, true, false, not, _&&_, _||_, true≢false}
@@ -177,6 +177,20 @@ read-taken s t im e =
         let w : y - 1 + 1 ≡ y = omega arith in
         subst (λ (z : ℕ). imId im z ≢ imId im x) w
         (eqb-false _ _ (not-true _ (all-at (x - 1) (imIdDiffers im x) e (y - 1) (omega arith))))
+
+-- the image is as long as its counts say
+pub read-long : (s t im : List ℕ) → readRefusal s t im ≡ 0
+    → (length im ≡ 8 + 4 * imNodes im + 4 * imRecords im) × (length im ≤ 65535)
+unfolding readRefusal imageRefusal lengthRight
+read-long s t im e =
+    let p1 = passed _ 0 _ e in
+    let p3 = passed _ 2 _ (p1 .1) in
+    let p4 = passed _ 3 _ (p3 .1) in
+    let p5 = passed _ 4 _ (p4 .1) in
+    let p6 = passed _ 5 _ (p5 .1) in
+    let counts = or-none-right (eqb (imNodes im) 0) _ (or-none-right (ltb (length im) 6) _ (p6 .0)) in
+    let right : lengthRight im ≡ true = not-false (lengthRight im) (or-none-right (ltb 64 (imNodes im)) _ counts) in
+    (eqb-true _ _ (search parts), leb-true _ 65535 (search parts))
 
 -- ---- a sound state does not refuse a lookup between nodes
 

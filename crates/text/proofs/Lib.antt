@@ -1,0 +1,2 @@
+-- The laws of text put together piece by piece.
+pub mod Pieces

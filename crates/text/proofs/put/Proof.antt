@@ -1,0 +1,38 @@
+-- `put`: the piece, copied over the part of the output that it is as long as. Assumes nothing.
+use mathlib.Core.Path.{refl}
+use Rattle.text.proofs.Pieces.{put-is}
+use native.Mathlib.Omega.{arith}
+use borrow.Author.Needs.{needs}
+use Rattle.text.proofs.put.Statement.{statement}
+use Rattle.text.proofs.put.Tie as tie
+use Rattle.text.proofs.put.Reads as reads
+use Rattle.text.proofs.put.Lts as lts
+use Rattle.bytes.proofs.copy.Reads as copy-reads
+
+add-end : tie.Need-add-end
+add-end c = search needs
+
+sub-copy : tie.Need-sub-copy
+sub-copy c = search needs
+
+part-copy-start : tie.Need-part-copy-start
+part-copy-start c = search needs
+
+part-copy-end : tie.Need-part-copy-end
+part-copy-end c = search needs
+
+copy-requires : tie.Need-copy-requires
+copy-requires c κs = search needs
+
+same-length : tie.Need-same-length
+same-length c = search needs
+
+returns : tie.Need-returns
+returns c = 
+    let start = c .before .before .before .before .before .before .args in
+    (put-is (start .at) (start .out .now) (start .piece .now) (c .before .before .copy .last .1 .0) (search needs) (c .before .before .copy .ensures .1), refl)
+
+pub put-spec : {M : Type 1} → statement M
+put-spec =
+    tie.close
+    (tie.spec add-end sub-copy part-copy-start part-copy-end copy-requires same-length returns)

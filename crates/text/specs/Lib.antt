@@ -1,0 +1,2 @@
+-- What the contracts of text cite.
+pub mod Numbers
