@@ -1,0 +1,55 @@
+-- `mark`: the byte of an own entry, which lies within the marks. Assumes nothing.
+use native.Mathlib.Omega.{arith}
+use denote.Ref.{now}
+use borrow.Author.Needs.{needs}
+use Rattle.judging.proofs.Marked.{level-below, mark-own, mark-other}
+use Rattle.judging.proofs.Rules.{owner-held}
+use Rattle.judging.proofs.own.mark.Statement.{statement}
+use Rattle.judging.proofs.own.mark.Tie as tie
+
+load-requires : tie.Need-load-requires
+load-requires c κs = search needs
+
+is-own-requires : tie.Need-is-own-requires
+is-own-requires c κs = search (needs, owner-held)
+
+sub-own : tie.Need-sub-own
+sub-own c =
+    let s = c .before .before .before .before .before .before in
+    omega (arith, owner-held (now (s .args .image)) (s .args .r) _ (s .pre .1 .0) (s .pre .1 .1 .1 .1) (c .before .before .before .load .ensures .0) .first)
+
+mul-own : tie.Need-mul-own
+mul-own c = search needs
+
+add-own : tie.Need-add-own
+add-own c = search needs
+
+slice-write-own : tie.Need-slice-write-own
+slice-write-own c =
+    let s = c .before .before .before .before .before .before .before in
+    let w = s .pre .0 .counted in
+    let n = owner-held (now (s .args .image)) (s .args .r) _ (s .pre .1 .0) (s .pre .1 .1 .1 .1) (c .before .before .before .before .load .ensures .0) in
+    omega (arith, n .first, n .last, level-below (now (s .args .image)) (s .pre .1 .1 .0) (s .args .r) (s .pre .1 .1 .1 .1), w .digits, w .few, c .before .before .before .before .load .ensures .0 .level, s .pre .1 .1 .1 .0)
+
+same-length : tie.Need-same-length
+same-length c = search needs
+
+returns : tie.Need-returns
+returns c = search mark-own
+
+returns-2 : tie.Need-returns-2
+returns-2 c = search mark-other
+
+pub mark-spec : {M : Type 1} → statement M
+mark-spec =
+    tie.close
+    (tie.spec
+    load-requires
+    is-own-requires
+    sub-own
+    mul-own
+    add-own
+    slice-write-own
+    same-length
+    returns
+    returns-2)
