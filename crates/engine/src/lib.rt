@@ -4,5 +4,6 @@ pub mod beginning;
 pub mod delivering;
 pub mod founding;
 pub mod lookup;
+pub mod reading;
 pub mod sentences;
 pub mod verdict;

@@ -7,9 +7,9 @@ use crate::header::byte;
 use ident::settings_in_range;
 
 mod cursor;
-mod entry;
-mod header;
-mod ids;
+pub mod entry;
+pub mod header;
+pub mod ids;
 mod own;
 mod passes;
 

@@ -2,49 +2,25 @@
 use Prim.Native.Nat.{ℕ, _+_, _-_, _*_, _<_}
 use mathlib.Core.Path.{_≡_, sym, ap, ap₂, _∙_}
 use mathlib.Core.List.{List}
-use native.Mathlib.Nat.{add-zero, le-of-eq}
+use native.Mathlib.Nat.{le-of-eq}
 use native.Mathlib.Omega.{arith}
 use lib.ListN.{length, set, replicate, length-replicate}
 use Rattle.model.specs.Loops.{eachBelow}
 use Rattle.model.specs.Memory.{depth, zeroed, tableOf, withTable}
 use Rattle.model.specs.Tables.{entrySize, append}
 use Rattle.model.specs.Join.{withSettings}
-use Rattle.model.specs.Image.{byteAt, imBase, imDigits, imDepth, imNodes, imId, imRecords, recordByte, loadId, loadRecord, loaded}
+use Rattle.model.specs.Image.{imBase, imDigits, imDepth, imNodes, imId, imRecords, loadId, loadRecord, loaded}
 use Rattle.model.proofs.Memory.{zeroed-length, table-set}
 use Rattle.model.proofs.Loading.{Readable, Words, words-loaded, record-ok, record-room}
-use Rattle.records.specs.declared.settings.Settings.{Settings}
-use Rattle.loading.specs.declared.fields.Record.{Record}
-use Rattle.loading.specs.Loads.{after, Loads, Fills, Head, RecordOf, Appends}
-
--- four bytes, low first
-pub id-is : (im : List ℕ) (x a b c d : ℕ) → a ≡ byteAt im (2 + 4 * x) → b ≡ byteAt im (2 + 4 * x + 1) → c ≡ byteAt im (2 + 4 * x + 2)
-    → d ≡ byteAt im (2 + 4 * x + 3) → a + 256 * b + 65536 * (c + 256 * d) ≡ imId im x
-unfolding imId
-id-is im x a b c d ea eb ec ed = omega (arith, ea, eb, ec, ed)
+use Rattle.judging.specs.declared.header.Header.{Header}
+use Rattle.judging.specs.declared.entry.Record.{Record}
+use Rattle.judging.specs.Judged.{Headed, RecordOf, Small}
+use Rattle.loading.specs.Loads.{after, Loads, Fills, Appends}
 
 pub id-step : (im s : List ℕ) (k v : ℕ) → v ≡ imId im (k + 1) → set s (8 * (k + 1)) v ≡ loadId im k s
 id-step im s k v e = ap (set s (8 * (k + 1))) e
 
-pub records-is : (im : List ℕ) (n a b : ℕ) → n ≡ imNodes im → a ≡ byteAt im (6 + 4 * n) → b ≡ byteAt im (6 + 4 * n + 1) → a + 256 * b ≡ imRecords im
-records-is im n a b e ea eb =
-    let w : 6 + 4 * n + 1 ≡ 7 + 4 * n = omega arith in
-    ap₂ (λ (a b : ℕ). a + 256 * b) (ea ∙ ap (λ (n : ℕ). byteAt im (6 + 4 * n)) e)
-    (eb ∙ ap (byteAt im) w ∙ ap (λ (n : ℕ). byteAt im (7 + 4 * n)) e)
-
 -- ---- one record
-
-pub record-is : (im : List ℕ) (n r : ℕ) (q : Record) → n ≡ imNodes im → q .node ≡ byteAt im (8 + 4 * n + 4 * r)
-    → q .level ≡ byteAt im (8 + 4 * n + 4 * r + 1) → q .digit ≡ byteAt im (8 + 4 * n + 4 * r + 2)
-    → q .neighbor ≡ byteAt im (8 + 4 * n + 4 * r + 3) → RecordOf im r q
-record-is im n r q e a b c d = record {
-  node = a ∙ ap (byteAt im) (sym (add-zero (8 + 4 * n + 4 * r))) ∙ at 0;
-  level = b ∙ at 1;
-  digit = c ∙ at 2;
-  neighbor = d ∙ at 3;
-}
-  where
-    at : (f : ℕ) → byteAt im (8 + 4 * n + 4 * r + f) ≡ recordByte im r f
-    at f = ap (λ (n : ℕ). byteAt im (8 + 4 * n + 4 * r + f)) e
 
 -- appending to an entry of node x's table stores one byte of the table memory
 module _ (t T : List ℕ) (K x i j u k : ℕ) (a : Appends t K x i j u) (lent : T ≡ tableOf t x) (is : k ≡ entrySize K T i j) where
@@ -63,10 +39,10 @@ module _ (t T : List ℕ) (K x i j u k : ℕ) (a : Appends t K x i j u) (lent : 
       (omega (arith, a .level, a .digit, a .deep, a .room)))
 
 -- the step of record r
-pub record-step : (im t t′ : List ℕ) (K r : ℕ) (q : Record) → K ≡ imDepth im → RecordOf im r q
-    → t′ ≡ withTable t (q .node) (append K (tableOf t (q .node)) (q .level) (q .digit) (q .neighbor)) → t′ ≡ loadRecord im r t
+pub record-step : (im t t′ : List ℕ) (h : Header) (r : ℕ) (q : Record) → Headed im h → RecordOf im r q
+    → t′ ≡ withTable t (q .node) (append (h .depth) (tableOf t (q .node)) (q .level) (q .digit) (q .neighbor)) → t′ ≡ loadRecord im r t
 unfolding loadRecord
-record-step im t t′ K r q k o e = rw (← (o .node), ← (o .level), ← (o .digit), ← (o .neighbor), ← k) e
+record-step im t t′ h r q k o e = rw (← (o .node), ← (o .level), ← (o .digit), ← (o .neighbor), ← (k .depth)) e
 
 -- ---- what a record asks, by the rules that reading judged
 
@@ -78,30 +54,29 @@ module _ (im t₁ : List ℕ) (F : Fills t₁ im) where
   words : Words im (eachBelow (imNodes im) (loadId im) (withSettings (zeroed 520 (replicate 520 0)) (imBase im) (imDigits im) (imDepth im) (imNodes im)))
   words = words-loaded im (replicate 520 0) R (le-of-eq (sym (length-replicate {A = ℕ} 520 0)))
 
-  pub appends : (r n K : ℕ) (t : List ℕ) (q : Record) → n ≡ imRecords im → r < n → length t ≡ length t₁
-      → t ≡ eachBelow r (loadRecord im) t₁ → K ≡ imDepth im → RecordOf im r q → q .neighbor < 256
-      → Appends t K (q .node) (q .level) (q .digit) (q .neighbor)
-  appends r n K t q en h l e k o b =
-      let ok = record-ok im _ R words r (omega (arith, en, h)) in
+  pub appends : (r : ℕ) (h : Header) (t : List ℕ) (q : Record) → Headed im h → r < h .records → length t ≡ length t₁
+      → t ≡ eachBelow r (loadRecord im) t₁ → RecordOf im r q → Small q → Appends t (h .depth) (q .node) (q .level) (q .digit) (q .neighbor)
+  appends r h t q k below l e o b =
+      let ok = record-ok im _ R words r (omega (arith, k .records, below)) in
       record {
         long = omega (arith, l, ap length (F .clear), zeroed-length 32768 (F .before) (F .long), F .long);
         first = omega (arith, o .node, ok .owner .low);
         last = omega (arith, o .node, ok .owner .high, words .settings .count, R .few);
         level = omega (arith, o .level, ok .level, words .settings .digits, R .range .digits-most);
         digit = omega (arith, o .digit, ok .digit, words .settings .base, R .range .base-most);
-        deep = omega (arith, k, R .range .depth-most);
+        deep = omega (arith, k .depth, R .range .depth-most);
         room = room;
-        byte = b;
+        byte = b .neighbor;
       }
     where
-      room : entrySize K (tableOf t (q .node)) (q .level) (q .digit) < K
+      room : entrySize (h .depth) (tableOf t (q .node)) (q .level) (q .digit) < h .depth
       room =
-          rw (e, F .clear, k, o .node, o .level, o .digit, ← (words .settings .depth))
-          (record-room im _ R words (F .before) (F .long) r (omega (arith, en, h)))
+          rw (e, F .clear, k .depth, o .node, o .level, o .digit, ← (words .settings .depth))
+          (record-room im _ R words (F .before) (F .long) r (omega (arith, k .records, below)))
 
 -- ---- the whole
 
-pub loaded-is : (s t im s₁ s₂ s₃ t₁ t₂ : List ℕ) (h : Settings) → Head im h → s₁ ≡ zeroed 520 s
+pub loaded-is : (s t im s₁ s₂ s₃ t₁ t₂ : List ℕ) (h : Header) → Headed im h → s₁ ≡ zeroed 520 s
     → s₂ ≡ withSettings s₁ (h .base) (h .digits) (h .depth) (h .nodes) → s₃ ≡ eachBelow (imNodes im) (loadId im) s₂
     → t₁ ≡ zeroed 32768 t → t₂ ≡ eachBelow (imRecords im) (loadRecord im) t₁ → after s₃ t₂ ≡ loaded s t im
 unfolding loaded
@@ -115,4 +90,4 @@ loaded-is s t im s₁ s₂ s₃ t₁ t₂ h o e₁ e₂ e₃ f₁ f₂ =
         ∙ ap₂ (λ (K n : ℕ). withSettings (zeroed 520 s) (imBase im) (imDigits im) K n) (o .depth) (o .nodes)
 
 pub fills : (s t t₁ im : List ℕ) → Loads s t im → t₁ ≡ zeroed 32768 t → Fills t₁ im
-fills s t t₁ im L e = record { before = t; long = L .tables; clear = e; whole = L .whole; readable = L .readable }
+fills s t t₁ im L e = record { before = t; long = L .tables; clear = e; readable = L .readable }

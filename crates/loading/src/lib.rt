@@ -1,27 +1,45 @@
 // Loading an image that was judged and taken: the state that it gives, in every word and byte of the fixed lengths.
-pub mod fields;
-
 ghost use mathlib.Core.Path.{_≡_};
 ghost use Prim.Native.Nat.{_≤_};
 ghost use lib.ListN.{length};
 ghost use Rattle.model.specs.Loops.{eachBelow};
 ghost use Rattle.model.specs.Memory.{tableOf, withTable};
 ghost use Rattle.model.specs.Tables as book;
-ghost use Rattle.model.specs.Image.{imDepth, imNodes, imRecords, loadId, loadRecord, loaded};
-ghost use Rattle.loading.specs.Loads.{after, Whole, Loads, Fills, Appends};
+ghost use Rattle.model.specs.Join.{withSettings};
+ghost use Rattle.model.specs.Image.{imNodes, imRecords, loadId, loadRecord, loaded};
+ghost use Rattle.judging.specs.Judged.{Headed};
+ghost use Rattle.loading.specs.Loads.{after, Loads, Fills, Appends};
+use judging::entry;
+use judging::header;
+use judging::header::Header;
+use judging::ids;
 use records::settings;
-use tables::entry;
+use records::settings::Settings;
 use tables::part;
 
-fn load_ids(state: &mut [u64], image: &[u8], nodes: usize)
+fn load_settings(state: &mut [u64], h: Header)
     requires { ⌜ 520 ≤ length (now state) ⌝ }
-    requires { ⌜ Whole (now image) ⌝ }
-    requires { ⌜ nodes ≡ imNodes (now image) ⌝ }
-    ensures { λ u. ⌜ now (state .exit) ≡ eachBelow (imNodes (now (image .entry))) (loadId (now (image .entry))) (now (state .entry)) ⌝ }
+    ensures { λ r. ⌜ now (state .exit) ≡ withSettings (now (state .entry)) (h .base) (h .digits) (h .depth) (h .nodes) ⌝ }
+{
+    settings::store(
+        state,
+        Settings {
+            base: h.base,
+            digits: h.digits,
+            depth: h.depth,
+            nodes: h.nodes,
+        },
+    );
+}
+
+fn load_ids(state: &mut [u64], image: &[u8], h: Header)
+    requires { ⌜ 520 ≤ length (now state) ⌝ }
+    requires { ⌜ Headed (now image) h ⌝ }
+    ensures { λ r. ⌜ now (state .exit) ≡ eachBelow (imNodes (now (image .entry))) (loadId (now (image .entry))) (now (state .entry)) ⌝ }
 {
     let mut k = 0;
-    while k < nodes {
-        state[8 * (k + 1)] = fields::id_at(image, k + 1);
+    while k < h.nodes {
+        state[8 * (k + 1)] = ids::id(image, k + 1) as u64;
         k += 1;
     }
 }
@@ -31,22 +49,20 @@ fn append(tables: &mut [u8], depth: usize, x: usize, i: usize, j: usize, u: usiz
     requires { ⌜ Appends (now tables) depth x i j u ⌝ }
     ensures { λ r. ⌜ now (tables .exit) ≡ withTable (now (tables .entry)) x (book.append depth (tableOf (now (tables .entry)) x) i j u) ⌝ }
 {
-    let k = entry::size(part::lent(tables, x), depth, i, j);
+    let k = tables::entry::size(part::lent(tables, x), depth, i, j);
     let start = 512 * (x - 1);
     tables[start + (64 * i + 4 * j + k)] = u as u8;
 }
 
-fn load_records(tables: &mut [u8], image: &[u8], nodes: usize, depth: usize)
+fn load_records(tables: &mut [u8], image: &[u8], h: Header)
     requires { ⌜ Fills (now tables) (now image) ⌝ }
-    requires { ⌜ nodes ≡ imNodes (now image) ⌝ }
-    requires { ⌜ depth ≡ imDepth (now image) ⌝ }
+    requires { ⌜ Headed (now image) h ⌝ }
     ensures { λ u. ⌜ now (tables .exit) ≡ eachBelow (imRecords (now (image .entry))) (loadRecord (now (image .entry))) (now (tables .entry)) ⌝ }
 {
-    let n = fields::records(image, nodes);
     let mut r = 0;
-    while r < n {
-        let q = fields::record_at(image, nodes, r);
-        append(tables, depth, q.node, q.level, q.digit, q.neighbor);
+    while r < h.records {
+        let e = entry::load(image, h, r);
+        append(tables, h.depth, e.node, e.level, e.digit, e.neighbor);
         r += 1;
     }
 }
@@ -55,12 +71,10 @@ pub fn load(state: &mut [u64], tables: &mut [u8], image: &[u8])
     requires { ⌜ Loads (now state) (now tables) (now image) ⌝ }
     ensures { λ u. ⌜ after (now (state .exit)) (now (tables .exit)) ≡ loaded (now (state .entry)) (now (tables .entry)) (now (image .entry)) ⌝ }
 {
-    let head = fields::settings(image);
-    let nodes = head.nodes;
-    let depth = head.depth;
+    let h = header::load(image);
     records::clear::clear(state);
-    settings::store(state, head);
-    load_ids(state, image, nodes);
+    load_settings(state, h);
+    load_ids(state, image, h);
     tables::clear::clear(tables);
-    load_records(tables, image, nodes, depth);
+    load_records(tables, image, h);
 }

@@ -4,14 +4,14 @@ use borrow.Author.Needs.{needs}
 use Rattle.loading.proofs.load.Statement.{statement}
 use Rattle.loading.proofs.load.Tie as tie
 
-settings-requires : tie.Need-settings-requires
-settings-requires c κs = search needs
+load-requires : tie.Need-load-requires
+load-requires c κs = search needs
 
 clear-requires : tie.Need-clear-requires
 clear-requires c κs = search needs
 
-store-requires : tie.Need-store-requires
-store-requires c κs = search needs
+load-settings-requires : tie.Need-load-settings-requires
+load-settings-requires c κs = search needs
 
 load-ids-requires : tie.Need-load-ids-requires
 load-ids-requires c κs = search needs
@@ -35,9 +35,9 @@ pub load-spec : {M : Type 1} → statement M
 load-spec =
     tie.close
     (tie.spec
-    settings-requires
+    load-requires
     clear-requires
-    store-requires
+    load-settings-requires
     load-ids-requires
     clear-requires-2
     load-records-requires

@@ -1,32 +1,33 @@
 -- `load_ids`: an id more each turn. Assumes nothing.
-use mathlib.Core.Path.{refl}
-use lib.ListN.{length-set}
-use Rattle.model.proofs.Loops.{each-ends, each-loop}
-use Rattle.loading.proofs.Steps.{id-step}
 use Prim.Native.Nat.{_-_, _≤_}
-use mathlib.Core.Path.{_≡_}
-use lib.ListN.{length}
+use mathlib.Core.Path.{_≡_, refl}
+use lib.ListN.{length, length-set}
 use Rattle.model.specs.Loops.{eachBelow}
 use Rattle.model.specs.Image.{loadId}
+use Rattle.model.proofs.Loops.{each-ends, each-loop}
+use Rattle.loading.proofs.Steps.{id-step}
 use native.Mathlib.Omega.{arith}
 use borrow.Author.Needs.{needs}
 use Rattle.loading.proofs.load_ids.Statement.{statement}
 use Rattle.loading.proofs.load_ids.Tie as tie
 
 abbrev Inv-loop : tie.InvT-loop
-Inv-loop state₀ image nodes k₀ state k = (k ≤ nodes) × (length state ≡ length state₀) × (state ≡ eachBelow k (loadId image) state₀)
+Inv-loop state₀ image h k₀ state k = (k ≤ h .nodes) × (length state ≡ length state₀) × (state ≡ eachBelow k (loadId image) state₀)
 
 abbrev μ-loop : tie.MeasureT-loop
-μ-loop state₀ image nodes k₀ state k = nodes - k
+μ-loop state₀ image h k₀ state k = h .nodes - k
 
 loop-holds : tie.Need-loop-holds Inv-loop μ-loop
 loop-holds c = (omega arith, refl, search each-loop)
 
-add-id-at : tie.Need-add-id-at Inv-loop μ-loop
-add-id-at c = omega arith
+add-id : tie.Need-add-id Inv-loop μ-loop
+add-id c = omega arith
 
-id-at-requires : tie.Need-id-at-requires Inv-loop μ-loop
-id-at-requires c κs = search needs
+id-requires : tie.Need-id-requires Inv-loop μ-loop
+id-requires c κs = search needs
+
+cast-state : tie.Need-cast-state Inv-loop μ-loop
+cast-state c = omega arith
 
 add-state : tie.Need-add-state Inv-loop μ-loop
 add-state c = omega arith
@@ -53,7 +54,7 @@ same-length : tie.Need-same-length Inv-loop μ-loop
 same-length c = omega arith
 
 returns : tie.Need-returns Inv-loop μ-loop
-returns c = each-ends _ _ _ (c .before .loop .k) _ (c .before .loop .inv .2) (omega arith) (omega arith)
+returns c = each-ends _ _ _ (c .before .before .loop .k) _ (c .before .before .loop .inv .2) (omega arith) (omega arith)
 
 pub load-ids-spec : {M : Type 1} → statement M
 load-ids-spec =
@@ -62,8 +63,9 @@ load-ids-spec =
     Inv-loop
     μ-loop
     loop-holds
-    add-id-at
-    id-at-requires
+    add-id
+    id-requires
+    cast-state
     add-state
     mul-state
     mul-state-2

@@ -1,31 +1,27 @@
 -- `load_records`: a record more each turn. Assumes nothing.
-use mathlib.Core.Path.{refl}
-use Rattle.model.proofs.Loops.{each-ends, each-loop}
-use Rattle.loading.proofs.Steps.{appends, record-step}
 use Prim.Native.Nat.{_-_, _≤_}
-use mathlib.Core.Path.{_≡_}
+use mathlib.Core.Path.{_≡_, refl}
 use lib.ListN.{length}
 use Rattle.model.specs.Loops.{eachBelow}
 use Rattle.model.specs.Image.{loadRecord}
+use Rattle.model.proofs.Loops.{each-ends, each-loop}
+use Rattle.loading.proofs.Steps.{appends, record-step}
 use native.Mathlib.Omega.{arith}
 use borrow.Author.Needs.{needs}
 use Rattle.loading.proofs.load_records.Statement.{statement}
 use Rattle.loading.proofs.load_records.Tie as tie
 
 abbrev Inv-loop : tie.InvT-loop
-Inv-loop tables₀ image nodes depth n r₀ tables r = (r ≤ n) × (length tables ≡ length tables₀) × (tables ≡ eachBelow r (loadRecord image) tables₀)
+Inv-loop tables₀ image h r₀ tables r = (r ≤ h .records) × (length tables ≡ length tables₀) × (tables ≡ eachBelow r (loadRecord image) tables₀)
 
 abbrev μ-loop : tie.MeasureT-loop
-μ-loop tables₀ image nodes depth n r₀ tables r = n - r
-
-records-requires : tie.Need-records-requires Inv-loop μ-loop
-records-requires c κs = search needs
+μ-loop tables₀ image h r₀ tables r = h .records - r
 
 loop-holds : tie.Need-loop-holds Inv-loop μ-loop
 loop-holds c = (omega arith, refl, search each-loop)
 
-record-at-requires : tie.Need-record-at-requires Inv-loop μ-loop
-record-at-requires c κs = search needs
+load-requires : tie.Need-load-requires Inv-loop μ-loop
+load-requires c κs = search needs
 
 append-requires : tie.Need-append-requires Inv-loop μ-loop
 append-requires c κs = search appends
@@ -43,7 +39,7 @@ same-length : tie.Need-same-length Inv-loop μ-loop
 same-length c = omega arith
 
 returns : tie.Need-returns Inv-loop μ-loop
-returns c = each-ends _ _ _ (c .before .loop .r) _ (c .before .loop .inv .2) (omega arith) (omega arith)
+returns c = each-ends _ _ _ (c .before .before .loop .r) _ (c .before .before .loop .inv .2) (omega arith) (omega arith)
 
 pub load-records-spec : {M : Type 1} → statement M
 load-records-spec =
@@ -51,9 +47,8 @@ load-records-spec =
     (tie.spec
     Inv-loop
     μ-loop
-    records-requires
     loop-holds
-    record-at-requires
+    load-requires
     append-requires
     add-r
     loop-less

@@ -28,7 +28,7 @@ same-length : tie.Need-same-length
 same-length c = search needs
 
 returns : tie.Need-returns
-returns c = 
+returns c =
     let start = c .before .before .before .before .before .before .args in
     (put-is (start .at) (start .out .now) (start .piece .now) (c .before .before .copy .last .1 .0) (search needs) (c .before .before .copy .ensures .1), refl)
 

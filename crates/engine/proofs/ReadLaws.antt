@@ -1,0 +1,55 @@
+-- The sentences of a reading, and its two ends. Assumes nothing.
+use Prim.Native.Nat.{ℕ, _<_}
+use mathlib.Core.Path.{_≡_, sym, ap, _∙_}
+use mathlib.Core.Bool.{Bool, true, false}
+use mathlib.Core.List.{List, [], _∷_}
+use Rattle.model.specs.Memory.{Memory}
+use Rattle.model.specs.Image.{byteAt, loaded}
+use Rattle.model.specs.Refusals.{memoryShort, imageRefusal, readRefusal}
+use Rattle.model.specs.Calls.{refused, taken, readCall}
+use Rattle.model.proofs.Calls.{taken-is, refused-is}
+use Rattle.model.proofs.Refusals.{refuse-leaves, refuse-goes}
+use Rattle.model.proofs.Taken.{read-taken, read-long}
+use Rattle.loading.specs.Loads.{Loads}
+use Rattle.engine.specs.Outcomes.{leaves}
+
+pub read-1 : (s t im : List ℕ) (q : Bool) → q ≡ memoryShort s t → q ≡ true → 1 ≡ readRefusal s t im
+unfolding readRefusal
+read-1 s t im q e h = refuse-leaves (memoryShort s t) 1 (imageRefusal im) q e h
+
+pub read-image : (s t im : List ℕ) (q : Bool) (r : ℕ) → q ≡ memoryShort s t → q ≡ false → r ≡ imageRefusal im → r ≡ readRefusal s t im
+unfolding readRefusal
+read-image s t im q r e h f = refuse-goes (memoryShort s t) 1 (imageRefusal im) r q e h f
+
+-- what loading asks
+pub loads : (s t im : List ℕ) (r : ℕ) → ((a : ℕ) → byteAt im a < 256) → r ≡ readRefusal s t im → r ≡ 0 → Loads s t im
+loads s t im r bytes e z =
+    let k = read-taken s t im (sym e ∙ z) in
+    let l = read-long s t im (sym e ∙ z) in
+    record {
+      state = k .0 .state;
+      tables = k .0 .tables;
+      counted = record {
+        bytes = bytes;
+        base = k .1 .range .base-most;
+        digits = k .1 .range .digits-most;
+        depth = k .1 .range .depth-most;
+        some = k .1 .some;
+        few = k .1 .few;
+        whole = l .0;
+        short = l .1;
+      };
+      readable = k .1;
+    }
+
+pub read-refused : (s t im : List ℕ) (r : ℕ) → r ≡ readRefusal s t im → (r ≡ 0 → ⊥) → leaves s t (r ∷ []) ≡ readCall s t im
+unfolding readCall refused
+read-refused s t im r e nz =
+    ap (λ (n : ℕ). leaves s t (n ∷ [])) e ∙ sym (refused-is (readRefusal s t im) (refused s t [] 0) _ (λ z. nz (e ∙ z)))
+
+pub read-done : (s t im s₁ t₁ : List ℕ) (r : ℕ) → r ≡ readRefusal s t im → r ≡ 0
+    → record { state = s₁; tables = t₁ } ≡ loaded s t im → leaves s₁ t₁ (0 ∷ []) ≡ readCall s t im
+unfolding readCall taken
+read-done s t im s₁ t₁ r e z w =
+    ap (λ (m : Memory). leaves (m .state) (m .tables) (0 ∷ [])) w
+    ∙ sym (taken-is (readRefusal s t im) (refused s t [] 0) _ (sym e ∙ z))
