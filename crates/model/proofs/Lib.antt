@@ -35,3 +35,4 @@ pub mod Loading
 pub mod Refusals
 pub mod Taken
 pub mod Calls
+pub mod Fields

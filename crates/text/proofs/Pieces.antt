@@ -1,11 +1,10 @@
 -- What stands before a place, after a piece was put there. Assumes nothing.
 use Prim.Native.Nat.{ℕ, _+_, _-_, _/_, _%_, _≤_, _<_}
-use mathlib.Core.Path.{_≡_, refl, sym, ap, ap₂, _∙_}
-use mathlib.Core.Bool.{true, false, cond}
+use mathlib.Core.Path.{_≡_, sym, ap, ap₂, _∙_}
+use mathlib.Core.Bool.{Bool, true, false, cond}
 use mathlib.Core.List.{List, [], _∷_, _++_, append-assoc, append-nil}
 use native.Mathlib.Nat.{add-sub-cancel-left, le-of-eq}
 use native.Mathlib.Omega.{arith}
-use lib.Dec.{ltb}
 use lib.ListN.{length, take, drop, set, length-append, length-drop, drop-of-length-le}
 use native.Mathlib.Numerals.{add-one}
 use lib.Seq.{length-take-le, take-append-seam, take-length, take-suc-set}
@@ -27,11 +26,30 @@ pub one-digit : (n : ℕ) (xs : List ℕ) (before : List ℕ) → xs ≡ before 
 unfolding decimal
 one-digit n xs before e h = rw (lt-ltb n 10 h) e
 
-pub two-digits : (n : ℕ) (xs ys before : List ℕ) → ys ≡ before ++ ((48 + n / 10) ∷ []) → xs ≡ ys ++ ((48 + n % 10) ∷ []) → 10 ≤ n
+pub two-digits : (n : ℕ) (xs ys before : List ℕ) → ys ≡ before ++ ((48 + n / 10) ∷ []) → xs ≡ ys ++ ((48 + n % 10) ∷ []) → 10 ≤ n → n < 100
     → xs ≡ before ++ decimal n
 unfolding decimal
-two-digits n xs ys before e f h =
-    rw (le-ltb n 10 h) (f ∙ ap (λ (l : List ℕ). l ++ ((48 + n % 10) ∷ [])) e ∙ append-assoc before ((48 + n / 10) ∷ []) ((48 + n % 10) ∷ []))
+two-digits n xs ys before e f h g =
+    rw (le-ltb n 10 h, lt-ltb n 100 g)
+    (f ∙ ap (λ (l : List ℕ). l ++ ((48 + n % 10) ∷ [])) e ∙ append-assoc before ((48 + n / 10) ∷ []) ((48 + n % 10) ∷ []))
+
+pub three-digits : (n : ℕ) (xs ys zs before : List ℕ) → zs ≡ before ++ ((48 + n / 100) ∷ []) → ys ≡ zs ++ ((48 + n / 10 % 10) ∷ [])
+    → xs ≡ ys ++ ((48 + n % 10) ∷ []) → 100 ≤ n → xs ≡ before ++ decimal n
+unfolding decimal
+three-digits n xs ys zs before e f g h =
+    rw (le-ltb n 10 (omega arith), le-ltb n 100 h)
+    (g
+    ∙ ap (λ (l : List ℕ). l ++ ((48 + n % 10) ∷ []))
+    (f ∙ ap (λ (l : List ℕ). l ++ ((48 + n / 10 % 10) ∷ [])) e ∙ append-assoc before ((48 + n / 100) ∷ []) ((48 + n / 10 % 10) ∷ []))
+    ∙ append-assoc before ((48 + n / 100) ∷ (48 + n / 10 % 10) ∷ []) ((48 + n % 10) ∷ []))
+
+pub flag-yes : (b : Bool) (xs before : List ℕ) → xs ≡ before ++ ((48 + 1) ∷ []) → b ≡ true → xs ≡ before ++ decimal (cond b 1 0)
+unfolding decimal
+flag-yes b xs before e h = rw h e
+
+pub flag-no : (b : Bool) (xs before : List ℕ) → xs ≡ before ++ ((48 + 0) ∷ []) → b ≡ false → xs ≡ before ++ decimal (cond b 1 0)
+unfolding decimal
+flag-no b xs before e h = rw h e
 
 -- a piece copied over the part of `out` that it is as long as
 pub put-is : (at : ℕ) (out piece r : List ℕ) → at + length piece ≤ length out

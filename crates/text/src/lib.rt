@@ -1,6 +1,7 @@
 // Text put together in lent memory: pieces one behind the other from a place on, each answered by the place behind it.
 ghost use mathlib.Core.Path.{_≡_};
 ghost use Prim.Native.Nat.{_+_, _<_, _≤_};
+ghost use mathlib.Core.Bool.{cond};
 ghost use mathlib.Core.List.{[], _∷_, _++_};
 ghost use lib.ListN.{length, take};
 ghost use Rattle.text.specs.Numbers.{decimal};
@@ -25,16 +26,33 @@ fn digit(out: &mut [u8], at: usize, n: u64) -> usize
     at + 1
 }
 
-// A number below 100 in decimal.
+// A number below 1,000 in decimal.
 pub fn number(out: &mut [u8], at: usize, n: u64) -> usize
-    requires { ⌜ at + 2 ≤ length (now out) ⌝ }
-    requires { ⌜ n < 100 ⌝ }
+    requires { ⌜ at + 3 ≤ length (now out) ⌝ }
+    requires { ⌜ n < 1000 ⌝ }
     ensures { λ r. ⌜ take r (now (out .exit)) ≡ take at (now (out .entry)) ++ decimal n ⌝ }
-    ensures { λ r. ⌜ (at ≤ r) × (r ≤ at + 2) ⌝ }
+    ensures { λ r. ⌜ (at ≤ r) × (r ≤ at + 3) ⌝ }
 {
     if n < 10 {
         return digit(out, at, n);
     }
-    let next = digit(out, at, n / 10);
-    digit(out, next, n % 10)
+    if n < 100 {
+        let next = digit(out, at, n / 10);
+        return digit(out, next, n % 10);
+    }
+    let second = digit(out, at, n / 100);
+    let third = digit(out, second, n / 10 % 10);
+    digit(out, third, n % 10)
+}
+
+// 1 for yes, 0 for no.
+pub fn flag(out: &mut [u8], at: usize, yes: bool) -> usize
+    requires { ⌜ at < length (now out) ⌝ }
+    ensures { λ r. ⌜ take r (now (out .exit)) ≡ take at (now (out .entry)) ++ decimal (cond yes 1 0) ⌝ }
+    ensures { λ r. ⌜ r ≡ at + 1 ⌝ }
+{
+    if yes {
+        return digit(out, at, 1);
+    }
+    digit(out, at, 0)
 }

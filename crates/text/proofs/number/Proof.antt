@@ -1,12 +1,9 @@
--- `number`: one digit or two. Assumes nothing.
-use Rattle.text.proofs.Pieces.{one-digit, two-digits}
+-- `number`: one digit, two or three. Assumes nothing.
+use Rattle.text.proofs.Pieces.{one-digit, two-digits, three-digits}
 use native.Mathlib.Omega.{arith}
 use borrow.Author.Needs.{needs}
 use Rattle.text.proofs.number.Statement.{statement}
 use Rattle.text.proofs.number.Tie as tie
-use Rattle.text.proofs.number.Reads as reads
-use Rattle.text.proofs.number.Lts as lts
-use Rattle.text.proofs.digit.Reads as digit-reads
 
 digit-requires : tie.Need-digit-requires
 digit-requires c κs = search needs
@@ -29,6 +26,21 @@ same-length-2 c = search needs
 returns-2 : tie.Need-returns-2
 returns-2 c = (search two-digits, (omega arith, omega arith))
 
+digit-requires-4 : tie.Need-digit-requires-4
+digit-requires-4 c κs = search needs
+
+digit-requires-5 : tie.Need-digit-requires-5
+digit-requires-5 c κs = search needs
+
+digit-requires-6 : tie.Need-digit-requires-6
+digit-requires-6 c κs = search needs
+
+same-length-3 : tie.Need-same-length-3
+same-length-3 c = search needs
+
+returns-3 : tie.Need-returns-3
+returns-3 c = (search three-digits, (omega arith, omega arith))
+
 pub number-spec : {M : Type 1} → statement M
 number-spec =
     tie.close
@@ -39,4 +51,9 @@ number-spec =
     digit-requires-2
     digit-requires-3
     same-length-2
-    returns-2)
+    returns-2
+    digit-requires-4
+    digit-requires-5
+    digit-requires-6
+    same-length-3
+    returns-3)

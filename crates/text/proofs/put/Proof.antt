@@ -1,13 +1,9 @@
 -- `put`: the piece, copied over the part of the output that it is as long as. Assumes nothing.
 use mathlib.Core.Path.{refl}
 use Rattle.text.proofs.Pieces.{put-is}
-use native.Mathlib.Omega.{arith}
 use borrow.Author.Needs.{needs}
 use Rattle.text.proofs.put.Statement.{statement}
 use Rattle.text.proofs.put.Tie as tie
-use Rattle.text.proofs.put.Reads as reads
-use Rattle.text.proofs.put.Lts as lts
-use Rattle.bytes.proofs.copy.Reads as copy-reads
 
 add-end : tie.Need-add-end
 add-end c = search needs
