@@ -1,24 +1,23 @@
 -- The marks of own entries: one record more, and what all of them say. Assumes nothing.
 use Prim.Native.Nat.{ℕ, _+_, _-_, _*_, _≤_, _<_}
 use mathlib.Core.Path.{_≡_, refl, sym, ap, ap₂, subst, _∙_}
-use mathlib.Core.Logic.{_≢_}
 use mathlib.Core.Bool.{Bool, true, false, cond, _&&_, _||_, or-true, or-false, and-false}
 use mathlib.Core.List.{List}
 use native.Mathlib.Decide.{ℕ-discrete}
 use native.Mathlib.Omega.{arith}
-use lib.Dec.{eqb, ltb}
+use lib.Dec.{eqb}
 use lib.ListN.{length, getD, set, replicate, length-set, length-replicate, getD-replicate}
 use lib.Seq.{getD-set-same, getD-set-other}
-use borrow.Author.Tests.{eqb-true, eq-eqb, ne-eqb, ltb-true}
+use borrow.Author.Tests.{eq-eqb, ne-eqb, ltb-true}
 use Rattle.model.specs.Loops.{allBelow, anyBelow, node}
 use Rattle.model.specs.Ids.{digitOf}
-use Rattle.model.specs.Image.{imDigits, imNodes, imRecords, imId, recNode, recLevel, recDigit, recOrdered, recOwn, recOfOwn, ownHasRecord, ownHaveRecords}
-use Rattle.model.proofs.Bools.{and-left, and-intro, not-both}
+use Rattle.model.specs.Image.{imDigits, imNodes, imRecords, imId, recNode, recLevel, recOrdered, recOwn, recOfOwn, ownHasRecord, ownHaveRecords}
+use Rattle.model.proofs.Bools.{and-left, and-intro}
 use Rattle.model.proofs.Loops.{all-at, all-same, any-zero, any-step}
 use Rattle.judging.specs.Judged.{Counted, Headed, IsNode, Named, RecordOf, recGood}
 use Rattle.judging.specs.Marks.{ownPlace, isMarked, levelsMarked, markedBy, Streamed, Marks}
 use Rattle.judging.specs.declared.header.Header.{Header}
-use Rattle.judging.specs.declared.entry.Record.{Record}
+use Rattle.judging.specs.declared.record.Record.{Record}
 use Rattle.judging.proofs.Rules.{owner-node}
 
 -- the level of a record that keeps its order

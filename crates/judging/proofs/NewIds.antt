@@ -1,12 +1,12 @@
 -- The loop over the nodes before x: a and b are ids as the code has read them. Assumes nothing.
-use Prim.Native.Nat.{ℕ, _+_, _-_, _≤_, _<_}
+use Prim.Native.Nat.{ℕ, _+_, _-_, _<_}
 use mathlib.Core.Path.{_≡_, refl, sym, ap, _∙_}
 use mathlib.Core.Bool.{Bool, true, false, not}
 use mathlib.Core.List.{List}
 use borrow.Author.Tests.{eq-eqb, ne-eqb}
 use Rattle.model.specs.Loops.{allBelow}
 use Rattle.model.specs.Image.{imId, imIdDiffers, imIdNew}
-use Rattle.model.proofs.Loops.{all-goes, all-false, all-ends}
+use Rattle.model.proofs.Loops.{all-goes, all-false}
 
 module _ (im : List ℕ) (x k a b : ℕ) (p : a ≡ imId im (k + 1)) (q : b ≡ imId im x) where
   pub new-goes : allBelow k (imIdDiffers im x) ≡ true → (a ≡ b → ⊥) → allBelow (k + 1) (imIdDiffers im x) ≡ true

@@ -1,18 +1,18 @@
 -- What reading a record finds, from what its steps say. Assumes nothing.
 use Prim.Native.Nat.{ℕ, _+_, _≤_, _<_}
-use mathlib.Core.Path.{_≡_, refl, sym, ap, ap₂, subst, _∙_}
+use mathlib.Core.Path.{_≡_, sym, ap, subst, _∙_}
 use mathlib.Core.Bool.{Bool, true, false, not, _&&_, and-false}
 use mathlib.Core.List.{List}
 use native.Mathlib.Omega.{arith}
 use borrow.Author.Tests.{not-true, not-false}
 use Rattle.model.specs.Loops.{allBelow}
-use Rattle.model.specs.Image.{imRecords, recOrdered, recAllowed, recOwnerFirst, recNeighbor}
+use Rattle.model.specs.Image.{imRecords, recOrdered, recAllowed, recOwnerFirst}
 use Rattle.model.proofs.Bools.{and-intro}
 use Rattle.model.proofs.Loops.{all-false, all-ends}
-use Rattle.judging.specs.Judged.{Counted, Headed, Named, RecordOf, recGood}
-use Rattle.judging.specs.Cursors.{keyOf, recKey, Follows, Enters, keepsOrder, started, entered, passed, Finds}
+use Rattle.judging.specs.Judged.{Headed, Named, RecordOf, recGood}
+use Rattle.judging.specs.Cursors.{keyOf, Follows, Enters, keepsOrder, started, entered, passed, Finds}
 use Rattle.judging.specs.declared.header.Header.{Header}
-use Rattle.judging.specs.declared.entry.Record.{Record}
+use Rattle.judging.specs.declared.record.Record.{Record}
 use Rattle.judging.specs.declared.cursor.Cursor.{Cursor}
 use Rattle.judging.specs.declared.cursor.Finding.{Finding}
 use Rattle.judging.specs.declared.cursor.Finding.the-variants.{Good, Disordered, Forbidden, OwnerNotFirst}

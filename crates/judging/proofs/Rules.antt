@@ -1,5 +1,5 @@
 -- The rules of a record by what the cursor holds, in place of all earlier records. Assumes nothing.
-use Prim.Native.Nat.{ℕ, _+_, _-_, _≤_, _<_}
+use Prim.Native.Nat.{ℕ, _-_, _≤_, _<_}
 use mathlib.Core.Path.{_≡_, refl, sym, ap, ap₂, subst, _∙_}
 use mathlib.Core.Logic.{_⊎_, inl, inr}
 use mathlib.Core.Bool.{Bool, true, false, not, _&&_, _||_}
@@ -7,21 +7,21 @@ use mathlib.Core.List.{List}
 use native.Mathlib.Decide.{ℕ-discrete}
 use native.Mathlib.Omega.{arith}
 use lib.Dec.{eqb, leb, ltb}
-use borrow.Author.Tests.{eqb-true, eqb-false, eq-eqb, ne-eqb, le-leb, leb-true, ltb-true, not-true, not-false}
-use Rattle.model.specs.Loops.{allBelow, anyBelow, countBelow}
+use borrow.Author.Tests.{eq-eqb, ne-eqb, le-leb, leb-true}
+use Rattle.model.specs.Loops.{anyBelow, countBelow}
 use Rattle.model.specs.Ids.{digitOf}
 use Rattle.model.specs.Memory.{hasNode}
 use Rattle.model.specs.Tables.{qualified}
-use Rattle.model.specs.Image.{imBase, imDigits, imDepth, imNodes, imId, imRecords, imIsNode, recNode, recLevel, recDigit, recNeighbor}
-use Rattle.model.specs.Image.{recNodesGood, sameEntry, risesFrom, recOrdered, sameNeighbor, recAllowed, recOwn, recOwnerFirst, recordsGood}
+use Rattle.model.specs.Image.{imNodes, imId, imRecords, imIsNode, recNode, recLevel, recDigit, recNeighbor}
+use Rattle.model.specs.Image.{recNodesGood, sameEntry, risesFrom, recOrdered, sameNeighbor, recAllowed, recOwnerFirst}
 use Rattle.model.proofs.Bools.{and-left, and-right, and-leaves, and-goes, true-or-false}
 use Rattle.model.proofs.Early.{true-or-leaves, false-or-goes}
 use Rattle.model.proofs.Loops.{all-at, any-at, any-same, any-found, count-same, count-some, count-none, count-le}
 use Rattle.records.specs.Loaded.{Numbered}
-use Rattle.judging.specs.Judged.{Counted, Headed, IsNode, Named, RecordOf, recGood}
+use Rattle.judging.specs.Judged.{Counted, Headed, IsNode, Named, RecordOf}
 use Rattle.judging.specs.Cursors.{keyOf, recKey, ofEntry, namesIn, Follows, Enters, keepsOrder}
 use Rattle.judging.specs.declared.header.Header.{Header}
-use Rattle.judging.specs.declared.entry.Record.{Record}
+use Rattle.judging.specs.declared.record.Record.{Record}
 use Rattle.judging.specs.declared.cursor.Cursor.{Cursor}
 use Rattle.judging.proofs.Keys.{same-key, rises-key}
 

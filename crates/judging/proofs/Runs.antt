@@ -1,7 +1,7 @@
 -- The earlier records of an entry are a run that ends at the cursor: what it holds of them, as it starts, enters an entry and passes a
 -- record. Assumes nothing.
-use Prim.Native.Nat.{ℕ, _+_, _-_, _≤_, _<_}
-use mathlib.Core.Path.{_≡_, refl, sym, ap, ap₂, subst, _∙_}
+use Prim.Native.Nat.{ℕ, _+_, _≤_, _<_}
+use mathlib.Core.Path.{_≡_, refl, sym, ap, ap₂, _∙_}
 use mathlib.Core.Logic.{_≢_}
 use mathlib.Core.Bool.{Bool, true, false, cond, _&&_, _||_, or-true, or-false}
 use mathlib.Core.List.{List}
@@ -10,7 +10,7 @@ use native.Mathlib.Omega.{arith}
 use lib.Dec.{eqb}
 use borrow.Author.Count.{below-none, below-more}
 use borrow.Author.Tests.{eqb-true, eqb-false, eq-eqb, ne-eqb}
-use Rattle.model.specs.Loops.{allBelow, anyBelow, countBelow}
+use Rattle.model.specs.Loops.{anyBelow}
 use Rattle.model.specs.Memory.{hasNode, addNode}
 use Rattle.model.specs.Image.{recNeighbor}
 use Rattle.model.proofs.Loops.{all-zero, all-step, any-zero, any-step, any-false, count-zero, count-none, count-hit}

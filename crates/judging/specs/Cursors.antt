@@ -9,7 +9,7 @@ use Rattle.model.specs.Memory.{hasNode, addNode}
 use Rattle.model.specs.Image.{recNode, recLevel, recDigit, recNeighbor, recOrdered, recAllowed, recOwnerFirst}
 use Rattle.judging.specs.Judged.{recGood}
 use Rattle.judging.specs.declared.header.Header.{Header}
-use Rattle.judging.specs.declared.entry.Record.{Record}
+use Rattle.judging.specs.declared.record.Record.{Record}
 use Rattle.judging.specs.declared.cursor.Cursor.{Cursor}
 use Rattle.judging.specs.declared.cursor.Finding.{Finding}
 use Rattle.judging.specs.declared.cursor.Finding.the-variants.{Good, Disordered, Forbidden, OwnerNotFirst}

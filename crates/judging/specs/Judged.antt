@@ -4,13 +4,12 @@ use mathlib.Core.Path.{_≡_}
 use mathlib.Core.Bool.{Bool, true, not, _&&_}
 use mathlib.Core.List.{List}
 use lib.ListN.{length}
-use lib.Dec.{eqb}
 use Rattle.model.specs.Loops.{allBelow, node}
 use Rattle.model.specs.Image.{byteAt, imBase, imDigits, imDepth, imNodes, imRecords, imIdValid, imIdNew, recNodesGood, recordsGood}
 use Rattle.model.specs.Image.{recNode, recLevel, recDigit, recNeighbor, recOrdered, recAllowed, recOwnerFirst}
 use Rattle.model.specs.Refusals.{refuse}
 use Rattle.judging.specs.declared.header.Header.{Header}
-use Rattle.judging.specs.declared.entry.Record.{Record}
+use Rattle.judging.specs.declared.record.Record.{Record}
 
 -- after 3 to 6: the settings are in range and the length is what the counts give
 pub record Counted (im : List ℕ) : Type 0 where

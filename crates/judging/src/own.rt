@@ -7,8 +7,8 @@ ghost use Rattle.model.specs.Image.{imNodes, imRecords, ownHaveRecords};
 ghost use Rattle.records.specs.Loaded.{Numbered};
 ghost use Rattle.judging.specs.Judged.{Headed, Named};
 ghost use Rattle.judging.specs.Marks.{Streamed, Marks, isMarked, levelsMarked, markedBy};
-use crate::entry;
 use crate::header::Header;
+use crate::record;
 
 // Marks the entry of record r, if it is an own entry.
 fn mark(image: &[u8], h: Header, own: &mut [u8], r: usize)
@@ -19,8 +19,8 @@ fn mark(image: &[u8], h: Header, own: &mut [u8], r: usize)
     requires { ⌜ r < imRecords (now image) ⌝ }
     ensures { λ u. ⌜ now (own .exit) ≡ markedBy (now (image .entry)) r (now (own .entry)) ⌝ }
 {
-    let e = entry::load(image, h, r);
-    if entry::is_own(image, e) {
+    let e = record::load(image, h, r);
+    if record::is_own(image, e) {
         own[8 * (e.node - 1) + e.level] = 1;
     }
 }

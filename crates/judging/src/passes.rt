@@ -3,11 +3,11 @@ ghost use mathlib.Core.Path.{_≡_};
 ghost use Rattle.model.specs.Loops.{allBelow};
 ghost use Rattle.model.specs.Image.{imRecords, recNodesGood, recordsGood};
 ghost use Rattle.judging.specs.Judged.{Headed, Named, recGood};
-use crate::cursor;
+use crate::cursor::Cursor;
 use crate::cursor::Finding;
-use crate::entry;
 use crate::header::Header;
 use crate::own;
+use crate::record;
 
 // 9: "A member number, in a call or a record, is 0 or above the member count."
 pub fn named(image: &[u8], h: Header) -> bool
@@ -16,7 +16,7 @@ pub fn named(image: &[u8], h: Header) -> bool
 {
     let mut r = 0;
     while r < h.records {
-        if !entry::nodes_good(image, h, r) {
+        if !record::nodes_good(image, h, r) {
             return false;
         }
         r += 1;
@@ -30,9 +30,9 @@ fn each_good(image: &[u8], h: Header) -> bool
     requires { ⌜ Named (now image) ⌝ }
     ensures { λ r. ⌜ r ≡ allBelow (imRecords (now (image .entry))) (recGood (now (image .entry))) ⌝ }
 {
-    let mut c = cursor::start();
+    let mut c = Cursor::start();
     while c.next < h.records {
-        match cursor::read(image, h, c) {
+        match c.read(image, h) {
             Finding::Good(past) => {
                 c = past;
             }

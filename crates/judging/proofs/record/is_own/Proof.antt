@@ -1,8 +1,7 @@
 -- `is_own`: the digit is that of the id. Assumes nothing.
-use mathlib.Core.Path.{ap}
 use borrow.Author.Needs.{needs}
-use Rattle.judging.proofs.entry.is_own.Statement.{statement}
-use Rattle.judging.proofs.entry.is_own.Tie as tie
+use Rattle.judging.proofs.record.is_own.Statement.{statement}
+use Rattle.judging.proofs.record.is_own.Tie as tie
 
 id-requires : tie.Need-id-requires
 id-requires c κs = search needs

@@ -2,8 +2,8 @@
 use borrow.Author.Needs.{needs}
 use Rattle.judging.proofs.Reading.{entry-enters, entry-record, entry-within, finds-disordered, finds-forbidden, finds-not-first, finds-good}
 use Rattle.judging.proofs.Rules.{numbered-held, count-within, next-within}
-use Rattle.judging.proofs.cursor.read.Statement.{statement}
-use Rattle.judging.proofs.cursor.read.Tie as tie
+use Rattle.judging.proofs.cursor.Cursor.read.Statement.{statement}
+use Rattle.judging.proofs.cursor.Cursor.read.Tie as tie
 
 load-requires : tie.Need-load-requires
 load-requires c κs = search needs

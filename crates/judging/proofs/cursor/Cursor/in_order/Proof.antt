@@ -1,9 +1,8 @@
 -- `in_order`: its tests are those of `keepsOrder`. Assumes nothing.
-use mathlib.Core.Path.{ap}
 use borrow.Author.Needs.{needs}
 use Rattle.model.proofs.Early.{lt-leaves, lt-goes}
-use Rattle.judging.proofs.cursor.in_order.Statement.{statement}
-use Rattle.judging.proofs.cursor.in_order.Tie as tie
+use Rattle.judging.proofs.cursor.Cursor.in_order.Statement.{statement}
+use Rattle.judging.proofs.cursor.Cursor.in_order.Tie as tie
 
 returns : tie.Need-returns
 returns c = lt-leaves _ _ _ (c .if1 .taken)

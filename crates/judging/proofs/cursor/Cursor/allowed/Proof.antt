@@ -1,8 +1,8 @@
 -- `allowed`: each test is a rule of the record, by what the cursor holds. Assumes nothing.
 use borrow.Author.Needs.{needs}
 use Rattle.judging.proofs.Rules.{owner-held, neighbor-held, numbered-held, not-qualified, named-twice, room-left}
-use Rattle.judging.proofs.cursor.allowed.Statement.{statement}
-use Rattle.judging.proofs.cursor.allowed.Tie as tie
+use Rattle.judging.proofs.cursor.Cursor.allowed.Statement.{statement}
+use Rattle.judging.proofs.cursor.Cursor.allowed.Tie as tie
 
 id-requires : tie.Need-id-requires
 id-requires c κs = search (needs, owner-held)

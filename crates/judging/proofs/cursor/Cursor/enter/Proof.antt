@@ -1,7 +1,7 @@
 -- `enter`: the test is that of `entered`. Assumes nothing.
 use Rattle.judging.proofs.Runs.{enter-stays, enter-moves}
-use Rattle.judging.proofs.cursor.enter.Statement.{statement}
-use Rattle.judging.proofs.cursor.enter.Tie as tie
+use Rattle.judging.proofs.cursor.Cursor.enter.Statement.{statement}
+use Rattle.judging.proofs.cursor.Cursor.enter.Tie as tie
 
 returns : tie.Need-returns
 returns c = enter-stays _ _ (c .if1 .taken)

@@ -2,8 +2,8 @@
 use denote.Ref.{now}
 use borrow.Author.Needs.{needs}
 use Rattle.judging.proofs.Bytes.{node-read, field-read}
-use Rattle.judging.proofs.entry.load.Statement.{statement}
-use Rattle.judging.proofs.entry.load.Tie as tie
+use Rattle.judging.proofs.record.load.Statement.{statement}
+use Rattle.judging.proofs.record.load.Tie as tie
 
 mul-at : tie.Need-mul-at
 mul-at c = search needs

@@ -1,8 +1,8 @@
 -- `pass`: one record more, and u in the set. Assumes nothing.
 use borrow.Author.Needs.{needs}
 use Rattle.judging.proofs.Runs.{pass-is}
-use Rattle.judging.proofs.cursor.pass.Statement.{statement}
-use Rattle.judging.proofs.cursor.pass.Tie as tie
+use Rattle.judging.proofs.cursor.Cursor.pass.Statement.{statement}
+use Rattle.judging.proofs.cursor.Cursor.pass.Tie as tie
 
 add-t3 : tie.Need-add-t3
 add-t3 c = search needs

@@ -1,8 +1,8 @@
 -- `owner_first`: an own entry that is begun began with its owner. Assumes nothing.
 use borrow.Author.Needs.{needs}
 use Rattle.judging.proofs.Rules.{owner-held, not-own, own-begun, own-begins}
-use Rattle.judging.proofs.cursor.owner_first.Statement.{statement}
-use Rattle.judging.proofs.cursor.owner_first.Tie as tie
+use Rattle.judging.proofs.cursor.Cursor.owner_first.Statement.{statement}
+use Rattle.judging.proofs.cursor.Cursor.owner_first.Tie as tie
 
 is-own-requires : tie.Need-is-own-requires
 is-own-requires c κs = search (needs, owner-held)

@@ -1,8 +1,8 @@
 -- `nodes_good`: the record's node, then its neighbour. Assumes nothing.
 use borrow.Author.Needs.{needs}
 use Rattle.judging.proofs.Bytes.{nodes-leave, nodes-go}
-use Rattle.judging.proofs.entry.nodes_good.Statement.{statement}
-use Rattle.judging.proofs.entry.nodes_good.Tie as tie
+use Rattle.judging.proofs.record.nodes_good.Statement.{statement}
+use Rattle.judging.proofs.record.nodes_good.Tie as tie
 
 load-requires : tie.Need-load-requires
 load-requires c κs = search needs
