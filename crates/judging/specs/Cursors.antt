@@ -18,6 +18,7 @@ use Rattle.judging.specs.declared.cursor.Finding.the-variants.{Good, Dis
 abbrev pub entryKey : ℕ → ℕ → ℕ → ℕ
 entryKey x i j = 65536 * x + 256 * i + j
 
+-- the entry of a record that the code holds
 abbrev pub keyOf : Record → ℕ
 keyOf e = entryKey (e .node) (e .level) (e .digit)
 

@@ -1,4 +1,5 @@
--- The marks of own entries: one byte for each node and level, 1 where a record of the node's own entry of the level is read. im is the image.
+-- The marks of own entries: one byte for each node and level, 1 where a record of the node's own entry of that level is read.
+-- im is the image.
 use Prim.Native.Nat.{ℕ, _+_, _-_, _*_, _≤_, _<_}
 use mathlib.Core.Path.{_≡_}
 use mathlib.Core.Bool.{Bool, true, cond}
@@ -9,9 +10,11 @@ use Rattle.model.specs.Loops.{allBelow, anyBelow}
 use Rattle.model.specs.Image.{imRecords, recNode, recLevel, recOwn, recOfOwn}
 use Rattle.judging.specs.Judged.{recGood}
 
+-- where the mark of node x and level i stands
 abbrev pub ownPlace : ℕ → ℕ → ℕ
 ownPlace x i = 8 * (x - 1) + i
 
+-- it is set
 unfoldable pub isMarked : List ℕ → ℕ → ℕ → Bool
 isMarked own x i = eqb (getD own (ownPlace x i) 0) 1
 

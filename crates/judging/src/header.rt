@@ -83,6 +83,7 @@ pub fn counts_wrong(image: &[u8]) -> bool
     length_wrong(image, nodes)
 }
 
+// Settings and counts of an image whose counts are right.
 pub fn load(image: &[u8]) -> Header
     requires { ⌜ Counted (now image) ⌝ }
     ensures { λ r. ⌜ Headed (now (image .entry)) r ⌝ }

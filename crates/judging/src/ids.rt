@@ -19,6 +19,7 @@ pub fn id(image: &[u8], x: usize) -> u32
     (low + 65536 * high) as u32
 }
 
+// 7, of node x.
 fn is_valid(image: &[u8], h: Header, x: usize) -> bool
     requires { ⌜ Headed (now image) h ⌝ }
     requires { ⌜ IsNode (now image) x ⌝ }
@@ -42,7 +43,7 @@ pub fn valid(image: &[u8], h: Header) -> bool
     true
 }
 
-// No node before x has its id.
+// 8, of node x: no node before it has its id.
 fn is_new(image: &[u8], x: usize) -> bool
     requires { ⌜ Counted (now image) ⌝ }
     requires { ⌜ IsNode (now image) x ⌝ }

@@ -7,11 +7,11 @@ use crate::header::byte;
 use ident::settings_in_range;
 
 mod cursor;
-mod header;
-mod ids;
+pub mod header;
+pub mod ids;
 mod own;
 mod passes;
-mod record;
+pub mod record;
 
 // 7 to 10, once the counts are right.
 fn later_refusal(image: &[u8]) -> u64

@@ -25,6 +25,7 @@ fn mark(image: &[u8], h: Header, own: &mut [u8], r: usize)
     }
 }
 
+// The marks of all records.
 fn mark_all(image: &[u8], h: Header, own: &mut [u8])
     requires { ⌜ Headed (now image) h ⌝ }
     requires { ⌜ Named (now image) ⌝ }
@@ -39,6 +40,7 @@ fn mark_all(image: &[u8], h: Header, own: &mut [u8])
     }
 }
 
+// A record of x's own entry of level i was met.
 fn is_marked(own: &[u8], x: usize, i: usize) -> bool
     requires { ⌜ length (now own) ≡ 512 ⌝ }
     requires { ⌜ Numbered x ⌝ }
@@ -65,6 +67,7 @@ fn levels_marked(own: &[u8], digits: usize, x: usize) -> bool
     true
 }
 
+// All levels of all nodes are marked.
 fn all_marked(own: &[u8], h: Header) -> bool
     requires { ⌜ length (now own) ≡ 512 ⌝ }
     requires { ⌜ h .nodes ≤ 64 ⌝ }

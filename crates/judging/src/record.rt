@@ -12,6 +12,7 @@ use crate::header::byte;
 use crate::ids::id;
 use ident::digit;
 
+// The four bytes as numbers.
 pub struct Record {
     pub node: usize,
     pub level: usize,
@@ -34,6 +35,7 @@ pub fn load(image: &[u8], h: Header, r: usize) -> Record
     }
 }
 
+// x is the number of a node.
 fn is_node(h: Header, x: usize) -> bool
     ensures { λ r. ⌜ r ≡ (leb 1 x && leb x (h .nodes)) ⌝ }
 {
