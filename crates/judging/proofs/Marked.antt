@@ -18,7 +18,7 @@ use Rattle.judging.specs.Judged.{Counted, Headed, IsNode, Named, RecordO
 use Rattle.judging.specs.Marks.{ownPlace, isMarked, levelsMarked, markedBy, Streamed, Marks}
 use Rattle.judging.specs.declared.header.Header.{Header}
 use Rattle.judging.specs.declared.record.Record.{Record}
-use Rattle.judging.proofs.Rules.{owner-node}
+use Rattle.judging.proofs.Rules.{owner-node, owner-held}
 
 -- the level of a record that keeps its order
 pub level-below : (im : List ℕ) → Streamed im → (r : ℕ) → r < imRecords im → recLevel im r < imDigits im
@@ -106,6 +106,16 @@ marks-go im r own own′ w n s l m =
 
 pub marks-end : (im : List ℕ) (n r : ℕ) (own : List ℕ) → n ≡ imRecords im → Marks im r own → r ≤ n → n ≤ r → Marks im (imRecords im) own
 marks-end im n r own e m l g = subst (λ (k : ℕ). Marks im k own) (omega arith) m
+
+-- the mark of record r, held as e, lies within the marks
+module _ (im : List ℕ) (r : ℕ) (e : Record) (n : Named im) (l : r < imRecords im) (o : RecordOf im r e) where
+  pub node-least : 1 ≤ e .node
+  node-least = owner-held im r e n l o .first
+
+  pub place-within : (own : List ℕ) → Counted im → Streamed im → length own ≡ 512 → 8 * (e .node - 1) + e .level < length own
+  place-within own w s q =
+      let x = owner-held im r e n l o in
+      omega (arith, x .first, x .last, w .few, w .digits, o .level, level-below im s r l)
 
 -- the code's mark, with record r held as e
 module _ (im : List ℕ) (r : ℕ) (e : Record) (own : List ℕ) (o : RecordOf im r e)

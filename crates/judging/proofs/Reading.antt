@@ -1,5 +1,5 @@
 -- What reading a record finds, from what its steps say. Assumes nothing.
-use Prim.Native.Nat.{ℕ, _+_, _≤_, _<_}
+use Prim.Native.Nat.{ℕ, _+_, _-_, _≤_, _<_}
 use mathlib.Core.Path.{_≡_, sym, ap, subst, _∙_}
 use mathlib.Core.Bool.{Bool, true, false, not, _&&_, and-false}
 use mathlib.Core.List.{List}
@@ -69,8 +69,18 @@ pub start-held : (im : List ℕ) (c : Cursor) → c ≡ started → (c .next ≤
 start-held im c e = (subst (λ (d : Cursor). d .next ≤ imRecords im) (sym e) (omega arith), subst (Follows im) (sym e) (start-follows im))
 
 module _ (im : List ℕ) (h : Header) (d : Headed im h) (c : Cursor) (l : c .next < h .records) (f : Finding) (w : Finds im (c .next) f) where
-  pub read-on : (past : Cursor) → f ≡ Good past → (past .next ≡ c .next + 1) × Follows im past
-  read-on past e = subst (Finds im (c .next)) e w
+  module _ (past : Cursor) (e : f ≡ Good past) where
+    goes-on : (past .next ≡ c .next + 1) × Follows im past
+    goes-on = subst (Finds im (c .next)) e w
+
+    pub read-less : h .records - past .next < h .records - c .next
+    read-less = omega (arith, goes-on .0)
+
+    pub read-within : past .next ≤ imRecords im
+    read-within = omega (arith, goes-on .0, d .records)
+
+    pub read-follows : Follows im past
+    read-follows = goes-on .1
 
   -- a record that is not good ends the loop
   stop : recGood im (c .next) ≡ false → false ≡ allBelow (imRecords im) (recGood im)

@@ -1,5 +1,5 @@
 -- The sentences 3 to 10 as the code judges them. Assumes nothing.
-use Prim.Native.Nat.{ℕ, suc, _+_, _*_, _≤_, _<_}
+use Prim.Native.Nat.{ℕ, suc, _+_, _*_, _<_}
 use mathlib.Core.Path.{_≡_, refl, sym, ap, _∙_}
 use mathlib.Core.Bool.{Bool, true, false, not, _&&_, _||_}
 use mathlib.Core.List.{List}
@@ -92,8 +92,9 @@ module _ (im : List ℕ) (a : Bool) (ea : a ≡ noSettings im) where
   says-3 g = refuse-leaves (noSettings im) 3 _ a ea g
 
   module _ (ga : a ≡ false) where
-    pub long-enough : 5 ≤ length im
-    long-enough = ltb-false (length im) 5 (or-none-left (ltb (length im) 5) _ (sym ea ∙ ga))
+    -- the settings are there
+    pub reaches : (k : ℕ) → k < 5 → k < length im
+    reaches k l = omega (arith, ltb-false (length im) 5 (or-none-left (ltb (length im) 5) _ (sym ea ∙ ga)))
 
     past-3 : (x : ℕ) → x
         ≡ refuse (otherVersion im) 4

@@ -2,7 +2,7 @@
 use native.Mathlib.Omega.{arith}
 use denote.Ref.{now}
 use borrow.Author.Needs.{needs}
-use Rattle.judging.proofs.Sentences.{long-enough, says-3, says-4, says-5, says-6, says-later, counted}
+use Rattle.judging.proofs.Sentences.{reaches, says-3, says-4, says-5, says-6, says-later, counted}
 use Rattle.judging.proofs.refusal.Statement.{statement}
 use Rattle.judging.proofs.refusal.Tie as tie
 
@@ -13,19 +13,19 @@ returns : tie.Need-returns
 returns c = search says-3
 
 shared-slice-read-if2 : tie.Need-shared-slice-read-if2
-shared-slice-read-if2 c = omega (arith, long-enough (now (c .before .before .before .before .args .image)) _ (c .before .before .no-settings .ensures) (c .before .if1 .left))
+shared-slice-read-if2 c = search (needs, reaches)
 
 returns-2 : tie.Need-returns-2
 returns-2 c = search says-4
 
 byte-requires : tie.Need-byte-requires
-byte-requires c κs = omega (arith, long-enough (now (c .before .before .before .before .before .args .image)) _ (c .before .before .before .no-settings .ensures) (c .before .before .if1 .left))
+byte-requires c κs = search (needs, reaches)
 
 byte-requires-2 : tie.Need-byte-requires-2
-byte-requires-2 c κs = omega (arith, long-enough (now (c .before .before .before .before .before .before .args .image)) _ (c .before .before .before .before .no-settings .ensures) (c .before .before .before .if1 .left))
+byte-requires-2 c κs = search (needs, reaches)
 
 byte-requires-3 : tie.Need-byte-requires-3
-byte-requires-3 c κs = omega (arith, long-enough (now (c .before .before .before .before .before .before .before .args .image)) _ (c .before .before .before .before .before .no-settings .ensures) (c .before .before .before .before .if1 .left))
+byte-requires-3 c κs = search (needs, reaches)
 
 settings-in-range-requires : tie.Need-settings-in-range-requires
 settings-in-range-requires c κs = search needs

@@ -1,8 +1,6 @@
 -- `mark`: the byte of an own entry, which lies within the marks. Assumes nothing.
-use native.Mathlib.Omega.{arith}
-use denote.Ref.{now}
 use borrow.Author.Needs.{needs}
-use Rattle.judging.proofs.Marked.{level-below, mark-own, mark-other}
+use Rattle.judging.proofs.Marked.{node-least, place-within, mark-own, mark-other}
 use Rattle.judging.proofs.Rules.{owner-held}
 use Rattle.judging.proofs.own.mark.Statement.{statement}
 use Rattle.judging.proofs.own.mark.Tie as tie
@@ -14,9 +12,7 @@ is-own-requires : tie.Need-is-own-requires
 is-own-requires c κs = search (needs, owner-held)
 
 sub-own : tie.Need-sub-own
-sub-own c =
-    let s = c .before .before .before .before .before .before in
-    omega (arith, owner-held (now (s .args .image)) (s .args .r) _ (s .pre .1 .0) (s .pre .1 .1 .1 .1) (c .before .before .before .load .ensures .0) .first)
+sub-own c = search node-least
 
 mul-own : tie.Need-mul-own
 mul-own c = search needs
@@ -25,11 +21,7 @@ add-own : tie.Need-add-own
 add-own c = search needs
 
 slice-write-own : tie.Need-slice-write-own
-slice-write-own c =
-    let s = c .before .before .before .before .before .before .before in
-    let w = s .pre .0 .counted in
-    let n = owner-held (now (s .args .image)) (s .args .r) _ (s .pre .1 .0) (s .pre .1 .1 .1 .1) (c .before .before .before .before .load .ensures .0) in
-    omega (arith, n .first, n .last, level-below (now (s .args .image)) (s .pre .1 .1 .0) (s .args .r) (s .pre .1 .1 .1 .1), w .digits, w .few, c .before .before .before .before .load .ensures .0 .level, s .pre .1 .1 .1 .0)
+slice-write-own c = search place-within
 
 same-length : tie.Need-same-length
 same-length c = search needs

@@ -19,9 +19,7 @@ loop-holds c = search needs
 
 mark-requires : tie.Need-mark-requires Inv-loop μ-loop
 mark-requires c κs =
-    let l = c .before .before .before in
-    let s = l .before .before .before in
-    (search needs, (search needs, (search needs, (l .loop .inv .1 .whole, search needs))))
+    (search needs, (search needs, (search needs, (c .before .before .before .loop .inv .1 .whole, search needs))))
 
 add-r : tie.Need-add-r Inv-loop μ-loop
 add-r c = omega arith

@@ -1,11 +1,10 @@
 -- `each_good`: the cursor follows good records, and what reading finds ends the loop or goes on. Assumes nothing.
 use Prim.Native.Nat.{_≤_, _-_}
 use native.Mathlib.Omega.{arith}
-use denote.Ref.{now}
 use borrow.Author.Needs.{needs}
 use Rattle.model.specs.Image.{imRecords}
 use Rattle.judging.specs.Cursors.{Follows}
-use Rattle.judging.proofs.Reading.{start-held, read-on, stop-disordered, stop-forbidden, stop-not-first, all-read}
+use Rattle.judging.proofs.Reading.{start-held, read-less, read-within, read-follows, stop-disordered, stop-forbidden, stop-not-first, all-read}
 use Rattle.judging.proofs.passes.each_good.Statement.{statement}
 use Rattle.judging.proofs.passes.each_good.Tie as tie
 
@@ -28,18 +27,10 @@ enum-known-past : tie.Need-enum-known-past Inv-loop μ-loop
 enum-known-past c = search needs
 
 loop-less : tie.Need-loop-less Inv-loop μ-loop
-loop-less c =
-    let l = c .before .before .before .before .before .before .before in
-    let s = l .before .before .before in
-    let w = read-on (now (s .args .image)) (s .args .h) (s .pre .0) (l .loop .c) (c .before .before .before .before .if1 .taken) _ (c .before .before .before .read .ensures) _ (c .before .past .given .1) in
-    omega (arith, w .0)
+loop-less c = search read-less
 
 loop-again : tie.Need-loop-again Inv-loop μ-loop
-loop-again c =
-    let l = c .before .before .before .before .before .before .before in
-    let s = l .before .before .before in
-    let w = read-on (now (s .args .image)) (s .args .h) (s .pre .0) (l .loop .c) (c .before .before .before .before .if1 .taken) _ (c .before .before .before .read .ensures) _ (c .before .past .given .1) in
-    (omega (arith, w .0, s .pre .0 .records), w .1)
+loop-again c = (search read-within, search read-follows)
 
 enum-told : tie.Need-enum-told Inv-loop μ-loop
 enum-told c = search needs
