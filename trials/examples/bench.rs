@@ -14,7 +14,7 @@ use trials::script::Call;
 use trials::second::memory::{STATE_WORDS, TABLE_BYTES};
 use trials::second::network::Network;
 
-const ROUNDS: usize = 40;
+const ROUNDS: usize = 150;
 const IN_FLIGHT: usize = 4;
 
 /// A founding, then beginnings and deliveries in any order until all nodes are in the system.
