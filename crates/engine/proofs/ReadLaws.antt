@@ -8,8 +8,9 @@ use Rattle.model.specs.Image.{byteAt, loaded}
 use Rattle.model.specs.Refusals.{memoryShort, imageRefusal, readRefusal}
 use Rattle.model.specs.Calls.{refused, taken, readCall}
 use Rattle.model.proofs.Calls.{taken-is, refused-is}
-use Rattle.model.proofs.Refusals.{refuse-leaves, refuse-goes}
-use Rattle.model.proofs.Taken.{read-taken, read-long}
+use Rattle.model.proofs.Refusals.{refuse-leaves, refuse-goes, passed}
+use Rattle.model.proofs.Taken.{read-taken}
+use Rattle.judging.proofs.Sentences.{counted-taken}
 use Rattle.loading.specs.Loads.{Loads}
 use Rattle.engine.specs.Outcomes.{leaves}
 
@@ -21,26 +22,15 @@ pub read-image : (s t im : List ℕ) (q : Bool) (r : ℕ) → q ≡ memoryShort 
 unfolding readRefusal
 read-image s t im q r e h f = refuse-goes (memoryShort s t) 1 (imageRefusal im) r q e h f
 
+image-taken : (s t im : List ℕ) → readRefusal s t im ≡ 0 → imageRefusal im ≡ 0
+unfolding readRefusal
+image-taken s t im e = passed (memoryShort s t) 0 (imageRefusal im) e .1
+
 -- what loading asks
 pub loads : (s t im : List ℕ) (r : ℕ) → ((a : ℕ) → byteAt im a < 256) → r ≡ readRefusal s t im → r ≡ 0 → Loads s t im
 loads s t im r bytes e z =
     let k = read-taken s t im (sym e ∙ z) in
-    let l = read-long s t im (sym e ∙ z) in
-    record {
-      state = k .0 .state;
-      tables = k .0 .tables;
-      counted = record {
-        bytes = bytes;
-        base = k .1 .range .base-most;
-        digits = k .1 .range .digits-most;
-        depth = k .1 .range .depth-most;
-        some = k .1 .some;
-        few = k .1 .few;
-        whole = l .0;
-        short = l .1;
-      };
-      readable = k .1;
-    }
+    record { state = k .0 .state; tables = k .0 .tables; counted = counted-taken im bytes (image-taken s t im (sym e ∙ z)); readable = k .1 }
 
 pub read-refused : (s t im : List ℕ) (r : ℕ) → r ≡ readRefusal s t im → (r ≡ 0 → ⊥) → leaves s t (r ∷ []) ≡ readCall s t im
 unfolding readCall refused

@@ -1,7 +1,7 @@
 -- The sentences 3 to 10 as the code judges them. Assumes nothing.
-use Prim.Native.Nat.{ℕ, suc, _+_, _*_, _<_}
+use Prim.Native.Nat.{ℕ, _+_, _*_, _<_}
 use mathlib.Core.Path.{_≡_, refl, sym, ap, _∙_}
-use mathlib.Core.Bool.{Bool, true, false, not, _&&_, _||_}
+use mathlib.Core.Bool.{Bool, true, false, not, _&&_}
 use mathlib.Core.List.{List}
 use native.Mathlib.Omega.{arith}
 use lib.Dec.{eqb, leb, ltb}
@@ -11,19 +11,12 @@ use Rattle.model.specs.Loops.{allBelow, node}
 use Rattle.model.specs.Ids.{settingsInRange}
 use Rattle.model.specs.Image.{byteAt, imBase, imDigits, imDepth, imNodes, imRecords, lengthRight, recOrdered, recAllowed, recOwnerFirst, ownHaveRecords, recNodesGood, recordsGood}
 use Rattle.model.specs.Refusals.{refuse, noSettings, otherVersion, countsWrong, imageRefusal}
-use Rattle.model.proofs.Bools.{same-test, back-false, and-left, and-right, and-intro, or-intro-left, or-intro-right, and-leaves, and-goes}
+use Rattle.model.proofs.Bools.{same-test, and-left, and-right, and-intro, and-leaves, and-goes, or-none-left, or-none-right}
 use Rattle.model.proofs.Ids.{settings-range}
 use Rattle.model.proofs.Loops.{all-at, all-of}
-use Rattle.model.proofs.Refusals.{refuse-leaves, refuse-goes, refuse-not-leaves, refuse-not-goes}
+use Rattle.model.proofs.Refusals.{refuse-leaves, refuse-goes, refuse-not-leaves, refuse-not-goes, passed}
 use Rattle.judging.specs.Judged.{Counted, Named, recGood, laterRefusal}
 use Rattle.judging.specs.Marks.{Streamed}
-
--- the parts of `a || b` where it does not hold
-or-none-left : (a b : Bool) → (a || b) ≡ false → a ≡ false
-or-none-left a b = back-false a (a || b) (or-intro-left a b)
-
-or-none-right : (a b : Bool) → (a || b) ≡ false → b ≡ false
-or-none-right a b = back-false b (a || b) (or-intro-right a b)
 
 -- what 5 and 6 leave
 pub counted-of : (im : List ℕ) → ((a : ℕ) → byteAt im a < 256) → settingsInRange (imBase im) (imDigits im) (imDepth im) ≡ true
@@ -133,11 +126,6 @@ module _ (im : List ℕ) (a : Bool) (ea : a ≡ noSettings im) where
         counted g bytes = counted-of im bytes (sym settings ∙ not-false b gb) (sym ew ∙ g)
 
 -- ---- an image that nothing refuses
-
-passed : (test : Bool) (n later : ℕ) → refuse test (suc n) later ≡ 0 → (test ≡ false) × (later ≡ 0)
-unfolding refuse
-passed true n later e = absurd (omega arith)
-passed false n later e = (refl, e)
 
 -- what loading an image that is taken may go by
 pub counted-taken : (im : List ℕ) → ((a : ℕ) → byteAt im a < 256) → imageRefusal im ≡ 0 → Counted im

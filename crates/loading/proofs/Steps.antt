@@ -13,7 +13,7 @@ use Rattle.model.specs.Image.{imBase, imDigits, imDepth, imNodes, imId, imRecor
 use Rattle.model.proofs.Memory.{zeroed-length, table-set}
 use Rattle.model.proofs.Loading.{Readable, Words, words-loaded, record-ok, record-room}
 use Rattle.judging.specs.declared.header.Header.{Header}
-use Rattle.judging.specs.declared.entry.Record.{Record}
+use Rattle.judging.specs.declared.record.Record.{Record}
 use Rattle.judging.specs.Judged.{Headed, RecordOf, Small}
 use Rattle.loading.specs.Loads.{after, Loads, Fills, Appends}
 

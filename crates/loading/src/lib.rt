@@ -9,10 +9,10 @@ ghost use Rattle.model.specs.Join.{withSettings};
 ghost use Rattle.model.specs.Image.{imNodes, imRecords, loadId, loadRecord, loaded};
 ghost use Rattle.judging.specs.Judged.{Headed};
 ghost use Rattle.loading.specs.Loads.{after, Loads, Fills, Appends};
-use judging::entry;
 use judging::header;
 use judging::header::Header;
 use judging::ids;
+use judging::record;
 use records::settings;
 use records::settings::Settings;
 use tables::part;
@@ -61,7 +61,7 @@ fn load_records(tables: &mut [u8], image: &[u8], h: Header)
 {
     let mut r = 0;
     while r < h.records {
-        let e = entry::load(image, h, r);
+        let e = record::load(image, h, r);
         append(tables, h.depth, e.node, e.level, e.digit, e.neighbor);
         r += 1;
     }

@@ -1,5 +1,5 @@
 -- A taken beginning leaves a sound state: one node more, copying, with its own entries only. Assumes nothing.
-use Prim.Native.Nat.{ℕ, _+_, _-_, _*_, _≤_, _<_}
+use Prim.Native.Nat.{ℕ, _+_, _*_, _≤_, _<_}
 use mathlib.Core.Path.{_≡_, sym, ap, ap₂, subst, subst₂, subst₃, _∙_}
 use mathlib.Core.Logic.{_≢_, _⊎_, inl, inr, ⊎-elim}
 use mathlib.Core.Bool.{true, _&&_, _||_}
@@ -11,16 +11,15 @@ use lib.ListN.{length, getD, set, length-set}
 use lib.Seq.{getD-set-same, getD-set-other}
 use borrow.Author.Tests.{eq-eqb}
 use Rattle.model.specs.Ids.{validId}
-use Rattle.model.specs.Memory.{stateLength, tablesLength, base, digits, depth, nodeCount, idOf, statusOf, isAttached, isInSystem, copying, tableStart, tableOf, withNode}
+use Rattle.model.specs.Memory.{tablesLength, base, digits, depth, nodeCount, idOf, isInSystem, copying, tableStart, tableOf}
 use Rattle.model.specs.Tables.{ownTable}
-use Rattle.model.specs.Sound.{spareZero, sound}
-use Rattle.model.specs.Memory.{Memory}
+use Rattle.model.specs.Sound.{spareZero}
 use Rattle.model.specs.Join.{joiningNode, begun}
-use Rattle.model.proofs.Bools.{and-left, and-right, and-intro}
+use Rattle.model.proofs.Bools.{and-intro}
 use Rattle.model.proofs.Memory.{Stored, node-length, node-stored, node-outside, stored-length, stored-outside, stored-same, stored-other}
 use Rattle.model.proofs.Status.{IsNode, StatusOk, is-copying}
 use Rattle.model.proofs.Ids.{InRange}
-use Rattle.model.proofs.Sound.{TableOk, Long, Sound, sound-of}
+use Rattle.model.proofs.Sound.{TableOk, Long, Sound}
 use Rattle.model.proofs.Own.{own-long, own-table}
 use Rattle.model.proofs.Later.{Later, Kept, node-later, table-later, status-later}
 

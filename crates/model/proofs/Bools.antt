@@ -65,6 +65,15 @@ pub or-intro-right : (a b : Bool) → b ≡ true → (a || b) ≡ true
 or-intro-right true b e = refl
 or-intro-right false b e = e
 
+-- the parts of `a || b` where it does not hold
+pub or-none-left : (a b : Bool) → (a || b) ≡ false → a ≡ false
+or-none-left true b e = e
+or-none-left false b e = refl
+
+pub or-none-right : (a b : Bool) → (a || b) ≡ false → b ≡ false
+or-none-right true b e = absurd (not-both true refl e)
+or-none-right false b e = e
+
 -- ---- code that returns early: `if !r { return false; } s` for `a && b`, and `if r { return true; } s` for `a || b`
 
 pub and-leaves : (a b r : Bool) → r ≡ a → not r ≡ true → false ≡ (a && b)

@@ -1,18 +1,15 @@
 -- Every taken delivery leaves a sound state. Assumes nothing.
 use Prim.Native.Nat.{ℕ, _+_, _≤_}
-use mathlib.Core.Path.{_≡_, refl, sym, ap, subst, _∙_}
-use mathlib.Core.Logic.{_≢_, _⊎_, inl, inr}
+use mathlib.Core.Path.{_≡_, refl, sym, ap, subst}
 use mathlib.Core.Bool.{Bool, true, false, cond, _||_}
 use mathlib.Core.List.{List}
 use lib.Dec.{eqb}
 use Rattle.model.specs.Memory.{idOf, statusOf, inSystem, copying, waiting, notifying, isInSystem, isAttached, withNode, tableOf, withTable}
 use Rattle.model.specs.Sound.{suffixOf}
-use Rattle.model.specs.Memory.{Memory}
 use Rattle.model.specs.Join.{Delivery, joiningNode, roomAtSuffix, firstAtSuffix, outstanding, deliverCopying, deliverSentOn, deliverAttached, deliverWaiting, deliverNotifying, delivery, delivered}
 use Rattle.model.specs.Learning.{learnTable}
 use Rattle.model.specs.Refusals.{waitHeld}
-use Rattle.model.proofs.Bools.{true-or-false}
-use Rattle.model.proofs.Status.{IsNode, StatusOk}
+use Rattle.model.proofs.Status.{IsNode}
 use Rattle.model.proofs.Sound.{Sound}
 use Rattle.model.proofs.Sender.{Sending, copies, waits, notifies, sending, Receiver, receiver}
 use Rattle.model.proofs.Delivering.{Next, copy, wait, asking-ok, first-node}

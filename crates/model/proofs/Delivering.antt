@@ -1,33 +1,30 @@
 -- A taken delivery leaves a sound state, whatever its kind. Assumes nothing.
-use Prim.Native.Nat.{ℕ, suc, _+_, _-_, _*_, _/_, _%_, _^_, _≤_, _<_}
-use mathlib.Core.Path.{_≡_, refl, sym, ap, ap₂, subst, subst₃, _∙_}
-use mathlib.Core.Logic.{_≢_, _⊎_, inl, inr, ⊎-elim}
-use mathlib.Core.Bool.{Bool, true, false, cond, not, _&&_, _||_}
+use Prim.Native.Nat.{ℕ, _+_, _*_, _≤_, _<_}
+use mathlib.Core.Path.{_≡_, refl, sym, ap, subst, subst₃, _∙_}
+use mathlib.Core.Logic.{_≢_, ⊎-elim}
+use mathlib.Core.Bool.{true, false}
 use mathlib.Core.List.{List}
-use native.Mathlib.Decide.{ℕ-discrete, decLt}
+use native.Mathlib.Decide.{decLt}
 use native.Mathlib.Omega.{arith}
-use lib.Dec.{eqb, ltb}
+use lib.Dec.{eqb}
 use lib.ListN.{length, getD}
-use borrow.Author.Tests.{eqb-true, eqb-false, ltb-true, ltb-false}
-use Rattle.model.specs.Loops.{allBelow}
+use borrow.Author.Tests.{eqb-true, ltb-false}
 use Rattle.model.specs.Ids.{validId, digitOf, commonSuffix}
-use Rattle.model.specs.Memory.{base, digits, depth, nodeCount, Node, idOf, statusOf, levelOf, pendingOf, notifiedOf, withNode, inSystem, copying, waiting, notifying, isInSystem, isAttached, hasNode, addNode, removeNode, tableOf, withTable}
+use Rattle.model.specs.Memory.{base, digits, depth, Node, idOf, withNode, copying, waiting, isInSystem, isAttached, tableOf, withTable}
 use Rattle.model.specs.Tables.{qualified, slotPlace, entrySize}
-use Rattle.model.specs.Sound.{suffixOf, mayStand}
-use Rattle.model.specs.Learning.{learn, learnTable}
-use Rattle.model.specs.Join.{joiningNode, inSystemNode, notifyingNode, settle, roomAtSuffix, firstAtSuffix, gather, attachLevel}
-use Rattle.model.proofs.Bools.{or-cases, or-intro-right, not-both, true-or-false}
+use Rattle.model.specs.Sound.{suffixOf}
+use Rattle.model.specs.Learning.{learnTable}
+use Rattle.model.specs.Join.{joiningNode, roomAtSuffix, firstAtSuffix}
+use Rattle.model.proofs.Bools.{or-cases, or-intro-right, not-both}
 use Rattle.model.proofs.Ids.{InRange, suffix-sym, suffix-other, next-hop, valid-digit}
-use Rattle.model.proofs.Sets.{has-none, has-add, has-remove, has-added, add-within, remove-le}
 use Rattle.model.proofs.Memory.{Stored, node-stored, table-length}
-use Rattle.model.proofs.Tables.{size-filled, size-le}
-use Rattle.model.proofs.Status.{IsNode, StatusOk, NotifyingOk, is-in-system, is-copying, is-waiting, is-notifying}
-use Rattle.model.proofs.Sound.{SlotOk, TableOk, standing, Sound, node-fits, table-fits}
-use Rattle.model.proofs.Rules.{Known, OwnTable, learn-keeps, learn-table-keeps}
+use Rattle.model.proofs.Tables.{size-filled}
+use Rattle.model.proofs.Status.{IsNode, StatusOk, is-copying, is-waiting}
+use Rattle.model.proofs.Sound.{SlotOk, standing, Sound, node-fits, table-fits}
+use Rattle.model.proofs.Rules.{Known, OwnTable, learn-table-keeps}
 use Rattle.model.proofs.Later.{Later, node-later, suffix-later, table-later}
-use Rattle.model.proofs.Replaced.{Agree, agree-node, agree-nodes, agree-count, agree-kept, agree-later, replaced-ok}
+use Rattle.model.proofs.Replaced.{agree-node, agree-later, replaced-ok}
 use Rattle.model.proofs.Sender.{attached-in-system}
-use Rattle.model.proofs.Gather.{ToNotify, Gathered, gather-has, gather-within}
 
 pub own-later : (s s′ : List ℕ) → Later s s′ → (x : ℕ) (T : List ℕ) → IsNode s x → OwnTable s x T → OwnTable s′ x T
 own-later s s′ l x T n o = record { long = o .long; rules = table-later s s′ l x T n (o .rules) }

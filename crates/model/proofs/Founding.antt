@@ -1,19 +1,17 @@
 -- The founded state is sound, for all settings in range and every valid id. Assumes nothing.
-use Prim.Native.Nat.{ℕ, _+_, _-_, _*_, _≤_, _<_}
+use Prim.Native.Nat.{ℕ, _+_, _≤_, _<_}
 use mathlib.Core.Path.{_≡_, refl, sym, ap₂, subst, subst₃, _∙_}
 use mathlib.Core.Logic.{_≢_, _⊎_, inl, inr}
-use mathlib.Core.Bool.{Bool, true}
+use mathlib.Core.Bool.{true}
 use mathlib.Core.List.{List, [], _∷_}
 use native.Mathlib.Omega.{arith}
-use lib.Dec.{eqb}
-use lib.ListN.{length, getD, set, length-set}
-use lib.Seq.{getD-set-same, getD-set-other}
+use lib.ListN.{length, getD, length-set}
+use lib.Seq.{getD-set-other}
 use borrow.Author.Tests.{eq-eqb}
 use Rattle.model.specs.Ids.{validId}
 use Rattle.model.specs.Memory.{stateLength, tablesLength, base, digits, depth, nodeCount, idOf, zeroed, tableStart, tableOf}
 use Rattle.model.specs.Tables.{ownTable}
 use Rattle.model.specs.Sound.{spareZero, sound}
-use Rattle.model.specs.Memory.{Memory}
 use Rattle.model.specs.Join.{withSettings, inSystemNode, founded}
 use Rattle.model.proofs.Bools.{and-intro}
 use Rattle.model.proofs.Memory.{Stored, node-length, node-stored, node-outside, stored-length, stored-outside, stored-same, zeroed-length, zeroed-within}

@@ -1,7 +1,6 @@
 -- Every taken call leads to a later state in which each table has only gained nodes. Assumes nothing.
-use Prim.Native.Nat.{ℕ, _+_, _*_, _≤_, _<_}
-use mathlib.Core.Path.{_≡_, refl, sym, ap, ap₂, subst, _∙_}
-use mathlib.Core.Logic.{_≢_, _⊎_, inl, inr}
+use Prim.Native.Nat.{ℕ, _+_, _*_, _≤_}
+use mathlib.Core.Path.{_≡_, refl, sym, ap, subst, _∙_}
 use mathlib.Core.Bool.{Bool, true, false, cond, _||_}
 use mathlib.Core.List.{List}
 use native.Mathlib.Nat.{le-trans}
@@ -11,9 +10,8 @@ use lib.Dec.{eqb}
 use lib.ListN.{length}
 use Rattle.model.specs.Memory.{digits, nodeCount, Node, idOf, statusOf, inSystem, copying, waiting, notifying, isAttached, isInSystem, withNode, tableStart, tableOf, withTable}
 use Rattle.model.specs.Tables.{ownTable}
-use Rattle.model.specs.Memory.{Memory}
 use Rattle.model.specs.Join.{Delivery, inSystemNode, joiningNode, notifyingNode, settle, begun, roomAtSuffix, firstAtSuffix, deliverCopying, deliverSentOn, deliverAttached, deliverWaiting, deliverNotifying, delivery, delivered}
-use Rattle.model.proofs.Bools.{back-false, not-both}
+use Rattle.model.proofs.Bools.{not-both}
 use Rattle.model.proofs.Memory.{node-stored, table-length, stored-length, stored-same, stored-other}
 use Rattle.model.proofs.Tables.{Grows, grows-refl, grows-trans}
 use Rattle.model.proofs.Learning.{learn-grows, learn-table-grows}
@@ -22,7 +20,7 @@ use Rattle.model.proofs.Sound.{Sound, node-fits, table-fits}
 use Rattle.model.proofs.Own.{own-long}
 use Rattle.model.proofs.Later.{Later, node-later}
 use Rattle.model.proofs.Replaced.{agree-node, agree-count, agree-later}
-use Rattle.model.proofs.Sender.{Sending, copies, waits, notifies, sending, Receiver, receiver, attached-in-system}
+use Rattle.model.proofs.Sender.{Sending, copies, waits, notifies, sending, Receiver, receiver}
 use Rattle.model.proofs.Beginning.{CanBegin, begun-later}
 use Rattle.model.proofs.Delivering.{later-refl}
 use Rattle.model.proofs.Delivered.{delivery-is, CanDeliver}

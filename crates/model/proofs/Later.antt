@@ -1,22 +1,21 @@
 -- A later state of the same network: nodes may have come, and the earlier ones keep their ids, stay attached and stay in the system.
 -- What the rules say of a table or a record that did not change holds on. Assumes nothing.
 use Prim.Native.Nat.{ℕ, _^_, _≤_, _<_}
-use mathlib.Core.Path.{_≡_, refl, sym, ap, ap₂, subst, subst₃, _∙_}
-use mathlib.Core.Logic.{_≢_, _⊎_, inl, inr, ⊎-elim}
-use mathlib.Core.Bool.{Bool, true, false, _||_}
+use mathlib.Core.Path.{_≡_, sym, ap, ap₂, _∙_}
+use mathlib.Core.Logic.{_≢_, ⊎-elim}
+use mathlib.Core.Bool.{true}
 use mathlib.Core.List.{List}
 use native.Mathlib.Nat.{le-trans, lt-of-lt-of-le}
 use native.Mathlib.Omega.{arith}
 use lib.Dec.{eqb}
-use lib.ListN.{getD}
 use lib.Pow.{pow-mono}
 use Rattle.model.specs.Ids.{commonSuffix, digitOf}
 use Rattle.model.specs.Memory.{base, digits, depth, nodeCount, idOf, statusOf, levelOf, targetOf, pendingOf, notifiedOf, hasNode, isAttached, isInSystem}
 use Rattle.model.specs.Tables.{qualified, slotAt, firstOf}
-use Rattle.model.specs.Sound.{mayStand, qualifies, suffixOf, placeUsed}
+use Rattle.model.specs.Sound.{mayStand, suffixOf, placeUsed}
 use Rattle.model.proofs.Bools.{or-cases, or-intro-left, or-intro-right}
 use Rattle.model.proofs.Sets.{has-within}
-use Rattle.model.proofs.Status.{IsNode, InSystemOk, JoiningOk, CopyingOk, WaitingOk, PendingOk, NotifiedOk, NotifyingOk, StatusOk, is-in-system, is-copying, is-waiting, is-notifying}
+use Rattle.model.proofs.Status.{IsNode, JoiningOk, PendingOk, NotifiedOk, NotifyingOk, StatusOk, is-in-system, is-copying, is-waiting, is-notifying}
 use Rattle.model.proofs.Sound.{SlotOk, TableOk}
 
 pub record Later (s s′ : List ℕ) : Type 0 where

@@ -1,17 +1,16 @@
 -- Laws of learning: a learned node is appended where it may be, and nothing else changes. Assumes nothing.
-use Prim.Native.Nat.{ℕ, suc, _+_, _*_, _≤_, _<_}
+use Prim.Native.Nat.{ℕ, suc, _*_, _≤_, _<_}
 use mathlib.Core.Path.{_≡_, refl, ap, ap₂, _∙_}
 use mathlib.Core.Logic.{_≢_, _⊎_, inl, inr, ⊎-elim}
-use mathlib.Core.Bool.{Bool, true, false, cond, not, _&&_, _||_}
+use mathlib.Core.Bool.{Bool, true, false, cond, _&&_, _||_}
 use mathlib.Core.List.{List}
 use native.Mathlib.Omega.{arith}
-use lib.Dec.{leb, ltb, eqb}
-use lib.ListN.{length, getD}
+use lib.Dec.{leb, eqb}
+use lib.ListN.{getD}
 use borrow.Author.Tests.{leb-true, ltb-true, eqb-false, not-true}
-use Rattle.model.specs.Loops.{eachBelow}
 use Rattle.model.specs.Ids.{digitOf}
 use Rattle.model.specs.Memory.{depth, idOf}
-use Rattle.model.specs.Tables.{slotPlace, entrySize, holds, append}
+use Rattle.model.specs.Tables.{entrySize, holds, append}
 use Rattle.model.specs.Sound.{suffixOf}
 use Rattle.model.specs.Learning.{floorOf, roomFor, learnAt, learn, learnPlace, learnTable}
 use Rattle.model.proofs.Bools.{and-left, and-right, true-or-false}

@@ -1,23 +1,22 @@
 -- The state that an image gives is sound, if reading takes the image. The entries of each table are the neighbours of the entry's
 -- records, in their order. Assumes nothing.
-use Prim.Native.Nat.{ℕ, zero, suc, _+_, _-_, _*_, _≤_, _<_}
+use Prim.Native.Nat.{ℕ, zero, suc, _+_, _*_, _≤_, _<_}
 use mathlib.Core.Path.{_≡_, refl, sym, ap, ap₂, subst, subst₂, subst₃, _∙_}
-use mathlib.Core.Logic.{_≢_, _⊎_, inl, inr, ⊎-elim}
+use mathlib.Core.Logic.{_≢_, inr}
 use mathlib.Core.Bool.{Bool, true, false, cond, not, _&&_, _||_}
 use mathlib.Core.List.{List, [], _∷_, _++_, append-nil}
-use native.Mathlib.Nat.{le-refl, le-of-suc-le-suc, eq-or-lt-of-le}
+use native.Mathlib.Nat.{le-refl}
 use native.Mathlib.Decide.{ℕ-discrete, decLt}
 use native.Mathlib.Omega.{arith}
-use lib.Dec.{eqb, ltb, leb}
-use lib.ListN.{length, getD, set, length-set}
+use lib.Dec.{eqb, ltb}
+use lib.ListN.{length, getD, length-set}
 use lib.Seq.{getD-set-same, getD-set-other}
-use borrow.Author.Tests.{eqb-true, eqb-false, eq-eqb, ltb-true, not-true}
+use borrow.Author.Tests.{eqb-true, eq-eqb, ltb-true, not-true}
 use Rattle.model.specs.Loops.{anyBelow, eachBelow, joinBelow, countBelow}
 use Rattle.model.specs.Ids.{validId, digitOf}
 use Rattle.model.specs.Memory.{stateLength, tablesLength, base, digits, depth, nodeCount, idOf, statusOf, zeroed, tableStart, tableOf, withTable, isAttached}
 use Rattle.model.specs.Tables.{qualified, slotPlace, slotAt, firstOf, entrySize, entry, holds, append}
-use Rattle.model.specs.Sound.{mayStand, qualifies, placeUsed, spareZero}
-use Rattle.model.specs.Memory.{Memory}
+use Rattle.model.specs.Sound.{qualifies}
 use Rattle.model.specs.Join.{withSettings}
 use Rattle.model.specs.Image.{imBase, imDigits, imDepth, imNodes, imId, imRecords, recNode, recLevel, recDigit, recNeighbor, sameEntry, recOrdered, recAllowed, sameNeighbor, recOwn, recOwnerFirst, recOfOwn, ownHasRecord, ownHaveRecords, loadId, loadRecord, loaded}
 use Rattle.model.proofs.Bools.{back-false, or-right, and-left, and-right, and-intro, or-intro-right, not-both}

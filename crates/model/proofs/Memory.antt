@@ -2,7 +2,7 @@
 use Prim.Native.Nat.{ℕ, _+_, _-_, _*_, _≤_, _<_}
 use mathlib.Core.Path.{_≡_, refl, sym, ap, subst, _∙_}
 use mathlib.Core.Logic.{_≢_, _⊎_, inl, inr, ⊎-elim}
-use mathlib.Core.List.{List, [], _∷_, _++_, append-assoc}
+use mathlib.Core.List.{List, [], _∷_, append-assoc}
 use native.Mathlib.Nat.{add-zero, le-antisymm}
 use native.Mathlib.Decide.{ℕ-discrete, decLt}
 use native.Mathlib.Numerals.{towards-suc}
@@ -10,7 +10,7 @@ use native.Mathlib.Omega.{arith}
 use lib.ListN.{length, getD, set, take, drop, replicate, length-set, length-append, length-drop, length-replicate, getD-replicate, List·getD-append}
 use borrow.Author.Fill.{fill-more}
 use lib.Dec.{lit<}
-use lib.Seq.{sets, sets-eq, getD-set-same, getD-set-other, getD-drop, getD-append-add, ext-getD}
+use lib.Seq.{sets, sets-eq, getD-set-same, getD-set-other, ext-getD}
 use Rattle.model.specs.Memory.{Node, idOf, statusOf, levelOf, targetOf, pendingOf, notifiedOf, withNode, tableStart, tableOf, withTable, zeroed}
 use Rattle.model.proofs.Splice.{splice, splice-length, splice-before, splice-at, splice-after, part-length, part-at, part-same}
 

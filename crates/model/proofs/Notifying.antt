@@ -1,17 +1,16 @@
 -- A delivery that attaches its sender, or that a notifying sender makes, leaves a sound state. Assumes nothing.
 use Prim.Native.Nat.{ℕ, suc, _+_, _*_, _^_, _≤_, _<_}
-use mathlib.Core.Path.{_≡_, refl, sym, ap, ap₂, subst, subst₂, _∙_}
+use mathlib.Core.Path.{_≡_, refl, sym, ap, subst, subst₂, _∙_}
 use mathlib.Core.Logic.{_≢_, _⊎_, inl, inr, ⊎-elim}
-use mathlib.Core.Bool.{Bool, true, false, cond, not, _&&_, _||_}
+use mathlib.Core.Bool.{Bool, true, false, cond, _||_}
 use mathlib.Core.List.{List}
 use native.Mathlib.Nat.{le-of-suc-le-suc, eq-or-lt-of-le}
 use native.Mathlib.Decide.{ℕ-discrete}
 use native.Mathlib.Omega.{arith}
-use lib.Dec.{eqb, ltb, leb}
+use lib.Dec.{eqb, ltb}
 use lib.ListN.{length, getD}
 use lib.Pow.{pow-pos}
 use borrow.Author.Tests.{eqb-true, eqb-false, lt-ltb}
-use Rattle.model.specs.Loops.{allBelow, firstBelow}
 use Rattle.model.specs.Memory.{base, digits, depth, nodeCount, Node, idOf, statusOf, levelOf, pendingOf, notifiedOf, withNode, inSystem, notifying, isInSystem, isAttached, hasNode, addNode, removeNode, tableOf, withTable}
 use Rattle.model.specs.Sound.{suffixOf}
 use Rattle.model.specs.Learning.{learn, learnTable}
@@ -23,8 +22,8 @@ use Rattle.model.proofs.Memory.{Stored, node-stored}
 use Rattle.model.proofs.Status.{IsNode, StatusOk, NotifyingOk, is-in-system, is-notifying}
 use Rattle.model.proofs.Ids.{InRange}
 use Rattle.model.proofs.Sound.{standing, Sound, node-fits}
-use Rattle.model.proofs.Rules.{Known, OwnTable, learn-keeps, learn-table-keeps}
-use Rattle.model.proofs.Later.{Later, node-later, suffix-later}
+use Rattle.model.proofs.Rules.{OwnTable, learn-keeps, learn-table-keeps}
+use Rattle.model.proofs.Later.{Later, suffix-later}
 use Rattle.model.proofs.Replaced.{Agree, agree-node, agree-nodes, agree-count, agree-kept, agree-later, replaced-ok}
 use Rattle.model.proofs.Sender.{attached-in-system}
 use Rattle.model.proofs.Gather.{ToNotify, Gathered, gather-has, gather-within}

@@ -1,25 +1,24 @@
 -- The table of a new node holds the node itself in its own entries and nothing else, and keeps the rules. Assumes nothing.
-use Prim.Native.Nat.{ℕ, suc, _+_, _*_, _/_, _%_, _≤_, _<_}
+use Prim.Native.Nat.{ℕ, _≤_, _<_}
 use mathlib.Core.Path.{_≡_, refl, sym, ap, ap₂, _∙_}
-use mathlib.Core.Logic.{_≢_, _⊎_, inl, inr, ⊎-elim}
-use mathlib.Core.Bool.{Bool, true, false}
+use mathlib.Core.Logic.{_≢_, ⊎-elim}
+use mathlib.Core.Bool.{true}
 use mathlib.Core.List.{List}
 use native.Mathlib.Nat.{eq-or-lt-of-le, le-of-suc-le-suc, le-of-lt}
 use native.Mathlib.Decide.{ℕ-discrete}
 use native.Mathlib.Omega.{arith}
 use lib.Dec.{eqb}
-use lib.ListN.{length, getD, set, replicate, length-set, length-replicate, getD-replicate}
+use lib.ListN.{length, getD, replicate, length-set, length-replicate, getD-replicate}
 use lib.Seq.{getD-set-same, getD-set-other}
 use borrow.Author.Tests.{eq-eqb}
-use Rattle.model.specs.Loops.{eachBelow}
 use Rattle.model.specs.Ids.{validId, digitOf}
-use Rattle.model.specs.Memory.{base, digits, depth, nodeCount, idOf}
+use Rattle.model.specs.Memory.{base, digits, depth, idOf}
 use Rattle.model.specs.Tables.{slotPlace, slotAt, ownSlot, ownTable}
-use Rattle.model.specs.Sound.{mayStand, placeUsed}
+use Rattle.model.specs.Sound.{placeUsed}
 use Rattle.model.proofs.Bools.{or-intro-left, not-both}
 use Rattle.model.proofs.Loops.{each-leads}
 use Rattle.model.proofs.Ids.{InRange, digit-lt, valid-digit, suffix-self, qualified-of}
-use Rattle.model.proofs.Sound.{SlotOk, TableOk, slot-used}
+use Rattle.model.proofs.Sound.{SlotOk, slot-used}
 use Rattle.model.proofs.Status.{IsNode}
 use Rattle.model.proofs.Rules.{OwnTable}
 

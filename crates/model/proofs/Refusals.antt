@@ -1,7 +1,8 @@
 -- The ways of a chain of early returns that judges sentences in order. Assumes nothing.
-use Prim.Native.Nat.{ℕ}
-use mathlib.Core.Path.{_≡_, sym, ap, _∙_}
+use Prim.Native.Nat.{ℕ, suc}
+use mathlib.Core.Path.{_≡_, refl, sym, ap, _∙_}
 use mathlib.Core.Bool.{Bool, true, false, cond, not}
+use native.Mathlib.Omega.{arith}
 use Rattle.model.specs.Refusals.{refuse}
 
 pub refuse-leaves : (test : Bool) (n later : ℕ) (r : Bool) → r ≡ test → r ≡ true → n ≡ refuse test n later
@@ -19,3 +20,9 @@ pub refuse-not-goes : (test : Bool) (n later x : ℕ) (r : Bool) → r ≡ test 
 refuse-not-goes test n later x r e h q = refuse-goes (not test) n later x (not r) (ap not e) h q
 
 pub ruleset sentences = (refuse-leaves, refuse-goes, refuse-not-leaves, refuse-not-goes)
+
+-- a sentence that did not refuse: its test was false, and the later ones did not refuse either
+pub passed : (test : Bool) (n later : ℕ) → refuse test (suc n) later ≡ 0 → (test ≡ false) × (later ≡ 0)
+unfolding refuse
+passed true n later e = absurd (omega arith)
+passed false n later e = (refl, e)

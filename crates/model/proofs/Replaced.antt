@@ -1,8 +1,8 @@
 -- A step that replaces one node's record and two tables leaves a sound state if the new record and tables keep their rules.
 -- Assumes nothing.
-use Prim.Native.Nat.{ℕ, _+_, _-_, _*_, _≤_, _<_}
-use mathlib.Core.Path.{_≡_, refl, sym, ap, ap₂, subst, subst₃, _∙_}
-use mathlib.Core.Logic.{_≢_, _⊎_, inl, inr, ⊎-elim}
+use Prim.Native.Nat.{ℕ, _+_, _*_, _≤_, _<_}
+use mathlib.Core.Path.{_≡_, sym, ap, ap₂, subst, subst₃, _∙_}
+use mathlib.Core.Logic.{_≢_, _⊎_, inl, inr}
 use mathlib.Core.Bool.{true, _&&_, _||_}
 use mathlib.Core.List.{List}
 use native.Mathlib.Decide.{ℕ-discrete, decLt}
@@ -10,7 +10,7 @@ use native.Mathlib.Omega.{arith}
 use lib.Dec.{eqb}
 use lib.ListN.{length, getD}
 use Rattle.model.specs.Ids.{validId}
-use Rattle.model.specs.Memory.{stateLength, tablesLength, base, digits, depth, nodeCount, Node, idOf, statusOf, isAttached, isInSystem, withNode, tableStart, tableOf, withTable}
+use Rattle.model.specs.Memory.{tablesLength, base, digits, depth, nodeCount, Node, idOf, isAttached, isInSystem, withNode, tableStart, tableOf, withTable}
 use Rattle.model.specs.Sound.{spareZero}
 use Rattle.model.proofs.Memory.{node-length, node-stored, node-outside, stored-length, stored-outside, stored-same, stored-other}
 use Rattle.model.proofs.Status.{IsNode, StatusOk}

@@ -1,14 +1,14 @@
 -- The rules of a node's status as facts, one record for each status, and the way there and back. Assumes nothing.
 use Prim.Native.Nat.{ℕ, _≤_, _<_, _^_}
-use mathlib.Core.Path.{_≡_, refl, sym, ap, _∙_}
+use mathlib.Core.Path.{_≡_, refl, ap}
 use mathlib.Core.Logic.{_≢_, ⊎-elim}
 use mathlib.Core.Bool.{Bool, true, false, not, _&&_, _||_}
 use mathlib.Core.List.{List}
-use lib.Dec.{leb, ltb, eqb}
+use lib.Dec.{eqb}
 use borrow.Author.Tests.{eqb-true, eqb-false, eq-eqb, ne-eqb, leb-true, le-leb, ltb-true, lt-ltb, not-true}
 use Rattle.model.specs.Loops.{allBelow, node}
 use Rattle.model.specs.Memory.{digits, nodeCount, statusOf, levelOf, targetOf, pendingOf, notifiedOf, inSystem, copying, waiting, notifying, hasNode, isAttached, isInSystem}
-use Rattle.model.specs.Sound.{isNode, suffixOf, inSystemSound, joiningSound, copyingSound, waitingSound, pendingSound, notifiedSound, onlyNodes, notifyingSound, statusSound}
+use Rattle.model.specs.Sound.{isNode, suffixOf, inSystemSound, joiningSound, copyingSound, waitingSound, pendingSound, notifiedSound, notifyingSound, statusSound}
 use Rattle.model.proofs.Bools.{and-left, and-right, and-intro, or-cases, or-right, or-intro-left, or-intro-right}
 use Rattle.model.proofs.Nodes.{nodes-at, nodes-of}
 

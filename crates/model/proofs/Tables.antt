@@ -1,11 +1,10 @@
 -- Laws of an entry of a table: how many stand in it, what appending adds, and that appending changes no other place. T is the table of
 -- one node, K at most 4. Assumes nothing.
-use Prim.Native.Nat.{ℕ, suc, _+_, _-_, _*_, _≤_, _<_}
-use mathlib.Core.Path.{_≡_, refl, sym, ap, subst, _∙_}
-use mathlib.Core.Logic.{_≢_, _⊎_, inl, inr}
-use mathlib.Core.Bool.{Bool, true, false}
+use Prim.Native.Nat.{ℕ, suc, _+_, _≤_, _<_}
+use mathlib.Core.Path.{_≡_, refl, sym, ap, _∙_}
+use mathlib.Core.Logic.{_≢_}
+use mathlib.Core.Bool.{false}
 use mathlib.Core.List.{List, [], _∷_, _++_}
-use native.Mathlib.Nat.{le-antisymm}
 use native.Mathlib.Decide.{decLt, le-ind}
 use native.Mathlib.Numerals.{add-one}
 use native.Mathlib.Omega.{arith}
@@ -13,10 +12,9 @@ use lib.Dec.{eqb}
 use lib.ListN.{length, getD, set, take, drop, length-set, length-drop}
 use lib.Seq.{ext-getD, getD-set-same, getD-set-other, drop-set-add, take-suc-set}
 use borrow.Author.Tests.{eqb-true, eqb-false, eq-eqb, ne-eqb}
-use Rattle.model.specs.Loops.{firstBelow}
 use Rattle.model.specs.Tables.{slotPlace, slotAt, slotIs, entrySize, entry, holds, append}
 use Rattle.model.proofs.Splice.{part-length, part-at}
-use Rattle.model.proofs.Loops.{First, first-is, first-le, first-before, first-holds, first-unique, first-min, first-same, any-at, any-false}
+use Rattle.model.proofs.Loops.{first-le, first-before, first-holds, first-unique, first-min, first-same, any-at, any-false}
 
 -- ---- how many stand in an entry
 

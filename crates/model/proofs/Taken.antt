@@ -1,22 +1,21 @@
 -- What a call that is not refused may go by: each sentence that did not refuse it, as a fact. Assumes nothing.
-use Prim.Native.Nat.{ℕ, suc, _+_, _-_, _*_, _≤_, _<_}
-use mathlib.Core.Path.{_≡_, refl, ap₂, subst, _∙_}
+use Prim.Native.Nat.{ℕ, _+_, _-_, _≤_, _<_}
+use mathlib.Core.Path.{_≡_, ap₂, subst, _∙_}
 use mathlib.Core.Logic.{_≢_}
-use mathlib.Core.Bool.{Bool, true, false, not, _&&_, _||_, true≢false}
+use mathlib.Core.Bool.{true, false, not, _||_}
 use mathlib.Core.List.{List}
 use native.Mathlib.Omega.{arith}
 use lib.Dec.{eqb, ltb, leb}
 use lib.ListN.{length}
-use borrow.Author.Tests.{eqb-true, eqb-false, ltb-false, le-ltb, leb-true, not-false, not-true}
-use Rattle.model.specs.Loops.{allBelow, node}
-use Rattle.model.specs.Ids.{settingsInRange, validId}
-use Rattle.model.specs.Memory.{stateLength, tablesLength, base, digits, nodeCount, idOf, isInSystem}
+use borrow.Author.Tests.{eqb-false, ltb-false, le-ltb, leb-true, not-false, not-true}
+use Rattle.model.specs.Ids.{validId}
+use Rattle.model.specs.Memory.{stateLength, tablesLength, nodeCount, idOf, isInSystem}
 use Rattle.model.specs.Sound.{isNode, sound}
-use Rattle.model.specs.Join.{outstanding}
-use Rattle.model.specs.Image.{imNodes, imBase, imDigits, imDepth, imRecords, imId, imIdValid, imIdDiffers, imIdNew, imIsNode, recNode, recNeighbor, recNodesGood, recOrdered, recAllowed, recOwnerFirst, ownHaveRecords, recordsGood, lengthRight, imageOf}
-use Rattle.model.specs.Refusals.{refuse, memoryShort, noSettings, otherVersion, countsWrong, hasId, idTaken, areNodes, waitHeld, someNotInSystem, foundRefusal, imageRefusal, readRefusal, stateRefusal, beginSentences, beginRefusal, deliverRefusal, lookupRefusal, verdictRefusal, writeRefusal}
-use Rattle.model.proofs.Bools.{and-left, and-right, back-false}
-use Rattle.model.proofs.Loops.{all-at, any-at}
+use Rattle.model.specs.Image.{imNodes, imBase, imDigits, imDepth, imRecords, imId, imIdValid, imIdDiffers, imIdNew, imIsNode, recNode, recNeighbor, recNodesGood, recOrdered, recAllowed, recOwnerFirst, ownHaveRecords, recordsGood, imageOf}
+use Rattle.model.specs.Refusals.{refuse, memoryShort, hasId, areNodes, someNotInSystem, foundRefusal, imageRefusal, readRefusal, stateRefusal, beginSentences, beginRefusal, deliverRefusal, lookupRefusal, verdictRefusal, writeRefusal}
+use Rattle.model.proofs.Bools.{and-left, and-right, or-none-left, or-none-right}
+use Rattle.model.proofs.Refusals.{passed}
+use Rattle.model.proofs.Loops.{all-at}
 use Rattle.model.proofs.Nodes.{nodes-at, no-node-at}
 use Rattle.model.proofs.Ids.{InRange, settings-range}
 use Rattle.model.proofs.Status.{IsNode, is-node, is-node-of}
@@ -26,20 +25,6 @@ use Rattle.model.proofs.Delivered.{CanDeliver}
 use Rattle.model.proofs.Loading.{Readable}
 
 ruleset parts = (and-left, and-right)
-
--- a sentence that did not refuse: its test was false, and the later ones did not refuse either
-passed : (test : Bool) (n later : ℕ) → refuse test (suc n) later ≡ 0 → (test ≡ false) × (later ≡ 0)
-unfolding refuse
-passed true n later e = absurd (omega arith)
-passed false n later e = (refl, e)
-
-or-none-left : (a b : Bool) → (a || b) ≡ false → a ≡ false
-or-none-left true b e = e
-or-none-left false b e = refl
-
-or-none-right : (a b : Bool) → (a || b) ≡ false → b ≡ false
-or-none-right true b e = absurd (true≢false e)
-or-none-right false b e = e
 
 long-of : (s t : List ℕ) → memoryShort s t ≡ false → Long s t
 long-of s t e = record {
@@ -177,20 +162,6 @@ read-taken s t im e =
         let w : y - 1 + 1 ≡ y = omega arith in
         subst (λ (z : ℕ). imId im z ≢ imId im x) w
         (eqb-false _ _ (not-true _ (all-at (x - 1) (imIdDiffers im x) e (y - 1) (omega arith))))
-
--- the image is as long as its counts say
-pub read-long : (s t im : List ℕ) → readRefusal s t im ≡ 0
-    → (length im ≡ 8 + 4 * imNodes im + 4 * imRecords im) × (length im ≤ 65535)
-unfolding readRefusal imageRefusal lengthRight
-read-long s t im e =
-    let p1 = passed _ 0 _ e in
-    let p3 = passed _ 2 _ (p1 .1) in
-    let p4 = passed _ 3 _ (p3 .1) in
-    let p5 = passed _ 4 _ (p4 .1) in
-    let p6 = passed _ 5 _ (p5 .1) in
-    let counts = or-none-right (eqb (imNodes im) 0) _ (or-none-right (ltb (length im) 6) _ (p6 .0)) in
-    let right : lengthRight im ≡ true = not-false (lengthRight im) (or-none-right (ltb 64 (imNodes im)) _ counts) in
-    (eqb-true _ _ (search parts), leb-true _ 65535 (search parts))
 
 -- ---- a sound state does not refuse a lookup between nodes
 

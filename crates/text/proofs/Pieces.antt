@@ -1,7 +1,6 @@
 -- What stands before a place, after a piece was put there. Assumes nothing.
 use Prim.Native.Nat.{ℕ, _+_, _-_, _/_, _%_, _≤_, _<_}
 use mathlib.Core.Path.{_≡_, sym, ap, ap₂, _∙_}
-use mathlib.Core.Bool.{Bool, true, false, cond}
 use mathlib.Core.List.{List, [], _∷_, _++_, append-assoc, append-nil}
 use native.Mathlib.Nat.{add-sub-cancel-left, le-of-eq}
 use native.Mathlib.Omega.{arith}
@@ -43,13 +42,8 @@ three-digits n xs ys zs before e f g h =
     (f ∙ ap (λ (l : List ℕ). l ++ ((48 + n / 10 % 10) ∷ [])) e ∙ append-assoc before ((48 + n / 100) ∷ []) ((48 + n / 10 % 10) ∷ []))
     ∙ append-assoc before ((48 + n / 100) ∷ (48 + n / 10 % 10) ∷ []) ((48 + n % 10) ∷ []))
 
-pub flag-yes : (b : Bool) (xs before : List ℕ) → xs ≡ before ++ ((48 + 1) ∷ []) → b ≡ true → xs ≡ before ++ decimal (cond b 1 0)
-unfolding decimal
-flag-yes b xs before e h = rw h e
-
-pub flag-no : (b : Bool) (xs before : List ℕ) → xs ≡ before ++ ((48 + 0) ∷ []) → b ≡ false → xs ≡ before ++ decimal (cond b 1 0)
-unfolding decimal
-flag-no b xs before e h = rw h e
+pub then-is : (n : ℕ) (o a b piece : List ℕ) → a ≡ o ++ decimal n → b ≡ a ++ piece → b ≡ o ++ (decimal n ++ piece)
+then-is n o a b piece e f = f ∙ ap (λ (l : List ℕ). l ++ piece) e ∙ append-assoc o (decimal n) piece
 
 -- a piece copied over the part of `out` that it is as long as
 pub put-is : (at : ℕ) (out piece r : List ℕ) → at + length piece ≤ length out

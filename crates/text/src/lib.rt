@@ -1,7 +1,6 @@
 // Text put together in lent memory: pieces one behind the other from a place on, each answered by the place behind it.
 ghost use mathlib.Core.Path.{_≡_};
 ghost use Prim.Native.Nat.{_+_, _<_, _≤_};
-ghost use mathlib.Core.Bool.{cond};
 ghost use mathlib.Core.List.{[], _∷_, _++_};
 ghost use lib.ListN.{length, take};
 ghost use Rattle.text.specs.Numbers.{decimal};
@@ -45,14 +44,13 @@ pub fn number(out: &mut [u8], at: usize, n: u64) -> usize
     digit(out, third, n % 10)
 }
 
-// 1 for yes, 0 for no.
-pub fn flag(out: &mut [u8], at: usize, yes: bool) -> usize
-    requires { ⌜ at < length (now out) ⌝ }
-    ensures { λ r. ⌜ take r (now (out .exit)) ≡ take at (now (out .entry)) ++ decimal (cond yes 1 0) ⌝ }
-    ensures { λ r. ⌜ r ≡ at + 1 ⌝ }
+// A number below 1,000 in decimal, and a piece behind it.
+pub fn number_then(out: &mut [u8], at: usize, n: u64, piece: &[u8]) -> usize
+    requires { ⌜ at + 3 + length (now piece) ≤ length (now out) ⌝ }
+    requires { ⌜ n < 1000 ⌝ }
+    ensures { λ r. ⌜ take r (now (out .exit)) ≡ take at (now (out .entry)) ++ (decimal n ++ now (piece .entry)) ⌝ }
+    ensures { λ r. ⌜ r ≤ at + 3 + length (now (piece .entry)) ⌝ }
 {
-    if yes {
-        return digit(out, at, 1);
-    }
-    digit(out, at, 0)
+    let end = number(out, at, n);
+    put(out, end, piece)
 }

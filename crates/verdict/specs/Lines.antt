@@ -1,0 +1,50 @@
+-- The verdict program's output for an image: document 01, "Line one is `refusal` and the number, 0 if none; only then line two,
+-- `consistent`, 1 or 0, `at`, member, level, digit (zeros on yes)." Text is a list of ASCII codes.
+use Prim.Native.Nat.{ℕ}
+use mathlib.Core.Bool.{cond}
+use mathlib.Core.List.{List, [], _∷_, _++_}
+use lib.Dec.{eqb}
+use lib.ListN.{getD}
+use Rattle.model.specs.Memory.{Memory}
+use Rattle.model.specs.Calls.{Outcome, readCall, verdictCall}
+use Rattle.text.specs.Numbers.{decimal}
+
+-- "refusal "
+abbrev pub refusalWord : List ℕ
+refusalWord = 114 ∷ 101 ∷ 102 ∷ 117 ∷ 115 ∷ 97 ∷ 108 ∷ 32 ∷ []
+
+-- "consistent "
+abbrev pub consistentWord : List ℕ
+consistentWord = 99 ∷ 111 ∷ 110 ∷ 115 ∷ 105 ∷ 115 ∷ 116 ∷ 101 ∷ 110 ∷ 116 ∷ 32 ∷ []
+
+-- " at "
+abbrev pub atWord : List ℕ
+atWord = 32 ∷ 97 ∷ 116 ∷ 32 ∷ []
+
+abbrev pub space : List ℕ
+space = 32 ∷ []
+
+abbrev pub newline : List ℕ
+newline = 10 ∷ []
+
+unfoldable pub lineOne : ℕ → List ℕ
+lineOne number = refusalWord ++ (decimal number ++ newline)
+
+-- the place of an entry: node, level, digit
+unfoldable pub place : ℕ → ℕ → ℕ → List ℕ
+place x i j = decimal x ++ (space ++ (decimal i ++ (space ++ (decimal j ++ newline))))
+
+unfoldable pub lineTwo : ℕ → ℕ → ℕ → ℕ → List ℕ
+lineTwo consistent x i j = consistentWord ++ (decimal consistent ++ (atWord ++ place x i j))
+
+-- by the whole answer, which has its refusal first
+unfoldable pub verdictText : List ℕ → List ℕ
+verdictText answer =
+    cond (eqb (getD answer 0 0) 0)
+    (lineOne 0 ++ lineTwo (getD answer 1 0) (getD answer 2 0) (getD answer 3 0) (getD answer 4 0)) (lineOne (getD answer 0 0))
+
+-- the output for an image that is read into this memory: the refusal of reading, or what the verdict answers
+unfoldable pub verdictLines : List ℕ → List ℕ → List ℕ → List ℕ
+verdictLines s t im =
+    let r = readCall s t im in
+    cond (eqb (getD (r .answer) 0 0) 0) (verdictText (verdictCall (r .state) (r .tables) .answer)) (lineOne (getD (r .answer) 0 0))

@@ -1,0 +1,77 @@
+// The program's lines: "Line one is `refusal` and the number, 0 if none; only then line two, `consistent`, 1 or 0, `at`, member, level,
+// digit (zeros on yes)."
+ghost use mathlib.Core.Path.{_≡_};
+ghost use mathlib.Core.Bool.{cond};
+ghost use mathlib.Core.List.{_++_};
+ghost use Prim.Native.Nat.{_+_, _<_, _≤_};
+ghost use lib.ListN.{length, take};
+ghost use Rattle.verdict.specs.Lines.{lineOne, place, lineTwo, verdictText, verdictLines};
+ghost use Rattle.verdict.specs.Fits.{judgedFields, Fits};
+use engine::reading;
+use engine::verdict::Judged;
+
+fn line_one(out: &mut [u8], number: u64) -> usize
+    requires { ⌜ 12 ≤ length (now out) ⌝ }
+    requires { ⌜ number < 256 ⌝ }
+    ensures { λ r. ⌜ take r (now (out .exit)) ≡ lineOne number ⌝ }
+    ensures { λ r. ⌜ r ≤ 12 ⌝ }
+{
+    let word = text::put(out, 0, b"refusal ");
+    let end = text::number(out, word, number);
+    text::put(out, end, b"\n")
+}
+
+// Node, level and digit.
+fn line_end(out: &mut [u8], at: usize, x: u64, i: u64, j: u64) -> usize
+    requires { ⌜ at + 12 ≤ length (now out) ⌝ }
+    requires { ⌜ x < 256 ⌝ }
+    requires { ⌜ i < 256 ⌝ }
+    requires { ⌜ j < 256 ⌝ }
+    ensures { λ r. ⌜ take r (now (out .exit)) ≡ take at (now (out .entry)) ++ place x i j ⌝ }
+    ensures { λ r. ⌜ r ≤ at + 12 ⌝ }
+{
+    let node = text::number(out, at, x);
+    let second = text::put(out, node, b" ");
+    let level = text::number(out, second, i);
+    let third = text::put(out, level, b" ");
+    let digit = text::number(out, third, j);
+    text::put(out, digit, b"\n")
+}
+
+fn line_two(out: &mut [u8], at: usize, j: Judged) -> usize
+    requires { ⌜ at + 28 ≤ length (now out) ⌝ }
+    requires { ⌜ Fits j ⌝ }
+    ensures { λ r. ⌜ take r (now (out .exit)) ≡ take at (now (out .entry)) ++ lineTwo (cond (j .consistent) 1 0) (j .node) (j .level) (j .digit) ⌝ }
+    ensures { λ r. ⌜ r ≤ at + 28 ⌝ }
+{
+    let word = text::put(out, at, b"consistent ");
+    let flag = text::flag(out, word, j.consistent);
+    let end = text::put(out, flag, b" at ");
+    line_end(out, end, j.node, j.level, j.digit)
+}
+
+fn judged(out: &mut [u8], j: Judged) -> usize
+    requires { ⌜ 40 ≤ length (now out) ⌝ }
+    requires { ⌜ Fits j ⌝ }
+    ensures { λ r. ⌜ take r (now (out .exit)) ≡ verdictText (judgedFields j) ⌝ }
+    ensures { λ r. ⌜ r ≤ 40 ⌝ }
+{
+    if j.refusal != 0 {
+        return line_one(out, j.refusal);
+    }
+    let at = line_one(out, 0);
+    line_two(out, at, j)
+}
+
+// Reads the image into the lent memory, judges it, and puts the lines at the start of out; answers how many bytes they are.
+pub fn lines(state: &mut [u64], tables: &mut [u8], image: &[u8], out: &mut [u8]) -> usize
+    requires { ⌜ 40 ≤ length (now out) ⌝ }
+    ensures { λ r. ⌜ take r (now (out .exit)) ≡ verdictLines (now (state .entry)) (now (tables .entry)) (now (image .entry)) ⌝ }
+    ensures { λ r. ⌜ r ≤ 40 ⌝ }
+{
+    let r = reading::read(state, tables, image);
+    if r != 0 {
+        return line_one(out, r);
+    }
+    judged(out, engine::verdict::verdict(state, tables))
+}

@@ -1,0 +1,15 @@
+// Reads an image from standard input and prints the verdict of document 01 in one or two lines.
+mod lines;
+
+use libc::STDIN_FILENO;
+use libc::STDOUT_FILENO;
+
+fn main() {
+    let mut image = [0u8; 65536];
+    let n = io::read_full(STDIN_FILENO, &mut image);
+    let mut state = [0u64; 520];
+    let mut tables = [0u8; 32768];
+    let mut out = [0u8; 64];
+    let k = lines::lines(&mut state, &mut tables, &image[..n], &mut out);
+    io::write_all(STDOUT_FILENO, &out[..k]);
+}
