@@ -32,7 +32,17 @@ pub mod Growing
 pub mod Unchanged
 pub mod Picked
 pub mod Loading
+pub mod Counting
+pub mod Records
+pub mod Size
+pub mod Sections
+pub mod Written
+pub mod Frame
+pub mod Over
+pub mod Reloaded
+pub mod Reread
 pub mod Refusals
 pub mod Taken
 pub mod Calls
+pub mod RoundTrip
 pub mod Fields

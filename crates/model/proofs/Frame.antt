@@ -1,0 +1,113 @@
+-- The frame of an image, its first bytes and its length: what reading asks of it beside the rules, both ways. Assumes nothing.
+use Prim.Native.Nat.{ℕ, suc, _+_, _-_, _*_, _≤_, _<_}
+use mathlib.Core.Path.{_≡_, refl, ap, ap₂}
+use mathlib.Core.Bool.{Bool, true, false, not, _||_, true≢false}
+use mathlib.Core.List.{List}
+use native.Mathlib.Omega.{arith}
+use lib.Dec.{eqb, ltb, leb}
+use lib.ListN.{length}
+use borrow.Author.Tests.{eqb-true, eq-eqb, ne-eqb, le-ltb, leb-true, le-leb, not-false}
+use Rattle.model.specs.Loops.{allBelow, node}
+use Rattle.model.specs.Ids.{settingsInRange}
+use Rattle.model.specs.Memory.{stateLength, tablesLength}
+use Rattle.model.specs.Image.{byteAt, imBase, imDigits, imDepth, imNodes, imRecords, imId, lengthRight, imIdValid, imIdDiffers, imIdNew, recNode, recNeighbor, recNodesGood, recOrdered, recAllowed, recOwnerFirst, ownHaveRecords, recordsGood}
+use Rattle.model.specs.Refusals.{refuse, memoryShort, noSettings, otherVersion, countsWrong, imageRefusal, readRefusal}
+use Rattle.model.proofs.Bools.{and-left, and-right, and-intro}
+use Rattle.model.proofs.Loops.{all-of}
+use Rattle.model.proofs.Nodes.{nodes-of}
+use Rattle.model.proofs.Ids.{settings-of}
+use Rattle.model.proofs.Sound.{Long}
+use Rattle.model.proofs.Loading.{Readable}
+
+pub record Framed (im : List ℕ) : Type 0 where
+  pub first : byteAt im 0 ≡ 4
+  pub version : byteAt im 1 ≡ 1
+  pub size : length im ≡ 8 + 4 * imNodes im + 4 * imRecords im
+  pub short : length im ≤ 65535
+
+-- ---- such an image is not refused
+
+-- a sentence that does not refuse, and none after it does
+free : (test : Bool) (n later : ℕ) → test ≡ false → later ≡ 0 → refuse test n later ≡ 0
+unfolding refuse
+free false n later e z = z
+free true n later e z = absurd (true≢false e)
+
+module _ (im : List ℕ) (F : Framed im) (R : Readable im) where
+  settings-there : noSettings im ≡ false
+  settings-there = ap₂ _||_ (le-ltb (length im) 5 (omega (arith, F .size))) (ap not (eq-eqb _ 4 (F .first)))
+
+  counts-right : countsWrong im ≡ false
+  unfolding lengthRight
+  counts-right =
+      let a : leb (8 + 4 * imNodes im) (length im) ≡ true = le-leb (8 + 4 * imNodes im) (length im) (omega (arith, F .size)) in
+      let b : eqb (length im) (8 + 4 * imNodes im + 4 * imRecords im) ≡ true = eq-eqb _ _ (F .size) in
+      let c : leb (length im) 65535 ≡ true = le-leb _ _ (F .short) in
+      ap₂ _||_ (le-ltb (length im) 6 (omega (arith, F .size)))
+      (ap₂ _||_ (ne-eqb (imNodes im) 0 (λ z. omega (arith, R .some, z)))
+      (ap₂ _||_ (le-ltb 64 (imNodes im) (R .few)) (ap not (and-intro _ _ a (and-intro _ _ b c)))))
+
+  ids-new : (x : ℕ) → 1 ≤ x → x ≤ imNodes im → imIdNew im x ≡ true
+  ids-new x l h =
+      all-of (x - 1) (imIdDiffers im x)
+      (λ k g. ap not (ne-eqb (imId im (k + 1)) (imId im x) (R .new x (k + 1) h (omega arith) (omega arith))))
+
+  nodes-good : (r : ℕ) → r < imRecords im → recNodesGood im r ≡ true
+  nodes-good r h =
+      and-intro _ _ (and-intro _ _ (le-leb 1 (recNode im r) (R .owners r h .0)) (le-leb _ _ (R .owners r h .1)))
+      (and-intro _ _ (le-leb 1 (recNeighbor im r) (R .neighbors r h .0)) (le-leb _ _ (R .neighbors r h .1)))
+
+  rules-kept : recordsGood im ≡ true
+  unfolding recordsGood
+  rules-kept =
+      and-intro _ _ (all-of (imRecords im) (recOrdered im) (R .ordered))
+      (and-intro _ _ (all-of (imRecords im) (recAllowed im) (R .allowed))
+      (and-intro _ _ (all-of (imRecords im) (recOwnerFirst im) (R .owner-first)) (nodes-of (imNodes im) (ownHaveRecords im) (R .own))))
+
+  pub image-free : imageRefusal im ≡ 0
+  unfolding imageRefusal
+  image-free =
+      free (noSettings im) 3 _ settings-there
+      (free (otherVersion im) 4 _ (ap not (eq-eqb _ 1 (F .version)))
+      (free (not (settingsInRange (imBase im) (imDigits im) (imDepth im))) 5 _ (ap not (settings-of _ _ _ (R .range)))
+      (free (countsWrong im) 6 _ counts-right
+      (free (not (allBelow (imNodes im) (node (imIdValid im)))) 7 _ (ap not (nodes-of (imNodes im) (imIdValid im) (R .ids)))
+      (free (not (allBelow (imNodes im) (node (imIdNew im)))) 8 _ (ap not (nodes-of (imNodes im) (imIdNew im) ids-new))
+      (free (not (allBelow (imRecords im) (recNodesGood im))) 9 _ (ap not (all-of (imRecords im) (recNodesGood im) nodes-good))
+      (free (not (recordsGood im)) 10 0 (ap not rules-kept) refl)))))))
+
+  pub read-free : (s t : List ℕ) → Long s t → readRefusal s t im ≡ 0
+  unfolding readRefusal
+  read-free s t l =
+      free (memoryShort s t) 1 (imageRefusal im)
+      (ap₂ _||_ (le-ltb (length t) tablesLength (l .tables)) (le-ltb (length s) stateLength (l .state))) image-free
+
+-- ---- an image that is not refused has the frame
+
+-- the same back
+passed : (test : Bool) (n later : ℕ) → refuse test (suc n) later ≡ 0 → (test ≡ false) × (later ≡ 0)
+unfolding refuse
+passed true n later e = absurd (omega arith)
+passed false n later e = (refl, e)
+
+or-none : (a b : Bool) → (a || b) ≡ false → (a ≡ false) × (b ≡ false)
+or-none true b e = absurd (true≢false e)
+or-none false b e = (refl, e)
+
+pub read-framed : (s t im : List ℕ) → readRefusal s t im ≡ 0 → Framed im
+unfolding readRefusal imageRefusal lengthRight
+read-framed s t im e =
+    let p1 = passed _ 0 _ e in
+    let p3 = passed _ 2 _ (p1 .1) in
+    let p4 = passed _ 3 _ (p3 .1) in
+    let p5 = passed _ 4 _ (p4 .1) in
+    let p6 = passed _ 5 _ (p5 .1) in
+    let right : lengthRight im ≡ true =
+    not-false _ (or-none (ltb 64 (imNodes im)) _ (or-none (eqb (imNodes im) 0) _ (or-none (ltb (length im) 6) _ (p6 .0) .1) .1) .1) in
+    let more = and-right (leb (8 + 4 * imNodes im) (length im)) _ right in
+    record {
+      first = eqb-true _ 4 (not-false _ (or-none (ltb (length im) 5) _ (p3 .0) .1));
+      version = eqb-true _ 1 (not-false _ (p4 .0));
+      size = eqb-true _ _ (and-left _ _ more);
+      short = leb-true (length im) 65535 (and-right (eqb (length im) (8 + 4 * imNodes im + 4 * imRecords im)) _ more);
+    }
