@@ -3,3 +3,4 @@ pub mod Laws
 pub mod ReadLaws
 pub mod VerdictLaws
 pub mod DeliverLaws
+pub mod WriteLaws

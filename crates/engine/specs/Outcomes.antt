@@ -13,6 +13,10 @@ use Rattle.model.specs.Calls.{Outcome}
 abbrev pub leaves : List ℕ → List ℕ → List ℕ → Outcome
 leaves s t answer = record { state = s; tables = t; out = []; answer = answer }
 
+-- the memory and the output after a writing, and the answer's fields
+abbrev pub writes : List ℕ → List ℕ → List ℕ → List ℕ → Outcome
+writes s t out answer = record { state = s; tables = t; out = out; answer = answer }
+
 -- the records of this many nodes stand in the state
 pub record Placed (s : List ℕ) (n : ℕ) : Type 0 where
   pub long : 520 ≤ length s

@@ -7,3 +7,4 @@ pub mod lookup;
 pub mod reading;
 pub mod sentences;
 pub mod verdict;
+pub mod writing;
