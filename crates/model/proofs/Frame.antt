@@ -1,5 +1,5 @@
 -- The frame of an image, its first bytes and its length: what reading asks of it beside the rules, both ways. Assumes nothing.
-use Prim.Native.Nat.{ℕ, suc, _+_, _-_, _*_, _≤_, _<_}
+use Prim.Native.Nat.{ℕ, _+_, _-_, _*_, _≤_, _<_}
 use mathlib.Core.Path.{_≡_, refl, ap, ap₂}
 use mathlib.Core.Bool.{Bool, true, false, not, _||_, true≢false}
 use mathlib.Core.List.{List}
@@ -12,7 +12,8 @@ use Rattle.model.specs.Ids.{settingsInRange}
 use Rattle.model.specs.Memory.{stateLength, tablesLength}
 use Rattle.model.specs.Image.{byteAt, imBase, imDigits, imDepth, imNodes, imRecords, imId, lengthRight, imIdValid, imIdDiffers, imIdNew, recNode, recNeighbor, recNodesGood, recOrdered, recAllowed, recOwnerFirst, ownHaveRecords, recordsGood}
 use Rattle.model.specs.Refusals.{refuse, memoryShort, noSettings, otherVersion, countsWrong, imageRefusal, readRefusal}
-use Rattle.model.proofs.Bools.{and-left, and-right, and-intro}
+use Rattle.model.proofs.Bools.{and-left, and-right, and-intro, or-none-right}
+use Rattle.model.proofs.Refusals.{passed}
 use Rattle.model.proofs.Loops.{all-of}
 use Rattle.model.proofs.Nodes.{nodes-of}
 use Rattle.model.proofs.Ids.{settings-of}
@@ -85,15 +86,6 @@ module _ (im : List ℕ) (F : Framed im) (R : Readable im) where
 -- ---- an image that is not refused has the frame
 
 -- the same back
-passed : (test : Bool) (n later : ℕ) → refuse test (suc n) later ≡ 0 → (test ≡ false) × (later ≡ 0)
-unfolding refuse
-passed true n later e = absurd (omega arith)
-passed false n later e = (refl, e)
-
-or-none : (a b : Bool) → (a || b) ≡ false → (a ≡ false) × (b ≡ false)
-or-none true b e = absurd (true≢false e)
-or-none false b e = (refl, e)
-
 pub read-framed : (s t im : List ℕ) → readRefusal s t im ≡ 0 → Framed im
 unfolding readRefusal imageRefusal lengthRight
 read-framed s t im e =
@@ -103,10 +95,10 @@ read-framed s t im e =
     let p5 = passed _ 4 _ (p4 .1) in
     let p6 = passed _ 5 _ (p5 .1) in
     let right : lengthRight im ≡ true =
-    not-false _ (or-none (ltb 64 (imNodes im)) _ (or-none (eqb (imNodes im) 0) _ (or-none (ltb (length im) 6) _ (p6 .0) .1) .1) .1) in
+    not-false _ (or-none-right (ltb 64 (imNodes im)) _ (or-none-right (eqb (imNodes im) 0) _ (or-none-right (ltb (length im) 6) _ (p6 .0)))) in
     let more = and-right (leb (8 + 4 * imNodes im) (length im)) _ right in
     record {
-      first = eqb-true _ 4 (not-false _ (or-none (ltb (length im) 5) _ (p3 .0) .1));
+      first = eqb-true _ 4 (not-false _ (or-none-right (ltb (length im) 5) _ (p3 .0)));
       version = eqb-true _ 1 (not-false _ (p4 .0));
       size = eqb-true _ _ (and-left _ _ more);
       short = leb-true (length im) 65535 (and-right (eqb (length im) (8 + 4 * imNodes im + 4 * imRecords im)) _ more);
