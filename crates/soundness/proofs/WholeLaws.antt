@@ -25,7 +25,7 @@ pub ranged-of : (s : List ℕ) (v : Settings) (r : Bool) → 520 ≤ length s �
     → r ≡ settingsInRange (v .base) (v .digits) (v .depth) → not r ≡ false → v .nodes ≤ 64 → Ranged s
 ranged-of s v r l w e h g =
     let i = settings-range (base s) (digits s) (depth s) (sym (settings-are s v r w e) ∙ not-false r h) in
-    record { long = l; base = i .base-most; digits = i .digits-most; depth = i .depth-most; nodes = omega arith }
+    record { long = l; base = i .base-most; digits = i .digits-most; depth-least = i .depth-least; depth = i .depth-most; nodes = omega arith }
 
 pub identified-of : (s : List ℕ) (r : Bool) → Ranged s → r ≡ allBelow (nodeCount s) (node (hasValidId s)) → not r ≡ false → Identified s
 identified-of s r w e h = record { ranged = w; ids = sym e ∙ not-false r h }

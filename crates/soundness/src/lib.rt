@@ -12,7 +12,6 @@ use records::settings;
 use records::settings::Settings;
 
 mod unused;
-mod zero;
 
 // The fixed lengths of the lent memory, in words and in bytes.
 const STATE: usize = 520;

@@ -1,5 +1,5 @@
 // "unused places are zero": the spare words of each record, words 4 to 7, the records and the tables of no node. (The unused places of a
-// node's own table are the business of `places`.)
+// node's own table are the business of `soundness_tables`.)
 ghost use mathlib.Core.Path.{_≡_};
 ghost use Prim.Native.Nat.{_≤_};
 ghost use lib.ListN.{length};
@@ -8,8 +8,8 @@ ghost use Rattle.model.specs.Memory.{nodeCount};
 ghost use Rattle.model.specs.Sound.{spareZero, stateRestZero, unusedZero};
 ghost use Rattle.records.specs.Loaded.{SettingsOf};
 ghost use Rattle.soundness_ids.specs.Checked.{Ranged, IsNode};
-use crate::zero;
 use records::settings::Settings;
+use soundness_ids::zero;
 
 // The two spare words of the record of node x.
 fn spare(state: &[u64], x: usize) -> bool

@@ -14,6 +14,7 @@ pub record Ranged (s : List ℕ) : Type 0 where
   pub long : 520 ≤ length s
   pub base : base s ≤ 16
   pub digits : digits s ≤ 8
+  pub depth-least : 1 ≤ depth s
   pub depth : depth s ≤ 4
   pub nodes : nodeCount s ≤ 64
 

@@ -9,6 +9,7 @@ use records::record;
 use records::settings::Settings;
 
 pub mod node;
+pub mod zero;
 
 const LARGEST: u64 = 0xffff_ffff;
 

@@ -1,15 +1,18 @@
--- What the check of a table cites: its entries, and the mask of its unused places. T is a table, v the settings and o the owner as the code holds them.
-use Prim.Native.Nat.{ℕ, _/_, _%_, _<_}
+-- What the check of a table cites: its entries, its levels, and the rules as the code asks them, each unused place with the entry or the level that
+-- it stands in. s is the state, x the owner, T its table.
+use Prim.Native.Nat.{ℕ, _+_, _-_, _*_, _^_, _≤_, _<_}
 use mathlib.Core.Path.{_≡_}
-use mathlib.Core.Bool.{Bool, cond, _&&_}
+use mathlib.Core.Bool.{Bool, not, _&&_, _||_}
 use mathlib.Core.List.{List}
-use lib.Bits.{bitAnd}
-use lib.Dec.{eqb, ltb}
-use lib.ListN.{length, getD}
-use Rattle.model.specs.Ids.{digitOf}
-use Rattle.model.specs.Tables.{firstOf}
-use Rattle.records.specs.declared.settings.Settings.{Settings}
+use lib.Dec.{eqb, leb, ltb}
+use lib.ListN.{length, getD, take, drop}
+use Rattle.model.specs.Loops.{allBelow}
+use Rattle.model.specs.Ids.{lowDigits, suffixMask}
+use Rattle.model.specs.Memory.{base, digits, depth, nodeCount, idOf}
+use Rattle.model.specs.Tables.{slotAt}
+use Rattle.model.specs.Sound.{mayStand, qualifies, noGapBefore, slotDiffers, ownerFirst, allZero}
 use Rattle.soundness_ids.specs.declared.node.Owner.{Owner}
+use Rattle.soundness_tables.specs.declared.rows.Row.{Row}
 
 -- entry (i, j) stands in the table
 pub record EntryIn (T : List ℕ) (i j : ℕ) : Type 0 where
@@ -17,21 +20,49 @@ pub record EntryIn (T : List ℕ) (i j : ℕ) : Type 0 where
   pub level : i < 8
   pub digit : j < 16
 
--- the owner stands first in its own entry of level i, by its id as the code holds it
-abbrev pub ownFirst : List ℕ → Owner → ℕ → Bool
-ownFirst T o i = eqb (firstOf T i (digitOf (o .id) i)) (o .number)
+-- a filled slot
+abbrev pub filledByte : ℕ → Bool
+filledByte w = not (eqb w 0)
 
--- the mask of a table: 255 at the places that no setting uses, else 0
-abbrev pub usedBy : Settings → ℕ → Bool
-usedBy v p = ltb (p / 64) (v .digits) && (ltb (p % 64 / 4) (v .base) && ltb (p % 4) (v .depth))
+abbrev pub filledAt : List ℕ → ℕ → Bool
+filledAt row p = filledByte (getD row p 0)
 
-abbrev pub unusedByte : Settings → ℕ → ℕ
-unusedByte v p = cond (usedBy v p) 0 255
+-- level i of the owner's table as the code makes it
+pub record RowMade (o : Owner) (i : ℕ) (r : Row) : Type 0 where
+  pub owner : r .owner ≡ o .number
+  pub level : r .level ≡ i
+  pub low : r .low ≡ lowDigits (o .id) i
+  pub weight : r .weight ≡ 16 ^ i
+  pub mask : r .mask ≡ suffixMask (i + 1)
 
-pub record Marked (v : Settings) (unused : List ℕ) : Type 0 where
-  pub whole : length unused ≡ 512
-  pub marked : (p : ℕ) → p < 512 → getD unused p 0 ≡ unusedByte v p
+-- a level of a node's table
+pub record RowOf (s : List ℕ) (r : Row) : Type 0 where
+  pub within : r .level < 8
+  pub low : r .low ≡ lowDigits (idOf s (r .owner)) (r .level)
+  pub weight : r .weight ≡ 16 ^ r .level
+  pub mask : r .mask ≡ suffixMask (r .level + 1)
 
--- place p is zero where it is marked
-abbrev pub zeroIfMarked : List ℕ → List ℕ → ℕ → Bool
-zeroIfMarked T unused p = eqb (bitAnd (getD T p 0) (getD unused p 0)) 0
+-- the tests of a filled slot that come after that of its number
+abbrev pub filledSound : List ℕ → ℕ → List ℕ → ℕ → ℕ → ℕ → ℕ → Bool
+filledSound s x T i j k u =
+    mayStand s x u && (qualifies s x i j u && (noGapBefore T i j k && allBelow k (slotDiffers T i j u)))
+
+-- slot k, 0 to 3, is sound, and empty from K on
+unfoldable pub slotExact : List ℕ → ℕ → List ℕ → ℕ → ℕ → ℕ → Bool
+slotExact s x T i j k =
+    let u = slotAt T i j k in
+    eqb u 0 || (ltb k (depth s) && (leb u (nodeCount s) && filledSound s x T i j k u))
+
+unfoldable pub entryExact : List ℕ → ℕ → List ℕ → ℕ → ℕ → Bool
+entryExact s x T i j = allBelow 4 (slotExact s x T i j)
+
+-- the entries of level i from digit b on are empty
+abbrev pub digitsRestZero : List ℕ → List ℕ → ℕ → Bool
+digitsRestZero s T i = allZero (take (64 * i + 64 - (64 * i + 4 * base s)) (drop (64 * i + 4 * base s) T))
+
+unfoldable pub levelExact : List ℕ → ℕ → List ℕ → ℕ → Bool
+levelExact s x T i = ownerFirst s x T i && (allBelow (base s) (entryExact s x T i) && digitsRestZero s T i)
+
+-- the levels from d on are empty
+abbrev pub levelsRestZero : List ℕ → List ℕ → Bool
+levelsRestZero s T = allZero (take (512 - 64 * digits s) (drop (64 * digits s) T))

@@ -1,10 +1,12 @@
 // The slots of a table: "slot s (0 to 3) of entry (i, j) at 64i + 4j + s within it; 0 means empty".
 ghost use mathlib.Core.Path.{_≡_};
-ghost use Prim.Native.Nat.{_<_};
-ghost use Rattle.model.specs.Loops.{allBelow};
+ghost use mathlib.Core.Bool.{cond};
+ghost use Prim.Native.Nat.{_<_, _≤_};
+ghost use lib.ListN.{length};
+ghost use Rattle.model.specs.Loops.{allBelow, countBelow};
 ghost use Rattle.model.specs.Tables.{slotAt, slotIs};
 ghost use Rattle.model.specs.Sound.{slotDiffers, noGapBefore};
-ghost use Rattle.soundness_tables.specs.TableFacts.{EntryIn};
+ghost use Rattle.soundness_tables.specs.TableFacts.{EntryIn, filledByte, filledAt};
 
 // The node in slot k.
 pub fn at(table: &[u8], i: usize, j: usize, k: usize) -> usize
@@ -58,4 +60,25 @@ pub fn new_at(table: &[u8], i: usize, j: usize, u: usize, k: usize) -> bool
         e += 1;
     }
     true
+}
+
+// One for a filled slot.
+fn one(slot: u8) -> u8
+    ensures { λ r. ⌜ (r ≡ cond (filledByte slot) 1 0) × (r ≤ 1) ⌝ }
+{
+    if slot == 0 { 0 } else { 1 }
+}
+
+// How many slots of a level are filled: counted with no early exit, so that wide instructions serve.
+pub fn filled(level: &[u8]) -> u8
+    requires { ⌜ length (now level) ≡ 64 ⌝ }
+    ensures { λ r. ⌜ r ≡ countBelow 64 (filledAt (now (level .entry))) ⌝ }
+{
+    let mut count: u8 = 0;
+    let mut p = 0;
+    while p < 64 {
+        count += one(level[p]);
+        p += 1;
+    }
+    count
 }

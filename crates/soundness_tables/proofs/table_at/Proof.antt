@@ -33,12 +33,12 @@ part-table-end c = search needs
 
 table-requires : tie.Need-table-requires
 table-requires c κs =
-    let p = c .before .before .before .before .before .pre in
-    (p .0, (p .1 .0, (record { first = omega arith; last = omega arith; id = c .before .id .ensures }, (simp (length-take, length-drop) (omega arith), p .1 .1 .1 .1))))
+    let p = c .before .before .before .before .pre in
+    (p .0, (p .1 .0, (record { first = omega arith; last = omega arith; id = c .before .id .ensures }, simp (length-take, length-drop) (omega arith))))
 
 returns : tie.Need-returns
 returns c =
-    let a = c .before .before .before .before .before .before .args in
+    let a = c .before .before .before .before .before .args in
     c .table .ensures ∙ ap (tableSound (now (a .state)) (a .k + 1)) (table-part (now (a .tables)) (a .k))
 
 pub table-at-spec : {M : Type 1} → statement M

@@ -1,4 +1,4 @@
--- `each`: the loop's invariant is the book's test of the nodes up to `k`. Assumes nothing.
+-- `all`: the loop's invariant is the book's test of the nodes up to `k`. Assumes nothing.
 use Prim.Native.Nat.{_≤_, _-_}
 use mathlib.Core.Path.{_≡_}
 use mathlib.Core.Bool.{true}
@@ -7,22 +7,22 @@ use borrow.Author.Needs.{needs}
 use Rattle.model.specs.Loops.{allBelow, node}
 use Rattle.model.specs.Sound.{hasSoundTable}
 use Rattle.model.proofs.Nodes.{all-loop-to}
-use Rattle.soundness_tables.proofs.each.Statement.{statement}
-use Rattle.soundness_tables.proofs.each.Tie as tie
+use Rattle.soundness_tables.proofs.all.Statement.{statement}
+use Rattle.soundness_tables.proofs.all.Tie as tie
 
 abbrev Inv-loop : tie.InvT-loop
-Inv-loop state tables s unused k₀ k = (k ≤ s .nodes) × (allBelow k (node (hasSoundTable state tables)) ≡ true)
+Inv-loop state tables s k₀ k = (k ≤ s .nodes) × (allBelow k (node (hasSoundTable state tables)) ≡ true)
 
 abbrev μ-loop : tie.MeasureT-loop
-μ-loop state tables s unused k₀ k = s .nodes - k
+μ-loop state tables s k₀ k = s .nodes - k
 
 loop-holds : tie.Need-loop-holds Inv-loop μ-loop
 loop-holds c = search (needs, all-loop-to)
 
 table-at-requires : tie.Need-table-at-requires Inv-loop μ-loop
 table-at-requires c κs =
-    let p = c .before .before .before .before .before .before .pre in
-    (p .0, (p .1 .0, (p .1 .1 .0, (omega arith, p .1 .1 .1))))
+    let p = c .before .before .before .before .before .pre in
+    (p .0, (p .1 .0, (p .1 .1, omega arith)))
 
 returns : tie.Need-returns Inv-loop μ-loop
 returns c = search (needs, all-loop-to)
@@ -39,8 +39,8 @@ loop-again c = search (needs, all-loop-to)
 returns-2 : tie.Need-returns-2 Inv-loop μ-loop
 returns-2 c = search (needs, all-loop-to)
 
-pub each-spec : {M : Type 1} → statement M
-each-spec =
+pub all-spec : {M : Type 1} → statement M
+all-spec =
     tie.close
     (tie.spec
     Inv-loop
