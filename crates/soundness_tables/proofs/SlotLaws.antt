@@ -1,7 +1,7 @@
 -- Laws of slots as the code reads them. Assumes nothing.
 use Prim.Native.Nat.{ℕ, _≤_, _<_}
 use mathlib.Core.Path.{_≡_, refl, sym, ap, subst, _∙_}
-use mathlib.Core.Bool.{Bool, true, false, _&&_}
+use mathlib.Core.Bool.{Bool, true, false, _&&_, _||_, or-false}
 use mathlib.Core.List.{List}
 use native.Mathlib.Omega.{arith}
 use lib.Bits.{bitOr}
@@ -10,6 +10,7 @@ use borrow.Author.Tests.{eqb-true}
 use Rattle.model.specs.Loops.{allBelow}
 use Rattle.model.specs.Memory.{depth, nodeCount}
 use Rattle.model.specs.Tables.{slotAt, slotIs}
+use Rattle.model.proofs.Bools.{or-intro-right}
 use Rattle.model.proofs.Loops.{all-zero, all-step, all-of, all-at}
 use Rattle.model.proofs.Zero.{gather-goes}
 use Rattle.model.proofs.Early.{eq-or-goes, eq-or-leaves, le-goes, le-leaves, lt-goes, lt-leaves}
@@ -23,6 +24,13 @@ four-zero f a b c d p q r s =
   where
     one : eqb a 0 ≡ allBelow 1 f
     one = p ∙ ap (λ (t : Bool). t && f 0) (sym (all-zero f)) ∙ sym (all-step 0 f)
+
+-- `if r { return true; } q` for `a || b`, where r is the second of the two
+pub other-leaves : (a b r : Bool) → r ≡ b → r ≡ true → true ≡ (a || b)
+other-leaves a b r e h = sym (or-intro-right a b (sym e ∙ h))
+
+pub other-goes : (a b r q : Bool) → r ≡ b → r ≡ false → q ≡ a → q ≡ (a || b)
+other-goes a b r q e h p = p ∙ sym (or-false a) ∙ ap (λ (t : Bool). a || t) (sym h ∙ e)
 
 -- ---- a slot's tests, u being the node that the code has read there, d the depth and n the number of nodes that it holds
 

@@ -15,16 +15,16 @@ use crate::slots;
 use records::settings::Settings;
 use soundness_ids::node;
 
-// In x's table stand x and attached nodes.
+// In x's table stand x and attached nodes; most nodes are attached.
 fn may_stand(state: &[u64], x: usize, u: usize) -> bool
     requires { ⌜ Ranged (now state) ⌝ }
     requires { ⌜ IsNode (now state) u ⌝ }
     ensures { λ r. ⌜ r ≡ mayStand (now (state .entry)) x u ⌝ }
 {
-    if u == x {
+    if node::attached(state, u) {
         return true;
     }
-    node::attached(state, u)
+    u == x
 }
 
 // Slot k of entry j is empty, or is below K and holds a node that may stand there, is qualified and is in no slot before it.
