@@ -1,21 +1,25 @@
 -- Laws of the whole check: the settings and the count as the code holds them, and the places past the nodes. Assumes nothing.
 use Prim.Native.Nat.{ℕ, _+_, _-_, _*_, _≤_, _<_}
 use mathlib.Core.Path.{_≡_, sym, ap, subst, _∙_}
+use mathlib.Core.Logic.{⊎-elim}
 use mathlib.Core.Bool.{Bool, true, false, not, _&&_}
 use mathlib.Core.List.{List}
 use native.Mathlib.Omega.{arith}
 use lib.Dec.{leb}
-use lib.ListN.{length, take, drop}
-use borrow.Author.Tests.{not-false, le-leb, lt-leb}
+use lib.ListN.{length, getD, take, drop}
+use borrow.Author.Tests.{not-true, not-false, le-leb, lt-leb}
 use Rattle.model.specs.Loops.{allBelow, node}
 use Rattle.model.specs.Ids.{settingsInRange}
 use Rattle.model.specs.Memory.{base, digits, depth, nodeCount}
 use Rattle.model.specs.Sound.{hasValidId, countInRange, allZero}
+use Rattle.model.proofs.Bools.{is-false, not-both, le-or-lt}
 use Rattle.model.proofs.Ids.{settings-range}
 use Rattle.model.proofs.Early.{le-goes, le-leaves, true-goes}
+use Rattle.model.proofs.Zero.{part-zero-at, part-zero-of}
 use Rattle.records.specs.Loaded.{SettingsOf}
 use Rattle.records.specs.declared.settings.Settings.{Settings}
 use Rattle.soundness_ids.specs.Checked.{Ranged, Identified}
+use Rattle.soundness.specs.Clauses.{tablesPast}
 
 pub settings-are : (s : List ℕ) (v : Settings) (r : Bool) → SettingsOf s v → r ≡ settingsInRange (v .base) (v .digits) (v .depth)
     → r ≡ settingsInRange (base s) (digits s) (depth s)
@@ -47,6 +51,31 @@ pub records-past : (s : List ℕ) (m n : ℕ) (r : Bool) → m ≡ n → r ≡ a
     → r ≡ allZero (take (520 - (8 * n + 8)) (drop (8 * n + 8) s))
 records-past s m n r p = subst (λ (k : ℕ). r ≡ allZero (take (520 - (8 * k + 8)) (drop (8 * k + 8) s))) p
 
-pub tables-past : (t : List ℕ) (m n : ℕ) (r : Bool) → m ≡ n → r ≡ allZero (take (32768 - 512 * m) (drop (512 * m) t))
-    → r ≡ allZero (take (32768 - 512 * n) (drop (512 * n) t))
-tables-past t m n r p = subst (λ (k : ℕ). r ≡ allZero (take (32768 - 512 * k) (drop (512 * k) t))) p
+pub tables-past : (t : List ℕ) (m n : ℕ) (r : Bool) → m ≡ n → r ≡ tablesPast t m → r ≡ tablesPast t n
+tables-past t m n r p = subst (λ (k : ℕ). r ≡ tablesPast t k) p
+
+-- ---- the loop over the tables past node n: r is what the code found of table k
+
+-- the bytes of the tables n up to k are zero
+abbrev pub ZeroUpTo : List ℕ → ℕ → ℕ → Type 0
+ZeroUpTo t n k = (p : ℕ) → 512 * n ≤ p → p < 512 * k → getD t p 0 ≡ 0
+
+pub past-none : (t : List ℕ) (n : ℕ) → ZeroUpTo t n n
+past-none t n p l h = absurd (omega arith)
+
+module _ (t : List ℕ) (n k : ℕ) (long : 32768 ≤ length t) (l : n ≤ k) (g : k < 64) (r : Bool)
+    (e : r ≡ allZero (take (512 * k + 512 - 512 * k) (drop (512 * k) t))) where
+  pub past-goes : ZeroUpTo t n k → not r ≡ false → ZeroUpTo t n (k + 1)
+  past-goes z h p a b =
+      ⊎-elim (λ f. part-zero-at t (512 * k) (512 * k + 512) (omega arith) (sym e ∙ not-false r h) p f (omega arith)) (λ f. z p a f) (le-or-lt (512 * k) p)
+
+  pub past-leaves : not r ≡ true → false ≡ tablesPast t n
+  past-leaves h =
+      is-false (tablesPast t n)
+      (λ z. not-both r
+      (e ∙ part-zero-of t (512 * k) (512 * k + 512) (omega arith) (omega arith) (λ p a b. part-zero-at t (512 * n) 32768 long z p (omega arith) (omega arith)))
+      (not-true r h))
+
+pub past-ends : (t : List ℕ) (n k : ℕ) → 32768 ≤ length t → n ≤ 64 → 64 ≤ k → ZeroUpTo t n k → true ≡ tablesPast t n
+past-ends t n k long l g z =
+    sym (part-zero-of t (512 * n) 32768 long (omega arith) (λ p a b. z p a (omega arith)))

@@ -8,6 +8,7 @@ ghost use Rattle.model.specs.Memory.{nodeCount};
 ghost use Rattle.model.specs.Sound.{spareZero, stateRestZero, unusedZero};
 ghost use Rattle.records.specs.Loaded.{SettingsOf};
 ghost use Rattle.soundness_ids.specs.Checked.{Ranged, IsNode};
+ghost use Rattle.soundness.specs.Clauses.{tablesPast};
 use records::settings::Settings;
 use soundness_ids::zero;
 
@@ -52,6 +53,23 @@ fn state_rest(state: &[u64], s: Settings) -> bool
     zero::words(&state[a..520])
 }
 
+// The tables of no node, one after the other: each is a run of fixed length.
+fn tables_rest(tables: &[u8], s: Settings) -> bool
+    requires { ⌜ 32768 ≤ length (now tables) ⌝ }
+    requires { ⌜ s .nodes ≤ 64 ⌝ }
+    ensures { λ r. ⌜ r ≡ tablesPast (now (tables .entry)) (s .nodes) ⌝ }
+{
+    let mut k = s.nodes;
+    while k < 64 {
+        let a = 512 * k;
+        if !zero::bytes(&tables[a..a + 512]) {
+            return false;
+        }
+        k += 1;
+    }
+    true
+}
+
 pub fn all(state: &[u64], tables: &[u8], s: Settings) -> bool
     requires { ⌜ Ranged (now state) ⌝ }
     requires { ⌜ SettingsOf (now state) s ⌝ }
@@ -64,6 +82,5 @@ pub fn all(state: &[u64], tables: &[u8], s: Settings) -> bool
     if !state_rest(state, s) {
         return false;
     }
-    let a = 512 * s.nodes;
-    zero::bytes(&tables[a..32768])
+    tables_rest(tables, s)
 }

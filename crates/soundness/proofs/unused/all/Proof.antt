@@ -20,20 +20,8 @@ returns-2 : tie.Need-returns-2
 unfolding unusedZero tablesRestZero
 returns-2 c = search (and-goes, and-leaves)
 
-mul-a : tie.Need-mul-a
-mul-a c = search needs
-
-sub-bytes : tie.Need-sub-bytes
-sub-bytes c = search needs
-
-part-bytes-start : tie.Need-part-bytes-start
-part-bytes-start c = search needs
-
-part-bytes-end : tie.Need-part-bytes-end
-part-bytes-end c = search needs
-
-bytes-requires : tie.Need-bytes-requires
-bytes-requires c κs = search needs
+tables-rest-requires : tie.Need-tables-rest-requires
+tables-rest-requires c κs = search needs
 
 returns-3 : tie.Need-returns-3
 unfolding unusedZero tablesRestZero
@@ -47,9 +35,5 @@ all-spec =
     returns
     state-rest-requires
     returns-2
-    mul-a
-    sub-bytes
-    part-bytes-start
-    part-bytes-end
-    bytes-requires
+    tables-rest-requires
     returns-3)
