@@ -1,7 +1,7 @@
 -- Laws of the ways in which the check of a level goes: u is the first of its own entry, row the level as the code made it. Assumes nothing.
-use Prim.Native.Nat.{ℕ, _+_, _-_, _*_, _≤_, _<_}
+use Prim.Native.Nat.{ℕ, _+_, _-_, _*_, _<_}
 use mathlib.Core.Path.{_≡_, sym, ap, ap₂, subst, _∙_}
-use mathlib.Core.Bool.{Bool, true, false, not, _&&_}
+use mathlib.Core.Bool.{Bool, true, false, not}
 use mathlib.Core.List.{List}
 use native.Mathlib.Omega.{arith}
 use lib.ListN.{length, take, drop}
@@ -17,7 +17,7 @@ use Rattle.model.proofs.Nodes.{nodes-at}
 use Rattle.soundness_ids.specs.Checked.{Identified, OwnerOf}
 use Rattle.soundness_ids.specs.declared.node.Owner.{Owner}
 use Rattle.soundness_tables.specs.declared.rows.Row.{Row}
-use Rattle.soundness_tables.specs.TableFacts.{filledAt, RowMade, entryExact, digitsRestZero, levelExact}
+use Rattle.soundness_tables.specs.TableFacts.{filledAt, RowMade, entryExact, levelExact}
 use Rattle.soundness_tables.proofs.AloneLaws.{alone-sound}
 
 module _ (s : List ℕ) (o : Owner) (T : List ℕ) (i j u : ℕ) (w : OwnerOf s o) (d : j ≡ digitOf (o .id) i) (p : u ≡ slotAt T i j 0) where

@@ -1,7 +1,7 @@
 -- Laws of a level as the code makes it: what the low i + 1 digits of a qualified id are. Assumes nothing.
 use Prim.Native.Nat.{ℕ, suc, _+_, _*_, _/_, _%_, _^_, _≤_, _<_, min}
 use mathlib.Core.Path.{_≡_, sym, ap, ap₂, _∙_}
-use mathlib.Core.Bool.{Bool, true, _&&_}
+use mathlib.Core.Bool.{true}
 use mathlib.Core.List.{List}
 use native.Mathlib.Nat.{add-comm, mul-comm, mul-le-mul, mod-lt, one-mul, pow-le-pow-right, zero-lt-suc, le-of-lt, min-eq-left}
 use native.Mathlib.Numerals.{add-one}

@@ -1,15 +1,15 @@
 -- Laws of a whole table: the rules as the code asks them, each unused place with its entry or its level, are the book's. Assumes nothing.
 use Prim.Native.Nat.{ℕ, _+_, _-_, _*_, _/_, _%_, _≤_, _<_}
-use mathlib.Core.Path.{_≡_, sym, ap, ap₂, subst, _∙_}
+use mathlib.Core.Path.{_≡_, sym, ap, subst, _∙_}
 use mathlib.Core.Logic.{⊎-elim}
-use mathlib.Core.Bool.{Bool, true, false, not, _&&_, _||_}
+use mathlib.Core.Bool.{Bool, true, false, not, _&&_}
 use mathlib.Core.List.{List}
 use native.Mathlib.Omega.{arith}
 use lib.Dec.{eqb, ltb}
 use lib.ListN.{length, getD, take, drop}
 use borrow.Author.Tests.{eqb-true, eq-eqb, lt-ltb, ltb-true}
 use Rattle.model.specs.Loops.{allBelow}
-use Rattle.model.specs.Memory.{base, digits, depth, idOf}
+use Rattle.model.specs.Memory.{base, digits, depth}
 use Rattle.model.specs.Tables.{slotPlace, slotAt}
 use Rattle.model.specs.Sound.{slotSound, entrySound, levelSound, ownerFirst, placeUsed, placeSound, tableSound, allZero}
 use Rattle.model.proofs.Bools.{same-test, le-or-lt, and-left, and-right, and-intro, or-cases, or-intro-left, or-intro-right, and-leaves, and-goes}

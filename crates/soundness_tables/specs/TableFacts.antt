@@ -1,6 +1,6 @@
 -- What the check of a table cites: its entries, its levels, and the rules as the code asks them, each unused place with the entry or the level that
 -- it stands in. s is the state, x the owner, T its table.
-use Prim.Native.Nat.{ℕ, _+_, _-_, _*_, _^_, _≤_, _<_}
+use Prim.Native.Nat.{ℕ, _+_, _-_, _*_, _^_, _<_}
 use mathlib.Core.Path.{_≡_}
 use mathlib.Core.Bool.{Bool, not, _&&_, _||_}
 use mathlib.Core.List.{List}

@@ -1,8 +1,5 @@
 -- `table`: the rules as the code asks them are the book's. Assumes nothing.
-use mathlib.Core.Path.{_∙_}
-use native.Mathlib.Omega.{arith}
 use borrow.Author.Needs.{needs}
-use Rattle.model.proofs.Bools.{and-leaves, and-goes}
 use Rattle.soundness_tables.proofs.TableLaws.{table-leaves, table-ends}
 use Rattle.soundness_tables.proofs.table.Statement.{statement}
 use Rattle.soundness_tables.proofs.table.Tie as tie

@@ -1,6 +1,5 @@
 -- `level`: each return is a way in which the check of a level goes. Assumes nothing.
 use native.Mathlib.Omega.{arith}
-use lib.ListN.{length-take, length-drop}
 use borrow.Author.Needs.{needs}
 use Rattle.soundness_tables.proofs.RowLaws.{row-of}
 use Rattle.soundness_tables.proofs.LevelLaws.{level-leaves, level-alone, level-breaks, level-ends}

@@ -2,10 +2,9 @@
 use Prim.Native.Nat.{_≤_, _-_}
 use mathlib.Core.Path.{_≡_, sym}
 use native.Mathlib.Omega.{arith}
-use denote.Ref.{now}
 use borrow.Author.Needs.{needs}
 use Rattle.model.specs.Loops.{countBelow}
-use Rattle.model.proofs.Loops.{count-zero, count-le, count-ends}
+use Rattle.model.proofs.Loops.{count-zero, count-ends}
 use Rattle.soundness_tables.specs.TableFacts.{filledAt}
 use Rattle.soundness_tables.proofs.AloneLaws.{count-goes}
 use Rattle.soundness_tables.proofs.slots.filled.Statement.{statement}

@@ -1,5 +1,4 @@
 -- `one`: the two cases of the slot. Assumes nothing.
-use mathlib.Core.Path.{refl}
 use native.Mathlib.Omega.{arith}
 use borrow.Author.Tests.{eq-eqb, ne-eqb}
 use Rattle.soundness_tables.proofs.slots.one.Statement.{statement}
