@@ -1,47 +1,48 @@
 -- Lines put together piece by piece, and the answers they show. Assumes nothing.
 use Prim.Native.Nat.{ℕ, _<_}
-use mathlib.Core.Path.{_≡_, refl, sym, ap, ap₂, subst, _∙_}
+use mathlib.Core.Path.{_≡_, sym, ap, subst, _∙_}
 use mathlib.Core.Bool.{Bool, true, false, cond}
 use mathlib.Core.List.{List, [], _∷_, _++_, append-assoc}
-use lib.Dec.{eqb}
-use lib.ListN.{getD, take}
+use lib.ListN.{getD}
 use borrow.Author.Tests.{eq-eqb, ne-eqb}
 use Rattle.model.specs.Calls.{Outcome, readCall, verdictCall}
 use Rattle.model.proofs.Fields.{Bytes, read-bytes, verdict-bytes}
 use Rattle.text.specs.Numbers.{decimal}
 use Rattle.engine.specs.Outcomes.{leaves}
 use Rattle.engine.specs.declared.verdict.Judged.{Judged}
-use Rattle.verdict.specs.Lines.{refusalWord, consistentWord, atWord, space, newline, lineOne, place, lineTwo, verdictText, verdictLines}
+use Rattle.verdict.specs.Lines.{refusalWord, consistentWord, atWord, space, newline, lineOne, judgement, place, lineTwo, verdictText, verdictLines}
 use Rattle.verdict.specs.Fits.{judgedFields, Fits}
 
 -- ---- the lines, each piece behind the one before it
 
-pub line-one-is : (n : ℕ) (a b c : List ℕ) → a ≡ refusalWord → b ≡ a ++ decimal n → c ≡ b ++ newline → c ≡ lineOne n
+pub line-one-is : (n : ℕ) (a b : List ℕ) → a ≡ refusalWord → b ≡ a ++ (decimal n ++ newline) → b ≡ lineOne n
 unfolding lineOne
-line-one-is n a b c ea eb ec =
-    ec ∙ ap (λ (l : List ℕ). l ++ newline) (eb ∙ ap (λ (l : List ℕ). l ++ decimal n) ea) ∙ append-assoc refusalWord (decimal n) newline
+line-one-is n a b e f = f ∙ ap (λ (l : List ℕ). l ++ (decimal n ++ newline)) e
 
-pub place-is : (x i j : ℕ) (o a b c d e f : List ℕ) → a ≡ o ++ decimal x → b ≡ a ++ space → c ≡ b ++ decimal i → d ≡ c ++ space
-    → e ≡ d ++ decimal j → f ≡ e ++ newline → f ≡ o ++ place x i j
+-- "consistent 1 at " and "consistent 0 at "
+pub start-yes : (b : Bool) (o a : List ℕ) → b ≡ true → a ≡ o ++ (consistentWord ++ (49 ∷ atWord)) → a ≡ o ++ judgement (cond b 1 0)
+unfolding judgement decimal
+start-yes b o a h e = rw h e
+
+pub start-no : (b : Bool) (o a : List ℕ) → b ≡ false → a ≡ o ++ (consistentWord ++ (48 ∷ atWord)) → a ≡ o ++ judgement (cond b 1 0)
+unfolding judgement decimal
+start-no b o a h e = rw h e
+
+pub place-is : (x i j : ℕ) (o a b c : List ℕ) → a ≡ o ++ (decimal x ++ space) → b ≡ a ++ (decimal i ++ space) → c ≡ b ++ (decimal j ++ newline)
+    → c ≡ o ++ place x i j
 unfolding place
-place-is x i j o a b c d e f ea eb ec ed ee ef =
-    ef
-    ∙ rw (ee, ed, ec, eb, ea)
-    (append-assoc _ (decimal j) newline
-    ∙ append-assoc _ space (decimal j ++ newline)
-    ∙ append-assoc _ (decimal i) (space ++ (decimal j ++ newline))
-    ∙ append-assoc _ space (decimal i ++ (space ++ (decimal j ++ newline)))
-    ∙ append-assoc o (decimal x) (space ++ (decimal i ++ (space ++ (decimal j ++ newline)))))
+place-is x i j o a b c e f g =
+    let X : List ℕ = decimal x ++ space in
+    let I : List ℕ = decimal i ++ space in
+    let J : List ℕ = decimal j ++ newline in
+    g
+    ∙ ap (λ (l : List ℕ). l ++ (decimal j ++ newline)) (f ∙ ap (λ (l : List ℕ). l ++ (decimal i ++ space)) e)
+    ∙ append-assoc (o ++ X) I J
+    ∙ append-assoc o X (I ++ J)
 
-pub line-two-is : (k x i j : ℕ) (o a b c d : List ℕ) → a ≡ o ++ consistentWord → b ≡ a ++ decimal k → c ≡ b ++ atWord → d ≡ c ++ place x i j
-    → d ≡ o ++ lineTwo k x i j
+pub line-two-is : (k x i j : ℕ) (o a b : List ℕ) → a ≡ o ++ judgement k → b ≡ a ++ place x i j → b ≡ o ++ lineTwo k x i j
 unfolding lineTwo
-line-two-is k x i j o a b c d ea eb ec ed =
-    ed
-    ∙ rw (ec, eb, ea)
-    (append-assoc _ atWord (place x i j)
-    ∙ append-assoc _ (decimal k) (atWord ++ place x i j)
-    ∙ append-assoc o consistentWord (decimal k ++ (atWord ++ place x i j)))
+line-two-is k x i j o a b e f = f ∙ ap (λ (l : List ℕ). l ++ place x i j) e ∙ append-assoc o (judgement k) (place x i j)
 
 -- ---- what they show
 

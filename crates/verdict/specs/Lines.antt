@@ -5,8 +5,7 @@ use mathlib.Core.Bool.{cond}
 use mathlib.Core.List.{List, [], _∷_, _++_}
 use lib.Dec.{eqb}
 use lib.ListN.{getD}
-use Rattle.model.specs.Memory.{Memory}
-use Rattle.model.specs.Calls.{Outcome, readCall, verdictCall}
+use Rattle.model.specs.Calls.{readCall, verdictCall}
 use Rattle.text.specs.Numbers.{decimal}
 
 -- "refusal "
@@ -30,12 +29,16 @@ newline = 10 ∷ []
 unfoldable pub lineOne : ℕ → List ℕ
 lineOne number = refusalWord ++ (decimal number ++ newline)
 
+-- `consistent`, 1 or 0, `at`
+unfoldable pub judgement : ℕ → List ℕ
+judgement consistent = consistentWord ++ (decimal consistent ++ atWord)
+
 -- the place of an entry: node, level, digit
 unfoldable pub place : ℕ → ℕ → ℕ → List ℕ
-place x i j = decimal x ++ (space ++ (decimal i ++ (space ++ (decimal j ++ newline))))
+place x i j = (decimal x ++ space) ++ ((decimal i ++ space) ++ (decimal j ++ newline))
 
 unfoldable pub lineTwo : ℕ → ℕ → ℕ → ℕ → List ℕ
-lineTwo consistent x i j = consistentWord ++ (decimal consistent ++ (atWord ++ place x i j))
+lineTwo consistent x i j = judgement consistent ++ place x i j
 
 -- by the whole answer, which has its refusal first
 unfoldable pub verdictText : List ℕ → List ℕ

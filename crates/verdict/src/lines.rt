@@ -5,7 +5,7 @@ ghost use mathlib.Core.Bool.{cond};
 ghost use mathlib.Core.List.{_++_};
 ghost use Prim.Native.Nat.{_+_, _<_, _≤_};
 ghost use lib.ListN.{length, take};
-ghost use Rattle.verdict.specs.Lines.{lineOne, place, lineTwo, verdictText, verdictLines};
+ghost use Rattle.verdict.specs.Lines.{lineOne, judgement, place, lineTwo, verdictText, verdictLines};
 ghost use Rattle.verdict.specs.Fits.{judgedFields, Fits};
 use engine::reading;
 use engine::verdict::Judged;
@@ -16,9 +16,19 @@ fn line_one(out: &mut [u8], number: u64) -> usize
     ensures { λ r. ⌜ take r (now (out .exit)) ≡ lineOne number ⌝ }
     ensures { λ r. ⌜ r ≤ 12 ⌝ }
 {
-    let word = text::put(out, 0, b"refusal ");
-    let end = text::number(out, word, number);
-    text::put(out, end, b"\n")
+    let at = text::put(out, 0, b"refusal ");
+    text::number_then(out, at, number, b"\n")
+}
+
+fn line_start(out: &mut [u8], at: usize, consistent: bool) -> usize
+    requires { ⌜ at + 16 ≤ length (now out) ⌝ }
+    ensures { λ r. ⌜ take r (now (out .exit)) ≡ take at (now (out .entry)) ++ judgement (cond consistent 1 0) ⌝ }
+    ensures { λ r. ⌜ r ≡ at + 16 ⌝ }
+{
+    if consistent {
+        return text::put(out, at, b"consistent 1 at ");
+    }
+    text::put(out, at, b"consistent 0 at ")
 }
 
 // Node, level and digit.
@@ -30,12 +40,9 @@ fn line_end(out: &mut [u8], at: usize, x: u64, i: u64, j: u64) -> usize
     ensures { λ r. ⌜ take r (now (out .exit)) ≡ take at (now (out .entry)) ++ place x i j ⌝ }
     ensures { λ r. ⌜ r ≤ at + 12 ⌝ }
 {
-    let node = text::number(out, at, x);
-    let second = text::put(out, node, b" ");
-    let level = text::number(out, second, i);
-    let third = text::put(out, level, b" ");
-    let digit = text::number(out, third, j);
-    text::put(out, digit, b"\n")
+    let second = text::number_then(out, at, x, b" ");
+    let third = text::number_then(out, second, i, b" ");
+    text::number_then(out, third, j, b"\n")
 }
 
 fn line_two(out: &mut [u8], at: usize, j: Judged) -> usize
@@ -44,9 +51,7 @@ fn line_two(out: &mut [u8], at: usize, j: Judged) -> usize
     ensures { λ r. ⌜ take r (now (out .exit)) ≡ take at (now (out .entry)) ++ lineTwo (cond (j .consistent) 1 0) (j .node) (j .level) (j .digit) ⌝ }
     ensures { λ r. ⌜ r ≤ at + 28 ⌝ }
 {
-    let word = text::put(out, at, b"consistent ");
-    let flag = text::flag(out, word, j.consistent);
-    let end = text::put(out, flag, b" at ");
+    let end = line_start(out, at, j.consistent);
     line_end(out, end, j.node, j.level, j.digit)
 }
 

@@ -5,10 +5,6 @@ use native.Mathlib.Omega.{arith}
 use borrow.Author.Needs.{needs}
 use Rattle.text.proofs.number_then.Statement.{statement}
 use Rattle.text.proofs.number_then.Tie as tie
-use Rattle.text.proofs.number_then.Reads as reads
-use Rattle.text.proofs.number_then.Lts as lts
-use Rattle.text.proofs.number.Reads as number-reads
-use Rattle.text.proofs.put.Reads as put-reads
 
 number-requires : tie.Need-number-requires
 number-requires c κs = search needs
