@@ -1,2 +1,3 @@
 -- The laws by which the program's lines meet their definition.
 pub mod Texts
+pub mod Overlong

@@ -1,0 +1,95 @@
+-- "The verdict program takes an image of at most 65,535 bytes; a longer one meets 6 if nothing earlier": the program keeps the first 65,536
+-- bytes of its input, and what it prints for them is what the whole input deserves. Assumes nothing.
+use Prim.Native.Nat.{ℕ, _+_, _*_, _≤_, _<_}
+use mathlib.Core.Path.{_≡_, refl, sym, ap, ap₂, _∙_}
+use mathlib.Core.Bool.{Bool, true, false, cond, not, _&&_}
+use mathlib.Core.List.{List, []}
+use native.Mathlib.Nat.{le-of-eq}
+use native.Mathlib.Omega.{arith}
+use lib.Dec.{leb, ltb, eqb}
+use lib.ListN.{length, getD, take}
+use lib.Seq.{getD-take, length-take-le}
+use borrow.Author.Tests.{le-ltb, lt-leb}
+use Rattle.model.specs.Ids.{settingsInRange}
+use Rattle.model.specs.Image.{byteAt, imNodes, imRecords, lengthRight}
+use Rattle.model.specs.Refusals.{refuse, memoryShort, countsWrong, imageRefusal, readRefusal}
+use Rattle.model.specs.Calls.{Outcome, refused, readCall, verdictCall}
+use Rattle.model.proofs.Bools.{or-intro-right}
+use Rattle.model.proofs.Refusals.{passed}
+use Rattle.model.proofs.Calls.{refused-is}
+use Rattle.verdict.specs.Lines.{lineOne, verdictText, verdictLines}
+
+-- 3, 4, 5 and then 6, which such an image always meets
+abbrev early : ℕ → ℕ → ℕ → ℕ → ℕ → ℕ
+early first version b d K =
+    refuse (not (eqb first 4)) 3 (refuse (not (eqb version 1)) 4 (refuse (not (settingsInRange b d K)) 5 6))
+
+abbrev earlyOf : List ℕ → ℕ
+earlyOf im = early (byteAt im 0) (byteAt im 1) (byteAt im 2) (byteAt im 3) (byteAt im 4)
+
+module _ (im : List ℕ) (long : 65536 ≤ length im) where
+  wrong : countsWrong im ≡ true
+  unfolding lengthRight
+  wrong =
+      or-intro-right (ltb (length im) 6) _
+      (or-intro-right (eqb (imNodes im) 0) _
+      (or-intro-right (ltb 64 (imNodes im)) _ (ap not (go (leb (8 + 4 * imNodes im) (length im)) (eqb (length im) (8 + 4 * imNodes im + 4 * imRecords im))))))
+    where
+      go : (a b : Bool) → (a && (b && leb (length im) 65535)) ≡ false
+      go true true = lt-leb (length im) 65535 (omega arith)
+      go true false = refl
+      go false b = refl
+
+  settles : imageRefusal im ≡ earlyOf im
+  unfolding imageRefusal refuse
+  settles = rw (le-ltb (length im) 5 (omega arith), wrong)
+
+  refuses : imageRefusal im ≡ 0 → ⊥
+  unfolding refuse
+  refuses e =
+      go (not (eqb (byteAt im 0) 4)) (not (eqb (byteAt im 1) 1)) (not (settingsInRange (byteAt im 2) (byteAt im 3) (byteAt im 4)))
+      (sym settles ∙ e)
+    where
+      go : (a b c : Bool) → refuse a 3 (refuse b 4 (refuse c 5 6)) ≡ 0 → ⊥
+      go true b c e = omega arith
+      go false true c e = omega arith
+      go false false true e = omega arith
+      go false false false e = omega arith
+
+-- xs has at least 65,536 bytes and begins as the image does
+module _ (im xs : List ℕ) (long : 65536 ≤ length im) (kept : 65536 ≤ length xs) (same : (a : ℕ) → a < 65536 → byteAt xs a ≡ byteAt im a) where
+  same-refusal : imageRefusal xs ≡ imageRefusal im
+  same-refusal =
+      settles xs kept
+      ∙ ap₂ (λ (a b : ℕ). early a b (byteAt xs 2) (byteAt xs 3) (byteAt xs 4)) (same 0 (omega arith)) (same 1 (omega arith))
+      ∙ ap₂ (λ (a b : ℕ). early (byteAt im 0) (byteAt im 1) a b (byteAt xs 4)) (same 2 (omega arith)) (same 3 (omega arith))
+      ∙ ap (early (byteAt im 0) (byteAt im 1) (byteAt im 2) (byteAt im 3)) (same 4 (omega arith))
+      ∙ sym (settles im long)
+
+  module _ (s t : List ℕ) where
+    read-same : readRefusal s t xs ≡ readRefusal s t im
+    unfolding readRefusal
+    read-same = ap (refuse (memoryShort s t) 1) same-refusal
+
+    refused-both : readRefusal s t im ≡ 0 → ⊥
+    unfolding readRefusal
+    refused-both e = refuses im long (passed (memoryShort s t) 0 (imageRefusal im) e .1)
+
+    call-same : readCall s t xs ≡ readCall s t im
+    unfolding readCall
+    call-same =
+        refused-is (readRefusal s t xs) (refused s t [] 0) _ (λ e. refused-both (sym read-same ∙ e))
+        ∙ ap (refused s t [] 0) read-same
+        ∙ sym (refused-is (readRefusal s t im) (refused s t [] 0) _ refused-both)
+
+    lines-same : verdictLines s t xs ≡ verdictLines s t im
+    unfolding verdictLines
+    lines-same =
+        ap
+        (λ (r : Outcome).
+        cond (eqb (getD (r .answer) 0 0) 0) (verdictText (verdictCall (r .state) (r .tables) .answer)) (lineOne (getD (r .answer) 0 0))) call-same
+
+-- so the program prints for an overlong input what the whole of it deserves
+pub overlong : (im s t : List ℕ) → 65536 ≤ length im → verdictLines s t (take 65536 im) ≡ verdictLines s t im
+overlong im s t long =
+    lines-same im (take 65536 im) long (le-of-eq (sym (length-take-le 65536 im long))) (λ a h. getD-take 65536 im a 0 h) s t
