@@ -1,8 +1,7 @@
 -- What each delivery leaves, as the book has it. Assumes nothing.
 use Prim.Native.Nat.{ℕ, _+_, _*_, _≤_}
 use mathlib.Core.Path.{_≡_, refl, sym, ap, ap₂, _∙_}
-use mathlib.Core.Logic.{_≢_}
-use mathlib.Core.Bool.{Bool, true, false, cond, _&&_}
+use mathlib.Core.Bool.{Bool, true, false, cond}
 use mathlib.Core.List.{List, [], _∷_}
 use native.Mathlib.Omega.{arith}
 use lib.Dec.{eqb}
@@ -15,7 +14,6 @@ use Rattle.model.specs.Learning.{learn, learnTable}
 use Rattle.model.specs.Join.{Delivery, joiningNode, inSystemNode, notifyingNode, settle, roomAtSuffix, firstAtSuffix, attachLevel, gather, delivered, delivery}
 use Rattle.model.specs.Join.{deliverCopying, deliverSentOn, deliverAttached, deliverWaiting, deliverNotifying}
 use Rattle.model.specs.Calls.{Outcome, taken, deliveryFields}
-use Rattle.model.proofs.Status.{IsNode}
 use Rattle.model.proofs.Sound.{Sound}
 use Rattle.model.proofs.Sender.{Sending, copies, waits, notifies, sending, receiver}
 use Rattle.model.proofs.Delivered.{CanDeliver}

@@ -1,33 +1,29 @@
 -- Room in the receiver's table: the entry that is read, and the attach level that is found from the match down. Assumes nothing.
-use Prim.Native.Nat.{ℕ, suc, _+_, _-_, _≤_, _<_}
-use mathlib.Core.Path.{_≡_, refl, sym, ap, ap₂, subst, _∙_}
-use mathlib.Core.Logic.{_≢_, _⊎_, inl, inr, ⊎-elim}
+use Prim.Native.Nat.{ℕ, suc, _-_, _≤_, _<_}
+use mathlib.Core.Path.{_≡_, sym, ap, ap₂, subst, _∙_}
 use mathlib.Core.Bool.{Bool, true, false, not, _||_}
 use mathlib.Core.List.{List}
-use native.Mathlib.Nat.{le-of-suc-le-suc}
 use native.Mathlib.Decide.{decLt}
 use native.Mathlib.Omega.{arith}
 use lib.Dec.{ltb}
-use lib.ListN.{length, getD}
+use lib.ListN.{length}
 use borrow.Author.Tests.{lt-ltb, le-ltb, ltb-false, not-true, not-false}
-use Rattle.model.specs.Loops.{allBelow, firstBelow}
 use Rattle.model.specs.Ids.{digitOf}
 use Rattle.model.specs.Memory.{digits, depth, idOf, tableOf}
 use Rattle.model.specs.Tables.{slotPlace, entrySize, firstOf}
 use Rattle.model.specs.Sound.{suffixOf}
-use Rattle.model.specs.Join.{hasRoom, roomAtSuffix, firstAtSuffix, belowOrRoom, roomFrom, attachLevel}
+use Rattle.model.specs.Join.{hasRoom, roomAtSuffix, belowOrRoom, roomFrom, attachLevel}
 use Rattle.model.proofs.Bools.{or-intro-left, or-intro-right, or-right}
 use Rattle.model.proofs.Ids.{digit-lt}
-use Rattle.model.proofs.Loops.{all-of, all-at, all-false, First, first-unique}
+use Rattle.model.proofs.Loops.{all-of, all-at, all-false, first-unique}
 use Rattle.model.proofs.Tables.{size-filled}
-use Rattle.model.proofs.Status.{IsNode}
 use Rattle.model.proofs.Delivering.{suffix-below}
 use Rattle.records.specs.Loaded.{Placed}
 use Rattle.learning.specs.declared.owner.Owner.{Owner}
 use Rattle.tables.specs.Places.{Entry}
 use Rattle.learning.specs.Learners.{OwnerOf}
 use Rattle.delivery.specs.declared.room.SuffixEntry.{SuffixEntry}
-use Rattle.delivery.specs.Delivers.{Delivers, NodesIn, Level, roomAt, EntryOf}
+use Rattle.delivery.specs.Delivers.{Delivers, Level, roomAt, EntryOf}
 use Rattle.delivery.proofs.Readers.{nodes-in}
 
 -- ---- the entry at the match

@@ -1,13 +1,12 @@
 -- Two nodes that meet: what stands in their tables are nodes, before and after learning, so each can be read and learned. Assumes
 -- nothing.
-use Prim.Native.Nat.{ℕ, suc, _+_, _*_, _^_, _≤_, _<_}
+use Prim.Native.Nat.{ℕ, suc, _+_, _*_, _≤_, _<_}
 use mathlib.Core.Path.{_≡_, refl, sym, ap, ap₂, subst, _∙_}
-use mathlib.Core.Logic.{_≢_, _⊎_, inl, inr, ⊎-elim}
+use mathlib.Core.Logic.{_≢_, inl, ⊎-elim}
 use mathlib.Core.List.{List}
 use native.Mathlib.Decide.{ℕ-discrete}
 use native.Mathlib.Omega.{arith}
 use lib.ListN.{length, getD}
-use Rattle.model.specs.Loops.{eachBelow}
 use Rattle.model.specs.Ids.{commonSuffix}
 use Rattle.model.specs.Memory.{digits, depth, nodeCount, Node, idOf, withNode, tableOf}
 use Rattle.model.specs.Tables.{slotPlace, entrySize, append}
@@ -23,7 +22,6 @@ use Rattle.model.proofs.Replaced.{Agree, agree-node, agree-id, agree-count}
 use Rattle.model.proofs.Memory.{node-length}
 use Rattle.records.specs.Loaded.{Placed}
 use Rattle.learning.specs.declared.owner.Owner.{Owner}
-use Rattle.tables.specs.Places.{Lent}
 use Rattle.learning.specs.Learners.{Readable, OwnerOf, ReadableTable, Learns, LearnsTable}
 use Rattle.delivery.specs.Delivers.{Delivers, Network, NodesIn, Meets, attaching}
 
@@ -31,9 +29,6 @@ use Rattle.delivery.specs.Delivers.{Delivers, Network, NodesIn, Meets, a
 
 pub readable : (s : List ℕ) → Network s → (u : ℕ) → IsNode s u → Readable s u
 readable s n u k = record { long = n .long; first = k .low; last = omega (arith, n .few, k .high); short = n .ids u k }
-
-pub lent-node : (s t : List ℕ) → Network s → 32768 ≤ length t → (x : ℕ) → IsNode s x → Lent t x
-lent-node s t n l x k = record { long = l; first = k .low; last = omega (arith, n .few, k .high) }
 
 pub learns : (s : List ℕ) → Network s → (r : Owner) (z u : ℕ) → r .number ≡ z → OwnerOf s r → IsNode s z → IsNode s u → u ≢ z → Learns s r u
 learns s n r z u e o nz nu ne = record {

@@ -1,15 +1,15 @@
 -- Stores of one step: a record stored twice, a table put back as it was, and what is gathered in either state. Assumes nothing.
 use Prim.Native.Nat.{ℕ, zero, suc, _+_, _*_, _-_, _≤_, _<_}
-use mathlib.Core.Path.{_≡_, refl, sym, ap, subst, _∙_}
-use mathlib.Core.Logic.{_≢_, _⊎_, inl, inr}
-use mathlib.Core.List.{List, _++_}
+use mathlib.Core.Path.{_≡_, sym, ap, subst, _∙_}
+use mathlib.Core.Logic.{_⊎_, inl, inr}
+use mathlib.Core.List.{List}
 use mathlib.Core.Bool.{cond, not, _&&_}
 use native.Mathlib.Nat.{add-zero}
 use native.Mathlib.Decide.{decLt}
 use native.Mathlib.Omega.{arith}
 use lib.Dec.{leb, eqb}
-use lib.ListN.{length, getD, take, drop}
-use lib.Seq.{ext-getD, drop-drop}
+use lib.ListN.{length, getD}
+use lib.Seq.{ext-getD}
 use Rattle.model.specs.Memory.{Node, idOf, withNode, hasNode, addNode, tableStart, tableOf, withTable}
 use Rattle.model.specs.Join.{gather, gatherPlace}
 use Rattle.model.proofs.Loops.{each-same}

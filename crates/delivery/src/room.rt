@@ -1,7 +1,6 @@
 // Room in the receiver's table for the sender: x sends to y, and h is their match.
 ghost use mathlib.Core.Path.{_≡_};
 ghost use mathlib.Core.Bool.{true};
-ghost use Prim.Native.Nat.{_≤_};
 ghost use Rattle.model.specs.Memory.{tableOf};
 ghost use Rattle.model.specs.Sound.{suffixOf};
 ghost use Rattle.model.specs.Join.{roomAtSuffix, attachLevel};

@@ -3,7 +3,7 @@ use Prim.Native.Nat.{ℕ, _+_}
 use mathlib.Core.Path.{_≡_, ap, ap₂, _∙_}
 use mathlib.Core.List.{List}
 use lib.ListN.{set}
-use Rattle.model.specs.Memory.{Memory, digits, nodeCount, copying, zeroed, withNode, withTable}
+use Rattle.model.specs.Memory.{digits, nodeCount, copying, zeroed, withNode, withTable}
 use Rattle.model.specs.Tables.{ownTable}
 use Rattle.model.specs.Join.{withSettings, inSystemNode, joiningNode, founded, begun}
 use Rattle.join.specs.After.{after}

@@ -14,7 +14,6 @@ use Rattle.model.proofs.Ids.{InRange, valid-lt}
 use Rattle.model.proofs.Status.{IsNode}
 use Rattle.model.proofs.Rules.{Known}
 use Rattle.learning.specs.declared.owner.Owner.{Owner}
-use Rattle.tables.specs.Places.{Lent}
 use Rattle.learning.specs.Learners.{Readable, OwnerOf, ReadableTable, Learns, LearnsTable}
 
 module _ (s : List ℕ) (long : 520 ≤ length s) (range : InRange (base s) (digits s) (depth s)) (few : nodeCount s ≤ 64) where

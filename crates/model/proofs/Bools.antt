@@ -74,16 +74,10 @@ pub or-none-right : (a b : Bool) → (a || b) ≡ false → b ≡ false
 or-none-right true b e = absurd (not-both true refl e)
 or-none-right false b e = e
 
--- ---- code that returns early: `if !r { return false; } s` for `a && b`, and `if r { return true; } s` for `a || b`
+-- ---- code that returns early: `if !r { return false; } s` for `a && b`
 
 pub and-leaves : (a b r : Bool) → r ≡ a → not r ≡ true → false ≡ (a && b)
 and-leaves a b r e h = sym (ap (λ (t : Bool). t && b) (sym e ∙ not-true r h))
 
 pub and-goes : (a b r s : Bool) → r ≡ a → not r ≡ false → s ≡ b → s ≡ (a && b)
 and-goes a b r s e h q = q ∙ sym (ap (λ (t : Bool). t && b) (sym e ∙ not-false r h))
-
-pub or-leaves : (a b r : Bool) → r ≡ a → r ≡ true → true ≡ (a || b)
-or-leaves a b r e h = sym (ap (λ (t : Bool). t || b) (sym e ∙ h))
-
-pub or-goes : (a b r s : Bool) → r ≡ a → r ≡ false → s ≡ b → s ≡ (a || b)
-or-goes a b r s e h q = q ∙ sym (ap (λ (t : Bool). t || b) (sym e ∙ h))

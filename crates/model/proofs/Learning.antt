@@ -1,6 +1,6 @@
 -- Laws of learning: a learned node is appended where it may be, and nothing else changes. Assumes nothing.
 use Prim.Native.Nat.{ℕ, suc, _*_, _≤_, _<_}
-use mathlib.Core.Path.{_≡_, refl, ap, ap₂, _∙_}
+use mathlib.Core.Path.{_≡_, refl, ap, ap₂}
 use mathlib.Core.Logic.{_≢_, _⊎_, inl, inr, ⊎-elim}
 use mathlib.Core.Bool.{Bool, true, false, cond, _&&_, _||_}
 use mathlib.Core.List.{List}
@@ -66,12 +66,6 @@ module _ (s : List ℕ) (x u : ℕ) (T : List ℕ) where
   learn-grows =
       each-keeps (Grows T) (suc (suffixOf s x u)) (learnAt s u) T (grows-refl T)
       (λ i T′ l g. grows-trans g (learn-at-grows s u i T′))
-
-  pub learn-below : (p : ℕ) → p < 64 * floorOf s u → getD (learn s x u T) p 0 ≡ getD T p 0
-  unfolding learn
-  learn-below p h =
-      each-keeps (λ (T′ : List ℕ). getD T′ p 0 ≡ getD T p 0) (suc (suffixOf s x u)) (learnAt s u) T refl
-      (λ i T′ l e. learn-at-below s u i T′ p h ∙ e)
 
 -- learning a table, place by place
 pub learn-place-cases : (s : List ℕ) (x : ℕ) (Y : List ℕ) (p : ℕ) (T : List ℕ)

@@ -161,12 +161,6 @@ first-some n f e =
 pub any-found : (n : ℕ) (f : ℕ → Bool) → anyBelow n f ≡ true → (k : ℕ) × (k < n) × (f k ≡ true)
 any-found n f e = let l = first-some n f e in (firstBelow n f, l, first-holds n f l)
 
-pub all-fails : (n : ℕ) (f : ℕ → Bool) → allBelow n f ≡ false → (k : ℕ) × (k < n) × (f k ≡ false)
-all-fails n f e = let w = any-found n (λ k. not (f k)) some in (w .0, w .1, not-true (f (w .0)) (w .2))
-  where
-    some : anyBelow n (λ k. not (f k)) ≡ true
-    some = back-true (anyBelow n (λ k. not (f k))) (not (allBelow n f)) (λ q. ap not (all-of n f (λ k l. not-false (f k) (any-at n (λ k. not (f k)) q k l)))) (ap not e)
-
 -- the first index at which a test fails, and whether it holds at all
 
 pub first-whole : (n : ℕ) (f : ℕ → Bool) → n ≤ firstBelow n (λ k. not (f k)) → allBelow n f ≡ true
@@ -312,12 +306,6 @@ each-same n f g a h = same (λ m f. eachBelow m f a) a (λ n x f. f x) (λ f. re
 
 pub ruleset all-loop = (all-zero, all-goes, all-leaves, all-ends)
 
-pub ruleset any-loop = (any-zero, any-goes, any-leaves, any-ends)
-
 pub ruleset first-loop = (first-goes, first-leaves, first-ends, first-none)
 
-pub ruleset count-loop = (count-zero, count-hit, count-miss, count-ends)
-
 pub ruleset each-loop = (each-zero, each-step, each-ends)
-
-pub ruleset join-loop = (join-zero, join-step, join-ends)

@@ -61,14 +61,6 @@ module _ (s : List ℕ) (x : ℕ) (r : Node) (fits : 8 * x + 6 ≤ length s) whe
       ap (λ (l : List ℕ). getD l p 0) spliced
       ∙ ⊎-elim (splice-before (8 * x) 6 (words r) s refl fits p) (splice-after (8 * x) 6 (words r) s refl fits p) h
 
-  -- the words of another node's record are as they were
-  pub node-other : (y k : ℕ) → y ≢ x → k < 8 → getD (withNode s x r) (8 * y + k) 0 ≡ getD s (8 * y + k) 0
-  node-other y k e h = node-outside (8 * y + k) (apart (decLt y x))
-    where
-      apart : Dec (y < x) → (8 * y + k < 8 * x) ⊎ (8 * x + 6 ≤ 8 * y + k)
-      apart (yes l) = inl (omega arith)
-      apart (no g) = inr (omega arith)
-
 -- ---- a node's table
 
 module _ (t : List ℕ) (x : ℕ) (fits : tableStart x + 512 ≤ length t) where

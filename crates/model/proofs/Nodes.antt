@@ -1,12 +1,10 @@
 -- Laws of loops over the nodes, which are numbered from 1, and of the places of their tables. Assumes nothing.
 use Prim.Native.Nat.{ℕ, _+_, _-_, _*_, _≤_, _<_}
-use mathlib.Core.Path.{_≡_, ap₂, subst, _∙_}
+use mathlib.Core.Path.{_≡_, ap₂, subst}
 use mathlib.Core.Bool.{Bool, true, false, not}
 use mathlib.Core.List.{List}
 use native.Mathlib.Omega.{arith}
-use lib.ListN.{length, getD, set, take, drop}
-use lib.Seq.{getD-set-same, getD-set-other}
-use borrow.Author.Count.{below-more}
+use lib.ListN.{take, drop}
 use Rattle.model.specs.Loops.{allBelow, anyBelow, node}
 use Rattle.model.specs.Memory.{tableOf}
 use Rattle.model.proofs.Loops.{all-zero, all-goes, all-leaves, all-ends, all-at, all-of, any-at}
@@ -35,13 +33,6 @@ unfolding tableOf
 table-part t k =
     let p : 512 * k + 512 - 512 * k ≡ 512 = omega arith in
     let q : 512 * k ≡ 512 * (k + 1 - 1) = omega arith in ap₂ (λ (m n : ℕ). take m (drop n t)) p q
-
--- a list filled from the front: one place more
-pub fill-goes : (f : ℕ → ℕ) (i : ℕ) (xs : List ℕ) (v : ℕ) → ((k : ℕ) → k < i → getD xs k 0 ≡ f k) → i < length xs → v ≡ f i
-    → (k : ℕ) → k < i + 1 → getD (set xs i v) k 0 ≡ f k
-fill-goes f i xs v h l e =
-    below-more (λ (k : ℕ). getD (set xs i v) k 0 ≡ f k) i (λ k g. getD-set-other xs i k v 0 (omega arith) ∙ h k g)
-    (getD-set-same xs i v 0 l ∙ e)
 
 -- a loop up to m, a number that the code holds for the book's n
 pub all-leaves-to : (m n : ℕ) (f : ℕ → Bool) (i : ℕ) (r : Bool) → m ≡ n → i < m → r ≡ f i → not r ≡ true → false ≡ allBelow n f

@@ -4,7 +4,7 @@ use mathlib.Core.Bool.{cond}
 use mathlib.Core.List.{List, [], _∷_, _++_}
 use lib.ListN.{length, drop, replicate}
 use lib.Dec.{eqb}
-use Rattle.model.specs.Memory.{Memory, nodeCount, inSystem}
+use Rattle.model.specs.Memory.{nodeCount, inSystem}
 use Rattle.model.specs.Join.{Delivery, founded, begun, delivery, delivered}
 use Rattle.model.specs.Lookup.{Lookup, lookup}
 use Rattle.model.specs.Consistency.{Verdict, verdict}

@@ -1,9 +1,9 @@
 -- The refusals: document 01, "What a call declines". Each call has its own sentences, in the paper's order.
-use Prim.Native.Nat.{ℕ, _+_, _*_}
+use Prim.Native.Nat.{ℕ}
 use mathlib.Core.Bool.{Bool, cond, not, _&&_, _||_}
 use mathlib.Core.List.{List}
 use lib.ListN.{length}
-use lib.Dec.{leb, ltb, eqb}
+use lib.Dec.{ltb, eqb}
 use Rattle.model.specs.Loops.{allBelow, anyBelow, node}
 use Rattle.model.specs.Ids.{settingsInRange, validId}
 use Rattle.model.specs.Memory.{stateLength, tablesLength, base, digits, nodeCount, idOf, statusOf, waiting, isInSystem}

@@ -1,10 +1,10 @@
 -- Soundness: document 01, "A state is sound when: ..", a definition for each clause of that sentence.
 use Prim.Native.Nat.{ℕ, _+_, _-_, _*_, _/_, _%_, _^_}
-use mathlib.Core.Bool.{Bool, true, false, not, _&&_, _||_}
+use mathlib.Core.Bool.{Bool, true, not, _&&_, _||_}
 use mathlib.Core.List.{List, [], _∷_}
 use lib.ListN.{getD, take, drop}
 use lib.Dec.{leb, ltb, eqb}
-use Rattle.model.specs.Loops.{allBelow, anyBelow, node}
+use Rattle.model.specs.Loops.{allBelow, node}
 use Rattle.model.specs.Ids.{settingsInRange, validId, digitOf, commonSuffix}
 use Rattle.model.specs.Memory.{stateLength, tablesLength, base, digits, depth, nodeCount, idOf, statusOf, levelOf, targetOf}
 use Rattle.model.specs.Memory.{pendingOf, notifiedOf, inSystem, copying, waiting, notifying, isInSystem, isAttached, hasNode}

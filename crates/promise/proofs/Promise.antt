@@ -1,25 +1,22 @@
 -- Demand 3: what holds of every run. Assumes nothing.
-use Prim.Native.Nat.{ℕ, zero, suc, _+_, _-_, _≤_}
-use mathlib.Core.Path.{_≡_, refl, sym, ap, ap₂, subst, _∙_}
-use mathlib.Core.Logic.{_≢_, _⊎_, inl, inr}
+use Prim.Native.Nat.{ℕ, _+_, _-_, _≤_}
+use mathlib.Core.Path.{_≡_, refl, sym, ap, subst, _∙_}
+use mathlib.Core.Logic.{_⊎_, inl, inr}
 use mathlib.Core.Bool.{Bool, true, false, cond, not, _&&_, and-false, false≢true}
 use mathlib.Core.List.{List, [], _∷_, _++_}
 use native.Mathlib.Decide.{ℕ-discrete}
 use native.Mathlib.Omega.{arith}
-use lib.Dec.{eqb}
 use lib.ListN.{length, getD}
 use borrow.Author.Tests.{ne-eqb}
 use Rattle.model.specs.Memory.{Memory, digits}
 use Rattle.model.specs.Sound.{isNode, suffixOf}
-use Rattle.model.specs.Join.{founded}
 use Rattle.model.specs.Lookup as book
 use Rattle.model.specs.Lookup.{Lookup, veryHops}
 use Rattle.model.specs.Consistency as book2
-use Rattle.model.specs.Consistency.{Verdict, consistent, firstShort}
-use Rattle.model.specs.Image.{loaded}
+use Rattle.model.specs.Consistency.{consistent, firstShort}
 use Rattle.model.specs.Refusals.{foundRefusal, readRefusal, lookupRefusal, verdictRefusal}
 use Rattle.model.specs.Calls.{Outcome, refused, taken, unlessRefused, lookupFields, verdictFields, foundCall, readCall, lookupCall, verdictCall}
-use Rattle.model.specs.Run.{Call, found, read, begin, deliver, lookup, verdict, write, step, after, play, history, isTaken, isStart, starts, goesOn, isRun, isSentBy, sent}
+use Rattle.model.specs.Run.{Call, found, read, begin, deliver, lookup, verdict, write, step, after, play, history, isTaken, starts, goesOn, isRun, isSentBy, sent}
 use Rattle.model.proofs.Bools.{and-left, and-right, and-intro, not-both, true-or-false}
 use Rattle.model.proofs.Status.{IsNode, is-node, is-node-of}
 use Rattle.model.proofs.Sound.{Sound}
@@ -31,9 +28,9 @@ use Rattle.model.proofs.Unchanged.{same-lookup, same-hops}
 use Rattle.model.proofs.Later.{node-later}
 use Rattle.model.proofs.Growing.{Onward}
 use Rattle.model.proofs.Taken.{found-taken, read-taken, lookup-free}
-use Rattle.promise.specs.Promise.{lookupIn, alreadyMatched, Passes, NodeOf, Promise, Demand3}
+use Rattle.promise.specs.Promise.{lookupIn, alreadyMatched, Passes, NodeOf, Demand3}
 use Rattle.model.proofs.Calls.{taken-is, refused-is}
-use Rattle.promise.proofs.Run.{Holds, Goes, run-goes}
+use Rattle.promise.proofs.Run.{Holds, run-goes}
 
 -- ---- a call that was taken
 

@@ -1,27 +1,26 @@
 -- Every state of a run is sound, each node has sent no more than its limit, and the network only goes onward. Assumes nothing.
-use Prim.Native.Nat.{ℕ, _+_, _≤_, _<_}
-use mathlib.Core.Path.{_≡_, refl, sym, ap, ap₂, subst, subst₂, _∙_}
+use Prim.Native.Nat.{ℕ, _+_, _≤_}
+use mathlib.Core.Path.{_≡_, refl, sym, ap, subst, _∙_}
 use mathlib.Core.Logic.{_≢_, _⊎_, inl, inr}
 use mathlib.Core.Bool.{Bool, true, false, cond, not, _&&_}
 use mathlib.Core.List.{List, [], _∷_}
-use native.Mathlib.Nat.{add-assoc, add-zero}
-use native.Mathlib.Decide.{ℕ-discrete, decLe}
+use native.Mathlib.Nat.{add-zero}
+use native.Mathlib.Decide.{ℕ-discrete}
 use native.Mathlib.Omega.{arith}
 use lib.Dec.{eqb}
-use lib.ListN.{getD}
-use borrow.Author.Tests.{eq-eqb, ne-eqb, not-true, not-false}
-use Rattle.model.specs.Memory.{Memory, digits, nodeCount, idOf}
+use borrow.Author.Tests.{eq-eqb, ne-eqb, not-true}
+use Rattle.model.specs.Memory.{Memory, nodeCount}
 use Rattle.model.specs.Join.{Delivery, begun, delivery, delivered}
 use Rattle.model.specs.Refusals.{beginRefusal, deliverRefusal}
-use Rattle.model.specs.Calls.{Outcome, refused, taken, unlessRefused, deliveryFields, beginCall, deliverCall}
-use Rattle.model.specs.Run.{Call, begin, deliver, step, after, play, Event, history, isTaken, starts, goesOn, isSentBy, keepsAsking, sent}
+use Rattle.model.specs.Calls.{Outcome, refused, taken, deliveryFields, beginCall, deliverCall}
+use Rattle.model.specs.Run.{Call, begin, deliver, step, after, play, history, isTaken, starts, goesOn, isSentBy, keepsAsking, sent}
 use Rattle.model.proofs.Bools.{and-left, and-right, true-or-false}
 use Rattle.model.proofs.Status.{IsNode}
 use Rattle.model.proofs.Sound.{Sound}
-use Rattle.model.proofs.Sender.{Sending, sending, Receiver, receiver}
+use Rattle.model.proofs.Sender.{Sending, sending, receiver}
 use Rattle.model.proofs.Beginning.{CanBegin, begun-ok, begun-count, begun-later, begun-kept}
 use Rattle.model.proofs.Delivered.{CanDeliver, delivered-ok}
-use Rattle.model.proofs.Requests.{limit, limit-le, limit-some, limit-later, limit-other, Rises, delivery-rises}
+use Rattle.model.proofs.Requests.{limit, limit-some, limit-later, limit-other, Rises, delivery-rises}
 use Rattle.model.proofs.Growing.{Onward, onward-refl, onward-trans, begun-onward, delivered-onward, delivered-id, delivered-count}
 use Rattle.model.proofs.Taken.{begin-taken, deliver-taken}
 use Rattle.model.proofs.Calls.{taken-is}

@@ -1,21 +1,15 @@
 -- What each call of a run does: nothing to the network, or a beginning, or a delivery. Assumes nothing.
-use Prim.Native.Nat.{ℕ, zero, suc, _+_, _≤_}
-use mathlib.Core.Path.{_≡_, refl, sym, ap, ap₂, _∙_}
+use Prim.Native.Nat.{ℕ}
+use mathlib.Core.Path.{_≡_, refl, ap, ap₂, _∙_}
 use mathlib.Core.Logic.{_≢_}
-use mathlib.Core.Bool.{Bool, true, false, cond, not, _&&_, and-false}
-use mathlib.Core.List.{List, [], _∷_}
+use mathlib.Core.Bool.{Bool, true, false, _&&_, and-false}
+use mathlib.Core.List.{List, []}
 use native.Mathlib.Decide.{ℕ-discrete}
-use lib.Dec.{eqb}
-use lib.ListN.{getD, length, drop}
 use borrow.Author.Tests.{ne-eqb}
-use Rattle.model.specs.Memory.{Memory, nodeCount}
-use Rattle.model.specs.Join.{Delivery, founded, begun, delivery, delivered}
-use Rattle.model.specs.Lookup as book
-use Rattle.model.specs.Consistency as verdicts
-use Rattle.model.specs.Image.{loaded, imageOf}
+use Rattle.model.specs.Memory.{Memory}
 use Rattle.model.specs.Refusals.{foundRefusal, readRefusal, beginRefusal, deliverRefusal, lookupRefusal, verdictRefusal, writeRefusal}
-use Rattle.model.specs.Calls.{Outcome, refused, taken, unlessRefused, deliveryFields, foundCall, readCall, beginCall, deliverCall, lookupCall, verdictCall, writeCall}
-use Rattle.model.specs.Run.{Call, found, read, begin, deliver, lookup, verdict, write, step, after, isTaken, isStart, starts, isSentBy, keepsAsking}
+use Rattle.model.specs.Calls.{Outcome, refused, taken, unlessRefused, foundCall, readCall, beginCall, deliverCall, lookupCall, verdictCall, writeCall}
+use Rattle.model.specs.Run.{Call, found, read, begin, deliver, lookup, verdict, write, step, after, isTaken, isStart, starts, isSentBy}
 use Rattle.model.proofs.Bools.{not-both}
 use Rattle.model.proofs.Calls.{taken-is, refused-is}
 

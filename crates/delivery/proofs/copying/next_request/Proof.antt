@@ -1,7 +1,6 @@
 -- `next_request`: each return is a case of the definition. Assumes nothing.
 use Rattle.delivery.proofs.Levels.{first-placed}
 use Rattle.delivery.proofs.Deliveries.{asks-receiver, asks-first, waits-first}
-use native.Mathlib.Omega.{arith}
 use borrow.Author.Needs.{needs}
 use Rattle.delivery.proofs.copying.next_request.Statement.{statement}
 use Rattle.delivery.proofs.copying.next_request.Tie as tie

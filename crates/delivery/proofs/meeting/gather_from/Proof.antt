@@ -1,7 +1,6 @@
 -- `gather_from`: the part that is gathered from is z's table. Assumes nothing.
 use Rattle.delivery.proofs.Readers.{readable}
 use Rattle.delivery.proofs.Learned.{gathers, gathered-is}
-use native.Mathlib.Omega.{arith}
 use borrow.Author.Needs.{needs}
 use Rattle.delivery.proofs.meeting.gather_from.Statement.{statement}
 use Rattle.delivery.proofs.meeting.gather_from.Tie as tie

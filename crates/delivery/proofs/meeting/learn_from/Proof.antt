@@ -1,6 +1,4 @@
 -- `learn_from`: what x has learned is put back as x's table. Assumes nothing.
-use mathlib.Core.Path.{ap, _∙_}
-use native.Mathlib.Omega.{arith}
 use borrow.Author.Needs.{needs}
 use Rattle.delivery.proofs.meeting.learn_from.Statement.{statement}
 use Rattle.delivery.proofs.meeting.learn_from.Tie as tie

@@ -1,7 +1,6 @@
 -- `learned`: x's copy learns the part that is y's table. Assumes nothing.
 use Rattle.delivery.proofs.Readers.{readable}
 use Rattle.delivery.proofs.Learned.{learns-theirs, learned-is}
-use native.Mathlib.Omega.{arith}
 use borrow.Author.Needs.{needs}
 use Rattle.delivery.proofs.meeting.learned.Statement.{statement}
 use Rattle.delivery.proofs.meeting.learned.Tie as tie

@@ -1,7 +1,6 @@
 -- `teach`: y's copy learns x and is put back as y's. Assumes nothing.
 use Rattle.delivery.proofs.Readers.{readable}
 use Rattle.delivery.proofs.Learned.{learns-sender, taught-is}
-use native.Mathlib.Omega.{arith}
 use borrow.Author.Needs.{needs}
 use Rattle.delivery.proofs.meeting.teach.Statement.{statement}
 use Rattle.delivery.proofs.meeting.teach.Tie as tie

@@ -1,7 +1,5 @@
 -- `notifying_node`: the branch is the test of `settle`. Assumes nothing.
 use Rattle.delivery.proofs.Deliveries.{settles, stays}
-use native.Mathlib.Omega.{arith}
-use borrow.Author.Needs.{needs}
 use Rattle.delivery.proofs.nodes.notifying_node.Statement.{statement}
 use Rattle.delivery.proofs.nodes.notifying_node.Tie as tie
 

@@ -1,6 +1,5 @@
 -- `store_notifying`: the record is made with x's own id. Assumes nothing.
 use Rattle.delivery.proofs.Deliveries.{stored-is}
-use native.Mathlib.Omega.{arith}
 use borrow.Author.Needs.{needs}
 use Rattle.delivery.proofs.nodes.store_notifying.Statement.{statement}
 use Rattle.delivery.proofs.nodes.store_notifying.Tie as tie

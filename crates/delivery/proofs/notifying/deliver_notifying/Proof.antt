@@ -2,7 +2,6 @@
 use Rattle.delivery.proofs.Readers.{placed, meets}
 use Rattle.delivery.proofs.Learned.{gathers-told}
 use Rattle.delivery.proofs.Deliveries.{notified-is}
-use native.Mathlib.Omega.{arith}
 use borrow.Author.Needs.{needs}
 use Rattle.delivery.proofs.notifying.deliver_notifying.Statement.{statement}
 use Rattle.delivery.proofs.notifying.deliver_notifying.Tie as tie

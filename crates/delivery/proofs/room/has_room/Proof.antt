@@ -1,6 +1,4 @@
 -- `has_room`: the size that is compared is the entry's. Assumes nothing.
-use mathlib.Core.Path.{ap}
-use native.Mathlib.Omega.{arith}
 use borrow.Author.Needs.{needs}
 use Rattle.delivery.proofs.room.has_room.Statement.{statement}
 use Rattle.delivery.proofs.room.has_room.Tie as tie

@@ -1,7 +1,6 @@
 -- `suffix_entry`: the entry is read at the match, with the sender's id. Assumes nothing.
 use Rattle.delivery.proofs.Levels.{level-at, entry-at, entry-of}
 use Rattle.delivery.proofs.Readers.{readable, network}
-use native.Mathlib.Omega.{arith}
 use borrow.Author.Needs.{needs}
 use Rattle.delivery.proofs.room.suffix_entry.Statement.{statement}
 use Rattle.delivery.proofs.room.suffix_entry.Tie as tie

@@ -2,7 +2,6 @@
 use Rattle.delivery.proofs.Readers.{meets-attaching, placed-attaching}
 use Rattle.delivery.proofs.Learned.{meets-exchanged}
 use Rattle.delivery.proofs.Deliveries.{attached-is}
-use native.Mathlib.Omega.{arith}
 use borrow.Author.Needs.{needs}
 use Rattle.delivery.proofs.waiting.attach.Statement.{statement}
 use Rattle.delivery.proofs.waiting.attach.Tie as tie

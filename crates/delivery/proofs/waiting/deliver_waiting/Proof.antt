@@ -1,7 +1,6 @@
 -- `deliver_waiting`: the branch is the test of the definition. Assumes nothing.
 use mathlib.Core.Path.{sym, _∙_}
 use Rattle.delivery.proofs.Deliveries.{waiting-attaches, waiting-sends}
-use native.Mathlib.Omega.{arith}
 use borrow.Author.Needs.{needs}
 use Rattle.delivery.proofs.waiting.deliver_waiting.Statement.{statement}
 use Rattle.delivery.proofs.waiting.deliver_waiting.Tie as tie

@@ -1,6 +1,5 @@
 -- `exchange`: x has learned before y's table is put back. Assumes nothing.
 use Rattle.delivery.proofs.Learned.{exchanged-is}
-use native.Mathlib.Omega.{arith}
 use borrow.Author.Needs.{needs}
 use Rattle.delivery.proofs.waiting.exchange.Statement.{statement}
 use Rattle.delivery.proofs.waiting.exchange.Tie as tie

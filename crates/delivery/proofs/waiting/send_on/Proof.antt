@@ -1,7 +1,6 @@
 -- `send_on`: the record and x's table are the delivery's, and y's table stays. Assumes nothing.
 use Rattle.delivery.proofs.Readers.{meets}
 use Rattle.delivery.proofs.Deliveries.{sent-on-is}
-use native.Mathlib.Omega.{arith}
 use borrow.Author.Needs.{needs}
 use Rattle.delivery.proofs.waiting.send_on.Statement.{statement}
 use Rattle.delivery.proofs.waiting.send_on.Tie as tie

@@ -1,6 +1,5 @@
 -- `start_notifying`: the record has x's id, the level and y in the told set. Assumes nothing.
 use Rattle.delivery.proofs.Deliveries.{starts-is}
-use native.Mathlib.Omega.{arith}
 use borrow.Author.Needs.{needs}
 use Rattle.delivery.proofs.waiting.start_notifying.Statement.{statement}
 use Rattle.delivery.proofs.waiting.start_notifying.Tie as tie

@@ -1,7 +1,5 @@
 -- `to_ask`: what is gathered from x's table goes on with y's. Assumes nothing.
 use Rattle.delivery.proofs.Learned.{gathers-own, gathers-theirs}
-use native.Mathlib.Omega.{arith}
-use borrow.Author.Needs.{needs}
 use Rattle.delivery.proofs.waiting.to_ask.Statement.{statement}
 use Rattle.delivery.proofs.waiting.to_ask.Tie as tie
 
