@@ -2,8 +2,10 @@
  *
  * state:  64-bit words, at least OVERLAY_STATE_WORDS.
  * tables: bytes, at least OVERLAY_TABLE_BYTES.
- * Lengths count elements. Memory past the fixed lengths is neither read nor changed. Two lent memories never overlap.
- * Bits 0 to 7 of an answer are the refusal; on a refusal every other bit is zero and nothing has changed. */
+ * Lengths count elements. What is past the fixed lengths is neither read nor changed. Two lent memories never overlap: not state and
+ * tables, and neither of them an image or the memory for one.
+ * An answer is one number: bits 0 to 7 are the refusal, 0 for none. On a refusal every other bit is zero and no byte has changed.
+ * Where several refusals hold, the smallest number is answered. */
 #ifndef OVERLAY_H
 #define OVERLAY_H
 
@@ -14,37 +16,72 @@
 extern "C" {
 #endif
 
+/* ---- lengths */
+
 #define OVERLAY_STATE_WORDS 520
 #define OVERLAY_TABLE_BYTES 32768
+#define OVERLAY_MOST_NODES 64
+/* An image that reading takes is no longer than this; memory of this length is enough for every image that is written. */
+#define OVERLAY_MOST_IMAGE_BYTES 65535
 
-/* Makes node 1 of a new network, whatever the memory held. Refusals: 1 memory too short; 5 a setting out of range (base 2 to 16,
- * digits 1 to 8, depth 1 to 4); 7 an id with a digit not below the base or a bit above its digits. */
+/* ---- refusals */
+
+#define OVERLAY_SHORT_MEMORY 1           /* state or tables are shorter than their fixed length */
+#define OVERLAY_UNSOUND 2                /* the state isn't sound */
+#define OVERLAY_NOT_AN_IMAGE 3           /* fewer than 5 bytes, or the first byte isn't 4 */
+#define OVERLAY_IMAGE_VERSION 4          /* the image's version isn't 1 */
+#define OVERLAY_BAD_SETTING 5            /* base 2 to 16, digits 1 to 8, depth 1 to 4 */
+#define OVERLAY_IMAGE_COUNTS 6           /* node count missing, 0 or above 64; a length other than the counts say, or above 65,535 */
+#define OVERLAY_BAD_ID 7                 /* a digit not below the base, or a bit above the digits */
+#define OVERLAY_ID_TAKEN 8               /* the id is a node's already, or stands twice in the image */
+#define OVERLAY_NO_SUCH_NODE 9           /* a node number, in a call or a record, is 0 or above the node count */
+#define OVERLAY_BAD_RECORDS 10           /* the image's records break their order or the table rules */
+#define OVERLAY_FULL 11                  /* there are 64 nodes */
+#define OVERLAY_GATEWAY_NOT_IN_SYSTEM 12 /* the gateway isn't in system */
+#define OVERLAY_NOT_OUTSTANDING 13       /* no request from the sender to the receiver is outstanding */
+#define OVERLAY_HELD 14                  /* a waiting sender's receiver isn't in system: the request stays outstanding */
+#define OVERLAY_JOIN_IN_FLIGHT 15        /* a node isn't in system */
+#define OVERLAY_SHORT_OUTPUT 16          /* the memory for the image is too short */
+
+/* ---- calls */
+
+/* Makes node 1 of a new network, whatever the memory held. Refusals 1, 5, 7. */
 uint64_t overlay_found(uint64_t *state, size_t state_len, uint8_t *tables, size_t tables_len,
                        uint64_t base, uint64_t digits, uint64_t depth, uint32_t id);
 
+/* Makes the network of an image, every node in system, whatever the memory held. The whole image is judged first.
+ * Refusals 1, 3 to 10. */
+uint64_t overlay_read(uint64_t *state, size_t state_len, uint8_t *tables, size_t tables_len,
+                      const uint8_t *image, size_t image_len);
+
 /* Adds a node that is to join by the gateway: it gets the next number and its first request goes to the gateway. Answers the new node,
- * by overlay_new_node. Refusals: 1 memory too short; 2 the state isn't sound; 7 an id with a digit not below the base or a bit above its
- * digits; 8 the id is a node's already; 9 the gateway is 0 or above the node count; 11 there are 64 nodes; 12 the gateway isn't in
- * system. */
+ * by overlay_new_node. Refusals 1, 2, 7, 8, 9, 11, 12. */
 uint64_t overlay_begin(uint64_t *state, size_t state_len, uint8_t *tables, size_t tables_len,
                        uint32_t id, uint64_t gateway);
 
 /* Delivers the sender's outstanding request to the receiver, with the receiver's answer. Answers what it was, by overlay_step,
- * overlay_attach_level and overlay_settled. Refusals: 1 memory too short; 2 the state isn't sound; 9 a number is 0 or above the node
- * count; 13 no request from the sender to the receiver is outstanding; 14 the sender waits and the receiver isn't in system: the request
- * stays outstanding. */
+ * overlay_attach_level and overlay_settled. Refusals 1, 2, 9, 13, 14. */
 uint64_t overlay_deliver(uint64_t *state, size_t state_len, uint8_t *tables, size_t tables_len,
                          uint64_t sender, uint64_t receiver);
 
 /* Follows a lookup from one node to another, and changes nothing. Answers how it ended, by overlay_arrived, overlay_hops and
- * overlay_last_node. Refusals: 1 memory too short; 2 the state isn't sound; 9 a number is 0 or above the node count. */
+ * overlay_last_node. Refusals 1, 2, 9. */
 uint64_t overlay_lookup(const uint64_t *state, size_t state_len, const uint8_t *tables, size_t tables_len,
                         uint64_t from, uint64_t to);
 
-/* What the first two sentences say of this memory: 1 too short, 2 not sound, 0 neither. */
+/* Judges the tables, and changes nothing. Answers whether the network is K-consistent, by overlay_consistent; if not, the first entry that
+ * falls short, by overlay_short_node, overlay_short_level and overlay_short_digit. Refusals 1, 2, 15. */
+uint64_t overlay_verdict(const uint64_t *state, size_t state_len, const uint8_t *tables, size_t tables_len);
+
+/* Writes the image of the network to out, and changes nothing else: not what is past the image. Answers its length, by
+ * overlay_image_length. Refusals 1, 2, 15, 16. */
+uint64_t overlay_write(const uint64_t *state, size_t state_len, const uint8_t *tables, size_t tables_len,
+                       uint8_t *out, size_t out_len);
+
+/* What the first two refusals say of this memory: OVERLAY_SHORT_MEMORY, OVERLAY_UNSOUND, or 0 for neither. */
 uint64_t overlay_sound(const uint64_t *state, size_t state_len, const uint8_t *tables, size_t tables_len);
 
-/* ---- the fields of an answer: a byte each, zero on a refusal */
+/* ---- the fields of an answer, zero on a refusal */
 
 /* Of every answer, bits 0 to 7: the refusal, 0 for none. */
 static inline unsigned overlay_refusal(uint64_t answer) { return (unsigned)(answer & 0xff); }
@@ -75,6 +112,21 @@ static inline unsigned overlay_hops(uint64_t answer) { return (unsigned)(answer 
 
 /* Of lookup, bits 24 to 31: the last node, 1 to 64. */
 static inline unsigned overlay_last_node(uint64_t answer) { return (unsigned)(answer >> 24 & 0xff); }
+
+/* Of verdict, bits 8 to 15: 1 consistent, 0 not. */
+static inline unsigned overlay_consistent(uint64_t answer) { return (unsigned)(answer >> 8 & 0xff); }
+
+/* Of verdict, bits 16 to 23: the first short entry's node, 1 to 64; 0 if consistent. */
+static inline unsigned overlay_short_node(uint64_t answer) { return (unsigned)(answer >> 16 & 0xff); }
+
+/* Of verdict, bits 24 to 31: the first short entry's level, 0 to 7. */
+static inline unsigned overlay_short_level(uint64_t answer) { return (unsigned)(answer >> 24 & 0xff); }
+
+/* Of verdict, bits 32 to 39: the first short entry's digit, 0 to 15. */
+static inline unsigned overlay_short_digit(uint64_t answer) { return (unsigned)(answer >> 32 & 0xff); }
+
+/* Of write, bits 8 to 39: the length of the image in bytes. */
+static inline uint32_t overlay_image_length(uint64_t answer) { return (uint32_t)(answer >> 8 & 0xffffffff); }
 
 #ifdef __cplusplus
 }

@@ -6,7 +6,7 @@ use mathlib.Core.List.{List, [], _∷_}
 use native.Mathlib.Omega.{arith}
 use native.Mathlib.Nat.{pow-succ', div-div-eq-div-mul, zero-div}
 use lib.ListN.{getD}
-use Rattle.model.specs.Calls.{Outcome, beginCall, deliverCall, lookupCall}
+use Rattle.model.specs.Calls.{Outcome, beginCall, deliverCall, lookupCall, verdictCall}
 use Rattle.delivery.specs.declared.answer.Answer.{Answer}
 use Rattle.delivery.specs.declared.answer.Step.{Step}
 use Rattle.delivery.specs.declared.answer.Step.the-variants.{Refused, Copied, SentOn, Attached, Notified}
@@ -15,7 +15,7 @@ use Rattle.engine.specs.Outcomes.{leaves}
 use Rattle.overlay.specs.declared.delivered.Numbers.{Numbers}
 use Rattle.overlay.specs.Numbers.{listed, takenFields}
 use Rattle.overlay.specs.Packed.{packed, packing, gives}
-use Rattle.model.proofs.Fields.{Bytes, bit-below, begin-bytes, deliver-bytes, lookup-bytes}
+use Rattle.model.proofs.Fields.{Bytes, bit-below, begin-bytes, deliver-bytes, lookup-bytes, verdict-bytes}
 
 -- ---- shift and mask give a field back
 
@@ -142,3 +142,32 @@ module _ (s t : List ℕ) (u z r hops last : ℕ) (a : Bool) (e : leaves s t (r 
       packs (lookupCall s t u z) s t (r ∷ b ∷ hops ∷ last ∷ []) n (ap (λ (b : ℕ). leaves s t (r ∷ b ∷ hops ∷ last ∷ [])) q ∙ e) h
 
 pub ruleset found-fits = (found-refusal, found-arrived, found-hops, found-last, zero-fits)
+
+module _ (s t : List ℕ) (r x i j : ℕ) (a : Bool) (e : leaves s t (r ∷ cond a 1 0 ∷ x ∷ i ∷ j ∷ []) ≡ verdictCall s t) where
+  fields-judged : Bytes (r ∷ cond a 1 0 ∷ x ∷ i ∷ j ∷ [])
+  fields-judged = answered (verdictCall s t) s t (r ∷ cond a 1 0 ∷ x ∷ i ∷ j ∷ []) (verdict-bytes s t) e
+
+  pub judged-refusal : r < 256
+  unfolding Bytes
+  judged-refusal = fields-judged .0
+
+  pub judged-consistent : (b : ℕ) → b ≡ cond a 1 0 → b < 256
+  judged-consistent b q = subst (λ (b : ℕ). b < 256) (sym q) (bit-below a)
+
+  pub judged-node : x < 256
+  unfolding Bytes
+  judged-node = fields-judged .1 .1 .0
+
+  pub judged-level : i < 256
+  unfolding Bytes
+  judged-level = fields-judged .1 .1 .1 .0
+
+  pub judged-digit : j < 256
+  unfolding Bytes
+  judged-digit = fields-judged .1 .1 .1 .1 .0
+
+  pub verdict-packs : (b n : ℕ) → b ≡ cond a 1 0 → n ≡ packed (r ∷ b ∷ x ∷ i ∷ j ∷ []) → gives s t n ≡ packing (verdictCall s t)
+  verdict-packs b n q h =
+      packs (verdictCall s t) s t (r ∷ b ∷ x ∷ i ∷ j ∷ []) n (ap (λ (b : ℕ). leaves s t (r ∷ b ∷ x ∷ i ∷ j ∷ [])) q ∙ e) h
+
+pub ruleset judged-fits = (judged-refusal, judged-consistent, judged-node, judged-level, judged-digit)

@@ -23,6 +23,10 @@ packing o = record { state = o .state; tables = o .tables; out = o .out; answer 
 abbrev pub gives : List ℕ → List ℕ → ℕ → PackedOutcome
 gives s t answer = record { state = s; tables = t; out = []; answer = answer }
 
+-- the memory and the output after a writing, and its packed answer
+abbrev pub fills : List ℕ → List ℕ → List ℕ → ℕ → PackedOutcome
+fills s t out answer = record { state = s; tables = t; out = out; answer = answer }
+
 -- five fields that fit a byte each
 pub record Fit (f₀ f₁ f₂ f₃ f₄ : ℕ) : Type 0 where
   pub refusal : f₀ < 256
@@ -30,3 +34,8 @@ pub record Fit (f₀ f₁ f₂ f₃ f₄ : ℕ) : Type 0 where
   pub second : f₂ < 256
   pub third : f₃ < 256
   pub fourth : f₄ < 256
+
+-- a refusal that fits a byte and a length that fits 32 bits
+pub record FitLength (f₀ length : ℕ) : Type 0 where
+  pub refusal : f₀ < 256
+  pub bytes : length < 4294967296

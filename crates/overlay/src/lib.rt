@@ -6,12 +6,13 @@ mod pack;
 ghost use mathlib.Core.Path.{_≡_};
 ghost use mathlib.Core.List.{[], _∷_};
 ghost use Rattle.model.specs.Refusals.{stateRefusal};
-ghost use Rattle.model.specs.Calls.{foundCall, beginCall, deliverCall, lookupCall};
+ghost use Rattle.model.specs.Calls.{foundCall, readCall, beginCall, deliverCall, lookupCall, verdictCall, writeCall};
 ghost use Rattle.engine.specs.Outcomes.{leaves};
-ghost use Rattle.overlay.specs.Packed.{gives, packing};
+ghost use Rattle.overlay.specs.Packed.{gives, fills, packing};
 use crate::delivered::as_numbers;
 use crate::pack::bit;
 use crate::pack::pack;
+use crate::pack::pack_length;
 
 // Founding: base, digits, depth and the id of node 1. Answers the refusal.
 #[no_mangle]
@@ -26,6 +27,14 @@ pub extern "C" fn overlay_found(
     ensures { λ r. ⌜ leaves (now (state .exit)) (now (tables .exit)) (r ∷ []) ≡ foundCall (now (state .entry)) (now (tables .entry)) base digits depth id ⌝ }
 {
     engine::founding::found(state, tables, base, digits, depth, id)
+}
+
+// Reading an image into the memory, every node in the system. Answers the refusal.
+#[no_mangle]
+pub extern "C" fn overlay_read(state: &mut [u64], tables: &mut [u8], image: &[u8]) -> u64
+    ensures { λ r. ⌜ leaves (now (state .exit)) (now (tables .exit)) (r ∷ []) ≡ readCall (now (state .entry)) (now (tables .entry)) (now (image .entry)) ⌝ }
+{
+    engine::reading::read(state, tables, image)
 }
 
 // Beginning a join: the id and the gateway. Answers the new node.
@@ -58,6 +67,30 @@ pub extern "C" fn overlay_lookup(state: &[u64], tables: &[u8], from: u64, to: u6
 {
     let found = engine::lookup::lookup(state, tables, from, to);
     pack(found.refusal, bit(found.arrived), found.hops, found.last, 0)
+}
+
+// The verdict. Answers whether the network is K-consistent, and if not, node, level and digit of the first entry that falls short.
+#[no_mangle]
+pub extern "C" fn overlay_verdict(state: &[u64], tables: &[u8]) -> u64
+    ensures { λ r. ⌜ gives (now (state .entry)) (now (tables .entry)) r ≡ packing (verdictCall (now (state .entry)) (now (tables .entry))) ⌝ }
+{
+    let judged = engine::verdict::verdict(state, tables);
+    pack(
+        judged.refusal,
+        bit(judged.consistent),
+        judged.node,
+        judged.level,
+        judged.digit,
+    )
+}
+
+// Writing the image to out. Answers its length, in bits 8 to 39.
+#[no_mangle]
+pub extern "C" fn overlay_write(state: &[u64], tables: &[u8], out: &mut [u8]) -> u64
+    ensures { λ r. ⌜ fills (now (state .entry)) (now (tables .entry)) (now (out .exit)) r ≡ packing (writeCall (now (state .entry)) (now (tables .entry)) (now (out .entry))) ⌝ }
+{
+    let written = engine::writing::write(state, tables, out);
+    pack_length(written.refusal, written.length)
 }
 
 // What sentences 1 and 2 say of this memory: 1 too short, 2 not sound, 0 neither.

@@ -1,0 +1,20 @@
+-- `overlay_write`: the answer of `write`, packed. Assumes nothing.
+use borrow.Author.Needs.{needs}
+use Rattle.overlay.proofs.Length.{written-fits, write-packs}
+use Rattle.overlay.proofs.overlay_write.Statement.{statement}
+use Rattle.overlay.proofs.overlay_write.Tie as tie
+
+write-requires : tie.Need-write-requires
+write-requires c κs = search needs
+
+pack-length-requires : tie.Need-pack-length-requires
+pack-length-requires c κs = search written-fits
+
+same-length : tie.Need-same-length
+same-length c = search needs
+
+returns : tie.Need-returns
+returns c = search write-packs
+
+pub overlay-write-spec : {M : Type 1} → statement M
+overlay-write-spec = tie.close (tie.spec write-requires pack-length-requires same-length returns)

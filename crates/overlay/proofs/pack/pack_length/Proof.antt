@@ -1,0 +1,19 @@
+-- `pack_length`: no sum reaches 2^40. Assumes nothing.
+use native.Mathlib.Omega.{arith}
+use borrow.Author.Needs.{needs}
+use Rattle.overlay.specs.Packed.{packed}
+use Rattle.overlay.proofs.pack.pack_length.Statement.{statement}
+use Rattle.overlay.proofs.pack.pack_length.Tie as tie
+
+mul-result : tie.Need-mul-result
+mul-result c = search needs
+
+add-result : tie.Need-add-result
+add-result c = search needs
+
+returns : tie.Need-returns
+unfolding packed
+returns c = omega arith
+
+pub pack-length-spec : {M : Type 1} → statement M
+pack-length-spec = tie.close (tie.spec mul-result add-result returns)
