@@ -1,6 +1,6 @@
 //! The proved engine, linked from its archive by the C interface. A slice passes as a pointer and a length.
 
-use crate::engine::{Engine, Second};
+use crate::engine::Engine;
 
 mod interface {
     extern "C" {
@@ -13,6 +13,15 @@ mod interface {
             digits: u64,
             depth: u64,
             id: u32,
+        ) -> u64;
+
+        pub fn overlay_read(
+            state: *mut u64,
+            state_len: usize,
+            tables: *mut u8,
+            tables_len: usize,
+            image: *const u8,
+            image_len: usize,
         ) -> u64;
 
         pub fn overlay_begin(
@@ -42,6 +51,22 @@ mod interface {
             to: u64,
         ) -> u64;
 
+        pub fn overlay_verdict(
+            state: *const u64,
+            state_len: usize,
+            tables: *const u8,
+            tables_len: usize,
+        ) -> u64;
+
+        pub fn overlay_write(
+            state: *const u64,
+            state_len: usize,
+            tables: *const u8,
+            tables_len: usize,
+            out: *mut u8,
+            out_len: usize,
+        ) -> u64;
+
         pub fn overlay_sound(
             state: *const u64,
             state_len: usize,
@@ -51,11 +76,11 @@ mod interface {
     }
 }
 
-/// The proved engine. It has no reading, verdict and writing yet: the second engine stands in for them, so that runs
-/// with these calls go on.
+/// The proved engine.
 pub struct Archive;
 
-// SAFETY of every call below: the two slices are valid for their lengths, may be written and do not overlap.
+// SAFETY of every call below: the slices are valid for their lengths, may be written where the call writes, and do not
+// overlap.
 impl Engine for Archive {
     fn name(&self) -> &str {
         "proved"
@@ -74,7 +99,9 @@ impl Engine for Archive {
     }
 
     fn read(&self, state: &mut [u64], tables: &mut [u8], image: &[u8]) -> u64 {
-        Second.read(state, tables, image)
+        let (words, bytes) = (state.len(), tables.len());
+        let (state, tables) = (state.as_mut_ptr(), tables.as_mut_ptr());
+        unsafe { interface::overlay_read(state, words, tables, bytes, image.as_ptr(), image.len()) }
     }
 
     fn begin(&self, state: &mut [u64], tables: &mut [u8], id: u32, gateway: u64) -> u64 {
@@ -96,10 +123,15 @@ impl Engine for Archive {
     }
 
     fn verdict(&self, state: &mut [u64], tables: &mut [u8]) -> u64 {
-        Second.verdict(state, tables)
+        let (words, bytes) = (state.len(), tables.len());
+        unsafe { interface::overlay_verdict(state.as_mut_ptr(), words, tables.as_mut_ptr(), bytes) }
     }
 
     fn write(&self, state: &mut [u64], tables: &mut [u8], out: &mut [u8]) -> u64 {
-        Second.write(state, tables, out)
+        let (words, bytes) = (state.len(), tables.len());
+        let (state, tables) = (state.as_mut_ptr(), tables.as_mut_ptr());
+        unsafe {
+            interface::overlay_write(state, words, tables, bytes, out.as_mut_ptr(), out.len())
+        }
     }
 }

@@ -4,12 +4,16 @@ mod damage;
 mod ids;
 mod images;
 mod runs;
+mod seeds;
 mod states;
 
 pub use damage::damage;
 pub use ids::{bad_id, bad_number, fresh_id, id, settings};
-pub use images::{changed_bytes, cuts, damaged_image, image, image_damages};
+pub use images::{
+    changed_bytes, changed_records, cuts, damaged_image, image, image_damages, with_records,
+};
 pub use runs::{run, run_from_built, run_in};
+pub use seeds::seeds;
 pub use states::{built_state, reached_state, set_up_built};
 
 /// Splitmix64.

@@ -4,6 +4,10 @@
 mod edges;
 #[path = "archive/founding.rs"]
 mod founding;
+#[path = "archive/full.rs"]
+mod full;
+#[path = "archive/images.rs"]
+mod images;
 #[path = "archive/judging.rs"]
 mod judging;
 #[path = "archive/orders.rs"]
@@ -12,3 +16,5 @@ mod orders;
 mod runs;
 #[path = "archive/support.rs"]
 mod support;
+#[path = "archive/writing.rs"]
+mod writing;

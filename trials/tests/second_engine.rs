@@ -8,6 +8,8 @@ mod edges;
 mod images;
 #[path = "second_engine/plain.rs"]
 mod plain;
+#[path = "second_engine/promises.rs"]
+mod promises;
 #[path = "second_engine/refusals.rs"]
 mod refusals;
 #[path = "second_engine/runs.rs"]

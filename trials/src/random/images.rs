@@ -45,6 +45,36 @@ pub fn changed_bytes<'a>(rng: &'a mut Rng, image: &'a [u8]) -> impl Iterator<Ite
     })
 }
 
+/// Each record removed, repeated, and exchanged with the next, one at a time, under the right count.
+pub fn changed_records(image: &[u8]) -> impl Iterator<Item = Vec<u8>> + '_ {
+    let (head, records) = parts(image).expect("an image with its counts");
+    (0..records.len()).flat_map(move |place| {
+        let [mut removed, mut repeated, mut exchanged] = [0; 3].map(|_| records.clone());
+        removed.remove(place);
+        repeated.insert(place, records[place]);
+        exchanged.swap(place, (place + 1) % records.len());
+        [removed, repeated, exchanged].map(|records| with_records(&head, &records))
+    })
+}
+
+/// What stands before the records, and the records; None for an image without its counts.
+fn parts(image: &[u8]) -> Option<(Vec<u8>, Vec<[u8; 4]>)> {
+    let count = usize::from(*image.get(5)?);
+    let (head, records) = image.split_at_checked(8 + 4 * count)?;
+    let records = records
+        .chunks_exact(4)
+        .map(|record| record.try_into().expect("chunks of four"))
+        .collect();
+    Some((head.to_vec(), records))
+}
+
+/// An image of this head with these records and their count.
+pub fn with_records(head: &[u8], records: &[[u8; 4]]) -> Vec<u8> {
+    let before = &head[..head.len() - 2];
+    let count = (records.len() as u16).to_le_bytes();
+    [before, &count, records.as_flattened()].concat()
+}
+
 /// The image with one damage of some kind; an image too short for it is cut instead.
 pub fn damaged_image(rng: &mut Rng, image: &[u8]) -> Vec<u8> {
     let kind = rng.below(KINDS);
@@ -60,13 +90,8 @@ pub fn image_damages(rng: &mut Rng, image: &[u8]) -> Vec<Vec<u8>> {
 const KINDS: usize = 14;
 
 fn damaged(rng: &mut Rng, image: &[u8], kind: usize) -> Option<Vec<u8>> {
-    let count = usize::from(*image.get(5)?);
-    let (head, records) = image.split_at_checked(8 + 4 * count)?;
-    let mut head = head.to_vec();
-    let mut records: Vec<[u8; 4]> = records
-        .chunks_exact(4)
-        .map(|record| record.try_into().expect("chunks of four"))
-        .collect();
+    let (mut head, mut records) = parts(image)?;
+    let count = usize::from(head[5]);
     match kind {
         0 => head[rng.below(6)] = rng.word() as u8,
         1 => head[5] += 1,
@@ -75,14 +100,13 @@ fn damaged(rng: &mut Rng, image: &[u8], kind: usize) -> Option<Vec<u8>> {
         4 => add_to_count(&mut head, u16::MAX),
         5 => head[6 + rng.below(4 * count)] ^= 1 << rng.below(8),
         6 => repeat_id(rng, &mut head),
-        7..=10 => {
-            damage_records(rng, &mut records, kind);
-            let place = head.len() - 2;
-            head[place..].copy_from_slice(&(records.len() as u16).to_le_bytes());
-        }
+        7..=10 => damage_records(rng, &mut records, kind),
         _ => {}
     }
-    let mut image = [&head, records.as_flattened()].concat();
+    let mut image = match kind {
+        7..=10 => with_records(&head, &records),
+        _ => [&head, records.as_flattened()].concat(),
+    };
     let longer = image.len() + [1, 4_000, 70_000][rng.below(3)];
     match kind {
         11 => image.push(0),

@@ -4,7 +4,7 @@ use trials::archive::Archive;
 use trials::compare::Pair;
 use trials::engine::Second;
 use trials::lent::ALL;
-use trials::random::{bad_id, bad_number, id, settings, Rng};
+use trials::random::{bad_id, bad_number, id, seeds, settings, Rng};
 use trials::script::{Call, Lend, Line};
 
 use crate::support::lent_lengths;
@@ -32,7 +32,7 @@ fn arguments(rng: &mut Rng) -> ([u64; 3], u32) {
 #[test]
 fn founding_agrees_in_every_byte() {
     let mut refused = 0;
-    for seed in 0..4_000 {
+    for seed in seeds(0, 4_000) {
         let mut rng = Rng::new(seed);
         let (state, tables) = lent_lengths(&mut rng);
         let (settings, id) = arguments(&mut rng);

@@ -3,7 +3,7 @@
 use trials::archive::Archive;
 use trials::engine::{Engine, Second};
 use trials::lent::Lent;
-use trials::random::{built_state, damage, reached_state, Rng};
+use trials::random::{built_state, damage, reached_state, seeds, Rng};
 use trials::second::memory::{STATE_WORDS, TABLE_BYTES};
 
 use crate::support::lent_lengths;
@@ -30,7 +30,7 @@ fn some_state(rng: &mut Rng) -> Lent {
 #[test]
 fn the_judges_agree_on_damaged_states() {
     let (mut sound, mut unsound) = (0, 0);
-    for seed in 0..1_500 {
+    for seed in seeds(0, 1_500) {
         let mut rng = Rng::new(seed);
         let mut memory = some_state(&mut rng);
         let whole = judged(
@@ -67,7 +67,7 @@ fn the_judges_agree_on_damaged_states() {
 
 #[test]
 fn the_judges_agree_on_noise() {
-    for seed in 0..2_000 {
+    for seed in seeds(0, 2_000) {
         let mut rng = Rng::new(seed);
         let mut memory = Lent::noise();
         for word in memory.state.iter_mut() {

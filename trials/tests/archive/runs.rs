@@ -4,7 +4,9 @@ use trials::archive::Archive;
 use trials::compare::compare;
 use trials::engine::Second;
 use trials::lent::Lent;
-use trials::random::{bad_number, damage, fresh_id, run, run_from_built, run_in, Rng};
+use trials::random::{
+    bad_number, damage, fresh_id, image, run, run_from_built, run_in, seeds, Rng,
+};
 use trials::script::{Call, Line, Script};
 use trials::second::network::Network;
 use trials::second::Settings;
@@ -17,7 +19,7 @@ fn agree(seed: u64, script: &Script) {
 
 #[test]
 fn runs_agree() {
-    for seed in 0..800 {
+    for seed in seeds(0, 800) {
         let mut rng = Rng::new(seed);
         let lines = rng.pick(&[50, 200, 800]);
         agree(seed, &run(&mut rng, lines).0);
@@ -29,7 +31,7 @@ fn runs_in_every_setting_agree() {
     let settings = (2..=16).flat_map(|base| {
         (1..=8).flat_map(move |digits| (1..=4).map(move |depth| (base, digits, depth)))
     });
-    for (seed, (base, digits, depth)) in (10_000..).zip(settings) {
+    for (seed, (base, digits, depth)) in seeds(10_000, 480).zip(settings.cycle()) {
         let settings = Settings::new(base, digits, depth).expect("in range");
         agree(seed, &run_in(&mut Rng::new(seed), settings, 250).0);
     }
@@ -37,13 +39,13 @@ fn runs_in_every_setting_agree() {
 
 #[test]
 fn runs_from_any_sound_state_agree() {
-    for seed in 20_000..20_600 {
+    for seed in seeds(20_000, 600) {
         agree(seed, &run_from_built(&mut Rng::new(seed), 100).0);
     }
 }
 
-/// A call of each kind that changes or follows tables: arguments mostly good, now and then a bad number.
-fn calls(rng: &mut Rng, network: &Network) -> [Call; 4] {
+/// A call of each kind that judges the state: arguments mostly good, now and then a bad number.
+fn calls(rng: &mut Rng, network: &Network) -> [Call; 6] {
     let count = network.count();
     let node = |rng: &mut Rng| match rng.below(8) {
         0 => bad_number(rng, count),
@@ -59,6 +61,8 @@ fn calls(rng: &mut Rng, network: &Network) -> [Call; 4] {
     };
     [
         Call::Sound,
+        Call::Verdict,
+        Call::Write,
         Call::Lookup {
             from: node(rng),
             to: node(rng),
@@ -88,7 +92,7 @@ fn undone(line: &Line, memory: &Lent) -> Line {
 
 #[test]
 fn calls_on_damaged_states_agree() {
-    for seed in 30_000..30_600 {
+    for seed in seeds(30_000, 600) {
         let mut rng = Rng::new(seed);
         let (mut script, memory) = run(&mut rng, 60);
         let network = Network::decode(memory.used_state());
@@ -101,6 +105,11 @@ fn calls_on_damaged_states_agree() {
                 .for_each(|call| script.call(call));
             script.lines.push(undo);
         }
+        script.lines.push(damage(&mut rng, &memory));
+        let image = image(&mut rng);
+        script.call(Call::Read { image });
+        script.call(Call::Verdict);
+        script.call(Call::Write);
         agree(seed, &script);
     }
 }

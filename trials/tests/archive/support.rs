@@ -3,8 +3,9 @@
 use trials::archive::Archive;
 use trials::compare::{Difference, Pair};
 use trials::engine::Second;
-use trials::random::Rng;
-use trials::script::{Call, Script};
+use trials::lent::Lent;
+use trials::random::{fresh_id, Rng};
+use trials::script::{Call, Lend, Line, Script};
 use trials::second::memory::{STATE_WORDS, TABLE_BYTES};
 use trials::second::network::Network;
 
@@ -26,18 +27,53 @@ pub struct Both {
 }
 
 impl Both {
-    pub fn founded(settings: [u64; 3], id: u32) -> Both {
-        let mut both = Both {
+    /// Memory full of noise: the first call founds or reads.
+    pub fn new() -> Both {
+        Both {
             pair: Pair::new(&Archive, &Second),
             script: Script::default(),
-        };
+        }
+    }
+
+    pub fn founded(settings: [u64; 3], id: u32) -> Both {
+        let mut both = Both::new();
         assert_eq!(both.call(Call::Found { settings, id }), 0);
         both
     }
 
+    pub fn read_in(image: &[u8]) -> Both {
+        let mut both = Both::new();
+        assert_eq!(both.read(image), 0);
+        both
+    }
+
+    pub fn read(&mut self, image: &[u8]) -> u64 {
+        let image = image.to_vec();
+        self.call(Call::Read { image })
+    }
+
+    pub fn memory(&self) -> &Lent {
+        self.pair.memory()
+    }
+
+    /// Lends so much memory from here on.
+    pub fn lend(&mut self, lend: Lend) {
+        self.obey(Line::Lend(lend));
+    }
+
     /// The answer; a difference ends the test with the script.
     pub fn call(&mut self, call: Call) -> u64 {
-        self.script.call(call);
+        self.obey(Line::Call(call))
+    }
+
+    pub fn play(&mut self, script: &Script) {
+        for line in &script.lines {
+            self.obey(line.clone());
+        }
+    }
+
+    pub fn obey(&mut self, line: Line) -> u64 {
+        self.script.lines.push(line);
         let line = self.script.lines.len() - 1;
         self.pair
             .obey(&self.script.lines[line])
@@ -68,6 +104,26 @@ impl Both {
         }
     }
 
+    /// Begins and delivers in any order, at most so many joins in flight, until so many nodes are all in system.
+    pub fn grow(&mut self, rng: &mut Rng, nodes: usize, in_flight: usize) {
+        loop {
+            let network = self.network();
+            let outstanding = network.outstanding();
+            let joins = network.iter().filter(|(_, node)| !node.in_system()).count();
+            if network.count() < nodes && (joins == 0 || joins < in_flight && rng.once_in(2)) {
+                let gateways = network.iter().filter(|(_, node)| node.in_system());
+                let gateways: Vec<usize> = gateways.map(|(number, _)| number).collect();
+                let id = fresh_id(rng, &network).expect("there are more ids than nodes");
+                assert_eq!(self.begin(id, rng.pick(&gateways) as u64) & 0xff, 0);
+            } else if outstanding.is_empty() {
+                return;
+            } else {
+                let (sender, receiver) = rng.pick(&outstanding);
+                self.deliver(sender as u64, receiver as u64);
+            }
+        }
+    }
+
     pub fn network(&self) -> Network {
         Network::decode(self.pair.memory().used_state())
     }
@@ -78,4 +134,12 @@ impl Both {
         assert_eq!(answer & 0xff, 0);
         self.pair.memory().out[..(answer >> 8) as usize].to_vec()
     }
+}
+
+/// The image of a network of 64 nodes.
+pub fn full_image(rng: &mut Rng) -> Vec<u8> {
+    let settings = rng.pick(&[[16, 8, 4], [4, 4, 2], [2, 7, 3]]);
+    let mut both = Both::founded(settings, 0);
+    both.grow(rng, 64, 4);
+    both.image()
 }

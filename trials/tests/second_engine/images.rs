@@ -1,7 +1,7 @@
 //! Images: round trips, and every kind of damage.
 
 use trials::lent::Lent;
-use trials::random::{changed_bytes, cuts, image, image_damages, Rng};
+use trials::random::{changed_bytes, cuts, image, image_damages, seeds, Rng};
 use trials::second::sound;
 
 use crate::support::Trial;
@@ -23,7 +23,7 @@ fn judge(trial: &mut Trial, before: &mut Lent, image: &[u8]) -> u8 {
 
 #[test]
 fn written_images_are_read_back() {
-    for seed in 0..150 {
+    for seed in seeds(0, 150) {
         let image = image(&mut Rng::new(seed));
         let mut trial = Trial::read_in(&image);
         assert_eq!(trial.image(), image, "seed {seed}");
@@ -37,7 +37,7 @@ fn written_images_are_read_back() {
 #[test]
 fn cut_images_are_refused() {
     let (mut trial, mut before) = (Trial::new(), Lent::noise());
-    for seed in 0..20 {
+    for seed in seeds(0, 20) {
         let image = image(&mut Rng::new(seed));
         for cut in cuts(&image[..image.len().min(400)]) {
             let expected = if cut.len() < 5 { 3 } else { 6 };
@@ -54,7 +54,7 @@ fn cut_images_are_refused() {
 fn changed_images_are_taken_or_refused_whole() {
     let mut seen = [0; 17];
     let (mut trial, mut before) = (Trial::new(), Lent::noise());
-    for seed in 0..60 {
+    for seed in seeds(0, 60) {
         let mut rng = Rng::new(seed);
         let image = image(&mut rng);
         if image.len() < 1_500 {

@@ -2,7 +2,7 @@
 
 use trials::engine::Second;
 use trials::lent::Lent;
-use trials::random::{built_state, damage, reached_state, Rng};
+use trials::random::{built_state, damage, reached_state, seeds, Rng};
 use trials::script::Line;
 use trials::second::sound;
 
@@ -73,7 +73,7 @@ fn every_clause_is_judged() {
 #[test]
 fn damaged_reached_states_are_judged_like_the_literal_clauses() {
     let mut still_sound = 0;
-    for seed in 0..300 {
+    for seed in seeds(0, 300) {
         let mut rng = Rng::new(seed);
         let memory = reached_state(&mut rng);
         assert!(judged(&memory), "seed {seed}");
@@ -89,7 +89,7 @@ fn damaged_reached_states_are_judged_like_the_literal_clauses() {
 
 #[test]
 fn built_states_are_sound() {
-    for seed in 0..2_000 {
+    for seed in seeds(0, 2_000) {
         let (state, tables) = built_state(&mut Rng::new(seed));
         assert!(
             sound(&state, &tables) && plain_sound(&state, &tables),

@@ -1,0 +1,63 @@
+//! Networks that grow to 64 nodes with joins in flight, saved and read on the way.
+
+use trials::lent::Lent;
+use trials::random::{id, seeds, Rng};
+use trials::script::Call;
+use trials::second::memory::{STATE_WORDS, TABLE_BYTES};
+use trials::second::Settings;
+
+use crate::support::Both;
+
+const SETTINGS: [[u64; 3]; 6] = [
+    [16, 8, 4],
+    [16, 2, 1],
+    [4, 4, 2],
+    [2, 7, 3],
+    [3, 6, 1],
+    [10, 3, 4],
+];
+
+fn used(memory: &Lent) -> (&[u64], &[u8]) {
+    (&memory.state[..STATE_WORDS], &memory.tables[..TABLE_BYTES])
+}
+
+/// Saves the network and reads it here and elsewhere: each word and byte is as it was.
+fn save_and_read(both: &mut Both) {
+    let image = both.image();
+    let before = both.memory().clone();
+    assert_eq!(both.read(&image), 0);
+    assert_eq!(used(both.memory()), used(&before));
+    let elsewhere = Both::read_in(&image);
+    assert_eq!(used(elsewhere.memory()), used(&before));
+}
+
+fn look_up_each(both: &mut Both, rng: &mut Rng) {
+    let count = both.network().count() as u64;
+    for to in 1..=count {
+        let from = rng.between(1, count);
+        both.call(Call::Lookup { from, to });
+    }
+}
+
+#[test]
+fn networks_grow_to_64_nodes_saved_and_read_on_the_way() {
+    for seed in seeds(0, 18) {
+        let mut rng = Rng::new(seed);
+        let settings = SETTINGS[seed as usize % SETTINGS.len()];
+        let [base, digits, depth] = settings;
+        let valid = Settings::new(base, digits, depth).expect("in range");
+        let mut both = Both::founded(settings, id(&mut rng, valid));
+        let in_flight = rng.pick(&[1, 4, 20]);
+        for nodes in [rng.between(2, 20) as usize, 40, 64] {
+            both.grow(&mut rng, nodes, in_flight);
+            both.call(Call::Verdict);
+            save_and_read(&mut both);
+            look_up_each(&mut both, &mut rng);
+        }
+        assert_eq!(both.network().count(), 64);
+        let id = id(&mut rng, valid);
+        let full = both.begin(id, 1);
+        assert!(matches!(full, 8 | 11), "seed {seed}: {full}");
+        assert_eq!(both.deliver(2, 1), 13);
+    }
+}

@@ -1,0 +1,210 @@
+//! Images: both engines take or refuse each alike, load it alike, judge it alike and write it back.
+
+use trials::archive::Archive;
+use trials::compare::Pair;
+use trials::engine::Second;
+use trials::lent::ALL;
+use trials::random::{
+    changed_bytes, changed_records, cuts, image, image_damages, seeds, with_records, Rng,
+};
+use trials::script::{Call, Lend, Line};
+
+use crate::support::{full_image, Both};
+
+/// Both engines on one memory, and how often each refusal and each verdict was met.
+struct Reader {
+    pair: Pair<'static>,
+    seed: u64,
+    refusals: [usize; 17],
+    consistent: usize,
+    not: usize,
+}
+
+impl Reader {
+    fn new() -> Reader {
+        Reader {
+            pair: Pair::new(&Archive, &Second),
+            seed: 0,
+            refusals: [0; 17],
+            consistent: 0,
+            not: 0,
+        }
+    }
+
+    fn call(&mut self, call: Call, image: &[u8]) -> u64 {
+        let answer = self.pair.obey(&Line::Call(call));
+        answer.unwrap_or_else(|what| {
+            let image = image.to_vec();
+            panic!("seed {}\n{}\n{what}", self.seed, Call::Read { image })
+        })
+    }
+
+    /// Reads over what the memory holds. A taken image is judged, and written back byte for byte.
+    fn read(&mut self, image: &[u8]) -> u64 {
+        let read = Call::Read {
+            image: image.to_vec(),
+        };
+        let refusal = self.call(read, image);
+        self.refusals[refusal as usize] += 1;
+        if refusal == 0 {
+            let consistent = self.call(Call::Verdict, image) == 0x100;
+            self.consistent += usize::from(consistent);
+            self.not += usize::from(!consistent);
+            let length = self.call(Call::Write, image) >> 8;
+            assert_eq!(self.pair.memory().out[..length as usize], *image);
+        }
+        refusal
+    }
+
+    fn read_each(&mut self, images: impl IntoIterator<Item = Vec<u8>>) {
+        for image in images {
+            self.read(&image);
+        }
+    }
+}
+
+#[test]
+fn images_of_runs_are_taken_and_written_back() {
+    let mut reader = Reader::new();
+    for seed in seeds(0, 300) {
+        reader.seed = seed;
+        assert_eq!(reader.read(&image(&mut Rng::new(seed))), 0, "seed {seed}");
+    }
+    assert!(reader.consistent > 250, "{} consistent", reader.consistent);
+}
+
+#[test]
+fn images_cut_at_every_byte_are_refused() {
+    let mut reader = Reader::new();
+    for seed in seeds(0, 40) {
+        reader.seed = seed;
+        for cut in cuts(&image(&mut Rng::new(seed))) {
+            let refusal = reader.read(&cut);
+            assert_eq!(refusal, if cut.len() < 5 { 3 } else { 6 }, "seed {seed}");
+        }
+    }
+}
+
+#[test]
+fn images_with_each_byte_changed_are_judged_alike() {
+    let mut reader = Reader::new();
+    for seed in seeds(0, 60) {
+        reader.seed = seed;
+        let mut rng = Rng::new(seed);
+        let image = image(&mut rng);
+        if image.len() < 2_000 {
+            reader.read_each(changed_bytes(&mut rng, &image));
+        }
+    }
+    for refusal in [0, 3, 4, 5, 6, 7, 8, 9, 10] {
+        assert!(reader.refusals[refusal] > 10, "{:?}", reader.refusals);
+    }
+}
+
+#[test]
+fn images_with_records_changed_are_judged_alike() {
+    let mut reader = Reader::new();
+    for seed in seeds(100, 60) {
+        reader.seed = seed;
+        let image = image(&mut Rng::new(seed));
+        if image.len() < 6_000 {
+            reader.read_each(changed_records(&image));
+        }
+    }
+    assert!(
+        reader.refusals[0] > 1_000 && reader.refusals[10] > 1_000,
+        "{:?}",
+        reader.refusals
+    );
+    assert!(reader.not > 1_000, "{} not consistent", reader.not);
+}
+
+#[test]
+fn damaged_images_are_judged_alike() {
+    let mut reader = Reader::new();
+    for seed in seeds(200, 150) {
+        reader.seed = seed;
+        let mut rng = Rng::new(seed);
+        let image = image(&mut rng);
+        for _ in 0..10 {
+            reader.read_each(image_damages(&mut rng, &image));
+        }
+    }
+    for refusal in [0, 3, 4, 5, 6, 7, 8, 9, 10] {
+        assert!(reader.refusals[refusal] > 10, "{:?}", reader.refusals);
+    }
+}
+
+#[test]
+fn damaged_images_of_full_networks_are_judged_alike() {
+    let mut reader = Reader::new();
+    for seed in seeds(300, 4) {
+        reader.seed = seed;
+        let mut rng = Rng::new(seed);
+        let image = full_image(&mut rng);
+        assert_eq!(image[5], 64);
+        assert_eq!(reader.read(&image), 0);
+        reader.read_each(changed_records(&image).step_by(rng.pick(&[7, 11, 13])));
+        for _ in 0..40 {
+            reader.read_each(image_damages(&mut rng, &image));
+        }
+    }
+    assert!(reader.refusals[0] > 100 && reader.refusals[10] > 100);
+}
+
+/// One byte more, thousands more, and as many records as the counts can say.
+#[test]
+fn overlong_images_are_refused() {
+    let mut reader = Reader::new();
+    for seed in seeds(400, 30) {
+        reader.seed = seed;
+        let image = image(&mut Rng::new(seed));
+        for more in [1, 2, 3, 4, 5, 1_000, 4_000, 65_535, 65_536, 70_000] {
+            let longer = [&image[..], &vec![1; more]].concat();
+            assert_eq!(reader.read(&longer), 6, "seed {seed}, {more} more");
+        }
+        let head = &image[..8 + 4 * usize::from(image[5])];
+        let record = *image.last_chunk().expect("a record ends it");
+        let last = (65_532 - head.len()) / 4;
+        for (records, refusal) in [(last, 10), (last + 1, 6), (65_535, 6)] {
+            let long = with_records(head, &vec![record; records]);
+            assert_eq!(
+                reader.read(&long),
+                refusal,
+                "seed {seed}, {} bytes",
+                long.len()
+            );
+        }
+    }
+}
+
+#[test]
+fn an_image_is_judged_after_the_lent_lengths() {
+    let short = [
+        Lend { state: 519, ..ALL },
+        Lend { state: 0, ..ALL },
+        Lend {
+            tables: 32_767,
+            ..ALL
+        },
+        Lend { tables: 0, ..ALL },
+    ];
+    let just_enough = Lend {
+        state: 520,
+        tables: 32_768,
+        ..ALL
+    };
+    for seed in seeds(500, 30) {
+        let image = image(&mut Rng::new(seed));
+        let mut both = Both::new();
+        for lend in short {
+            both.lend(lend);
+            assert_eq!(both.read(&image), 1);
+            assert_eq!(both.read(&[]), 1);
+        }
+        both.lend(just_enough);
+        assert_eq!(both.read(&image), 0);
+        assert_eq!(both.read(&[]), 3);
+        assert_eq!(both.image(), image);
+    }
+}

@@ -1,0 +1,48 @@
+//! Verdict and writing: the memory for the image, joins in flight, and states that no run reaches.
+
+use trials::lent::ALL;
+use trials::random::{damage, image, run, run_from_built, seeds, Rng};
+use trials::script::{Call, Lend};
+
+use crate::support::Both;
+
+#[test]
+fn writing_needs_the_length_of_the_image_and_leaves_the_rest_alone() {
+    for seed in seeds(0, 200) {
+        let image = image(&mut Rng::new(seed));
+        let length = image.len();
+        let mut both = Both::read_in(&image);
+        for out in [0, 1, length / 2, length - 1] {
+            both.lend(Lend { out, ..ALL });
+            assert_eq!(both.call(Call::Write), 16, "seed {seed}, {out} bytes");
+        }
+        for out in [length, length + 1, ALL.out] {
+            both.lend(Lend { out, ..ALL });
+            assert_eq!(both.image(), image, "seed {seed}, {out} bytes");
+        }
+    }
+}
+
+/// In any state, sound and settled or not, then after each of some damages.
+#[test]
+fn verdict_and_writing_agree_in_any_state() {
+    let mut met = [0; 17];
+    for seed in seeds(1_000, 400) {
+        let mut rng = Rng::new(seed);
+        let mut both = Both::new();
+        both.play(&match rng.below(3) {
+            0 => run(&mut rng, 40).0,
+            1 => run(&mut rng, 200).0,
+            _ => run_from_built(&mut rng, 1).0,
+        });
+        let sound = both.memory().clone();
+        for _ in 0..5 {
+            let answers = [Call::Verdict, Call::Write].map(|call| both.call(call) & 0xff);
+            assert_eq!(answers[0], answers[1], "seed {seed}");
+            met[answers[0] as usize] += 1;
+            both.obey(damage(&mut rng, &sound));
+        }
+    }
+    let [taken, unsound, in_flight] = [0, 2, 15].map(|refusal| met[refusal]);
+    assert!(taken > 50 && unsound > 500 && in_flight > 100, "{met:?}");
+}

@@ -1,0 +1,176 @@
+//! Demand 3 on the second engine's histories: how many requests a node sends, how long lookups are, and that what a yes verdict
+//! found stays.
+
+use trials::compare::{compare, Difference};
+use trials::engine::Second;
+use trials::lent::Lent;
+use trials::random::{run, run_from_built, run_in, seeds, Rng};
+use trials::script::{Call, Line, Script};
+use trials::second::memory::Tables;
+use trials::second::network::Network;
+use trials::second::{lookup, sound, verdict, very_hops, Looked, Settings};
+
+/// What is known of a run from its history alone, and what must not change any more.
+#[derive(Default)]
+struct Watch {
+    /// Requests sent, node n's at n.
+    sent: Vec<usize>,
+    /// The very hops between every two nodes of the last point that passed the verdict.
+    kept: Vec<Vec<usize>>,
+}
+
+impl Watch {
+    /// Holds the three parts against a point of the run.
+    fn after(
+        &mut self,
+        call: &Call,
+        answer: u64,
+        memory: &Lent,
+        rng: &mut Rng,
+    ) -> Result<(), String> {
+        let (state, tables) = (memory.used_state(), memory.used_tables());
+        if !sound(state, tables) {
+            return Err("the state is not sound".to_string());
+        }
+        let network = Network::decode(state);
+        if answer & 0xff == 0 {
+            self.count_requests(call, answer, &network)?;
+        }
+        let count = network.count() as u64;
+        for _ in 0..3 {
+            let (from, to) = (rng.between(1, count), rng.between(1, count));
+            lookup_is_short(memory, &network, from, to)?;
+        }
+        let passes = verdict(state, tables).consistent;
+        if passes || rng.once_in(8) {
+            self.hops_are_kept(memory, &network)?;
+        }
+        if passes {
+            self.keep_hops(&network, tables)?;
+        }
+        Ok(())
+    }
+
+    /// (a) "What a member has sent is the number of its own among these over the history": at most d + 1.
+    fn count_requests(
+        &mut self,
+        call: &Call,
+        answer: u64,
+        network: &Network,
+    ) -> Result<(), String> {
+        let sender = match call {
+            Call::Found { .. } | Call::Read { .. } => {
+                *self = Watch::default();
+                return Ok(());
+            }
+            Call::Begin { .. } => (answer >> 8) as usize,
+            Call::Deliver { sender, .. } if matches!(answer >> 8 & 0xff, 1 | 2) => *sender as usize,
+            _ => return Ok(()),
+        };
+        self.sent.resize(65, 0);
+        self.sent[sender] += 1;
+        if self.sent[sender] > network.settings.digits() + 1 {
+            return Err(format!("node {sender} sent {} requests", self.sent[sender]));
+        }
+        Ok(())
+    }
+
+    /// (c) The very hops are what they were, and the answer is theirs.
+    fn hops_are_kept(&self, memory: &Lent, network: &Network) -> Result<(), String> {
+        for hops in &self.kept {
+            let (from, to) = (hops[0], hops[hops.len() - 1]);
+            if !very_hops(network, memory.used_tables(), from, to).eq(hops.iter().copied()) {
+                return Err(format!("very hops from {from} to {to} were {hops:?}"));
+            }
+        }
+        let Some(hops) = self.kept.last() else {
+            return Ok(());
+        };
+        let (from, to) = (hops[0] as u64, hops[hops.len() - 1] as u64);
+        let answer = lookup(&memory.state, &memory.tables, from, to);
+        let arrived = Looked {
+            refusal: 0,
+            arrived: true,
+            hops: hops.len() as u64 - 1,
+            last: to,
+        };
+        if answer != arrived {
+            return Err(format!("{from} to {to} went {hops:?}, now {answer:?}"));
+        }
+        Ok(())
+    }
+
+    /// Where the network passes the verdict, every lookup arrives.
+    fn keep_hops(&mut self, network: &Network, tables: &Tables) -> Result<(), String> {
+        let nodes = 1..=network.count();
+        let pairs = nodes
+            .clone()
+            .flat_map(|from| nodes.clone().map(move |to| (from, to)));
+        self.kept.clear();
+        for (from, to) in pairs {
+            let hops: Vec<usize> = very_hops(network, tables, from, to).collect();
+            if hops.last() != Some(&to) {
+                return Err(format!("consistent, but {from} to {to} goes {hops:?}"));
+            }
+            self.kept.push(hops);
+        }
+        Ok(())
+    }
+}
+
+/// (b) A lookup is not refused, and its hops are at most d less the digits already matched.
+fn lookup_is_short(memory: &Lent, network: &Network, from: u64, to: u64) -> Result<(), String> {
+    let answer = lookup(&memory.state, &memory.tables, from, to);
+    let matched = network.common_suffix(from as usize, to as usize);
+    if answer.refusal != 0 || answer.hops as usize + matched > network.settings.digits() {
+        return Err(format!("{from} to {to}, {matched} matched: {answer:?}"));
+    }
+    Ok(())
+}
+
+/// A script whose every point keeps the promises.
+fn watch(seed: u64, script: &Script, rng: &mut Rng) {
+    let (mut memory, mut watch) = (Lent::noise(), Watch::default());
+    for (line, said) in script.lines.iter().enumerate() {
+        let answer = memory.obey(&Second, said);
+        if let Line::Call(call) = said {
+            let kept = watch.after(call, answer, &memory, rng);
+            kept.unwrap_or_else(|what| {
+                panic!("{}", Difference { line, what }.report(seed, script))
+            });
+        }
+    }
+}
+
+#[test]
+fn runs_keep_their_promises() {
+    for seed in seeds(0, 250) {
+        let mut rng = Rng::new(seed);
+        let calls = rng.pick(&[50, 200, 1_000]);
+        let (script, _) = run(&mut rng, calls);
+        watch(seed, &script, &mut rng);
+    }
+}
+
+#[test]
+fn runs_in_small_settings_keep_their_promises() {
+    for seed in seeds(4_000, 100) {
+        let mut rng = Rng::new(seed);
+        let (base, digits, depth) = rng.pick(&[(2, 3, 1), (2, 6, 2), (3, 4, 1), (4, 3, 2)]);
+        let settings = Settings::new(base, digits, depth).expect("in range");
+        let (script, _) = run_in(&mut rng, settings, 400);
+        watch(seed, &script, &mut rng);
+    }
+}
+
+#[test]
+fn runs_from_any_sound_state_keep_their_promises() {
+    for seed in seeds(5_000, 200) {
+        let mut rng = Rng::new(seed);
+        let (script, _) = run_from_built(&mut rng, 100);
+        watch(seed, &script, &mut rng);
+        if let Err(difference) = compare(&Second, &Second, &script) {
+            panic!("{}", difference.report(seed, &script));
+        }
+    }
+}
