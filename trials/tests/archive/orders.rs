@@ -7,9 +7,10 @@ use trials::compare::{Difference, Pair};
 use trials::engine::Second;
 use trials::script::{Call, Line, Script};
 use trials::second::network::Network;
-use trials::second::{sound, verdict, Settings};
+use trials::second::{sound, Settings};
 
 const MOST: usize = 4;
+const CONSISTENT: u64 = 0x100;
 
 /// A point of a run: the memory that four nodes use, and how many requests each node has sent.
 #[derive(Clone, PartialEq, Eq, Hash)]
@@ -82,7 +83,9 @@ impl Walk {
         while let Some((place, point)) = self.open.pop() {
             self.pair.restore(&point.words, &point.bytes);
             let network = Network::decode(self.pair.memory().used_state());
-            let judged = self.judge(&network, &point);
+            let [verdict, written] =
+                [Call::Verdict, Call::Write].map(|call| self.call(place, &point, &call));
+            let judged = self.judge(&network, &point, [verdict, written & 0xff]);
             judged.unwrap_or_else(|what| panic!("{}", self.report(place, what)));
             self.begin_each(place, &point, &network);
             let outstanding = network.outstanding();
@@ -102,7 +105,8 @@ impl Walk {
         self.steps.len()
     }
 
-    fn judge(&self, network: &Network, point: &Point) -> Result<(), String> {
+    /// What holds at every point: `ends` is the verdict's answer and the refusal of writing.
+    fn judge(&self, network: &Network, point: &Point, ends: [u64; 2]) -> Result<(), String> {
         let (state, tables) = (
             self.pair.memory().used_state(),
             self.pair.memory().used_tables(),
@@ -117,8 +121,13 @@ impl Walk {
         {
             return Err(format!("sent {:?}", point.sent));
         }
-        if network.all_in_system() && !verdict(state, tables).consistent {
-            return Err("all joins ended, but the verdict is no".to_string());
+        let expected = if network.all_in_system() {
+            [CONSISTENT, 0]
+        } else {
+            [15, 15]
+        };
+        if ends != expected {
+            return Err(format!("verdict {:#x}, writing {}", ends[0], ends[1]));
         }
         Ok(())
     }
