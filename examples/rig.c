@@ -1,0 +1,148 @@
+/* A small rig: founds a network, lets seven nodes join it at the same time, delivers until all are in system, looks nodes up, asks for the
+ * verdict, saves the network as an image and reads it into other memory. Build it after `rt staticlib overlay`:
+ *
+ *     gcc -Wall -Wextra -Werror -I include examples/rig.c target/staticlib/liboverlay.a -o rig
+ *
+ * examples/rig.out is what it prints. */
+#include <stdio.h>
+#include <stdlib.h>
+#include <string.h>
+
+#include "overlay.h"
+
+/* The lent memory of a network. */
+struct network {
+    uint64_t state[OVERLAY_STATE_WORDS];
+    uint8_t tables[OVERLAY_TABLE_BYTES];
+};
+
+/* The memory arguments that every call begins with. */
+#define LENT(n) (n)->state, OVERLAY_STATE_WORDS, (n)->tables, OVERLAY_TABLE_BYTES
+
+static struct network first, second;
+static uint8_t image[OVERLAY_MOST_IMAGE_BYTES];
+
+static const char *const refusals[] = {
+    [0] = "taken",
+    [OVERLAY_SHORT_MEMORY] = "state or tables are too short",
+    [OVERLAY_UNSOUND] = "the state is not sound",
+    [OVERLAY_NOT_AN_IMAGE] = "not an image",
+    [OVERLAY_IMAGE_VERSION] = "another version of images",
+    [OVERLAY_BAD_SETTING] = "a setting is out of range",
+    [OVERLAY_IMAGE_COUNTS] = "the image's counts and length do not fit",
+    [OVERLAY_BAD_ID] = "a bad id",
+    [OVERLAY_ID_TAKEN] = "the id is taken",
+    [OVERLAY_NO_SUCH_NODE] = "no such node",
+    [OVERLAY_BAD_RECORDS] = "the image's records break the rules",
+    [OVERLAY_FULL] = "the network is full",
+    [OVERLAY_GATEWAY_NOT_IN_SYSTEM] = "the gateway is not in system",
+    [OVERLAY_NOT_OUTSTANDING] = "nothing is outstanding",
+    [OVERLAY_HELD] = "the request is held",
+    [OVERLAY_JOIN_IN_FLIGHT] = "a join is in flight",
+    [OVERLAY_SHORT_OUTPUT] = "the memory for the image is too short",
+};
+
+static const char *const steps[] = {
+    [OVERLAY_COPIED] = "copied",
+    [OVERLAY_SENT_ON] = "was sent on",
+    [OVERLAY_ATTACHED] = "attached",
+    [OVERLAY_NOTIFIED] = "notified",
+};
+
+/* The answer of a call that must not be refused here. */
+static uint64_t taken(const char *call, uint64_t answer)
+{
+    if (overlay_refusal(answer) != 0) {
+        fprintf(stderr, "%s: %s\n", call, refusals[overlay_refusal(answer)]);
+        exit(1);
+    }
+    return answer;
+}
+
+static void print_refusal(const char *what, uint64_t answer)
+{
+    printf("%s: %s\n", what, refusals[overlay_refusal(answer)]);
+}
+
+static void print_delivery(unsigned sender, unsigned receiver, uint64_t answer)
+{
+    printf("node %u %s at node %u", sender, steps[overlay_step(answer)], receiver);
+    if (overlay_step(answer) == OVERLAY_ATTACHED)
+        printf(", level %u", overlay_attach_level(answer));
+    printf("%s\n", overlay_settled(answer) ? ", and is in system" : "");
+}
+
+/* Delivers what is outstanding, sender by sender, until a pass finds nothing. Answers how many deliveries there were. */
+static unsigned settle(struct network *network, unsigned nodes)
+{
+    unsigned all = 0, delivered;
+    do {
+        delivered = 0;
+        for (unsigned sender = 1; sender <= nodes; sender++)
+            for (unsigned receiver = 1; receiver <= nodes; receiver++) {
+                uint64_t answer = overlay_deliver(LENT(network), sender, receiver);
+                if (overlay_refusal(answer) == 0) {
+                    print_delivery(sender, receiver, answer);
+                    delivered++;
+                }
+            }
+        all += delivered;
+    } while (delivered > 0);
+    return all;
+}
+
+static void print_lookup(const struct network *network, unsigned from, unsigned to)
+{
+    uint64_t answer = taken("lookup", overlay_lookup(LENT(network), from, to));
+    printf("lookup from %u to %u: %s at node %u, hops %u\n", from, to,
+           overlay_arrived(answer) ? "arrived" : "lost", overlay_last_node(answer), overlay_hops(answer));
+}
+
+static void print_verdict(const struct network *network)
+{
+    uint64_t answer = taken("verdict", overlay_verdict(LENT(network)));
+    if (overlay_consistent(answer))
+        printf("verdict: consistent\n");
+    else
+        printf("verdict: node %u falls short at level %u, digit %u\n", overlay_short_node(answer), overlay_short_level(answer),
+               overlay_short_digit(answer));
+}
+
+/* Founds with one node and begins the joins of the others, all by node 1. */
+static void begin_joins(struct network *network, const uint32_t *ids, unsigned nodes)
+{
+    taken("found", overlay_found(LENT(network), 4, 4, 2, ids[0]));
+    printf("node 1 founds with id %04x\n", (unsigned)ids[0]);
+    for (unsigned i = 1; i < nodes; i++) {
+        uint64_t answer = taken("begin", overlay_begin(LENT(network), ids[i], 1));
+        printf("node %u begins to join with id %04x\n", overlay_new_node(answer), (unsigned)ids[i]);
+    }
+    print_refusal("its id once more", overlay_begin(LENT(network), ids[nodes - 1], 1));
+    print_refusal("a verdict now", overlay_verdict(LENT(network)));
+}
+
+/* Saves the one network and reads it into the memory of the other. */
+static void save_and_read(const struct network *from, struct network *to)
+{
+    uint32_t length = overlay_image_length(taken("write", overlay_write(LENT(from), image, sizeof image)));
+    printf("saved: an image of %u bytes\n", (unsigned)length);
+    print_refusal("in one byte less", overlay_write(LENT(from), image, length - 1));
+    print_refusal("read without its last byte", overlay_read(LENT(to), image, length - 1));
+    taken("read", overlay_read(LENT(to), image, length));
+    printf("read: %s\n", memcmp(from, to, sizeof *from) == 0 ? "the same network" : "another network");
+}
+
+int main(void)
+{
+    static const uint32_t ids[] = {0x0123, 0x0321, 0x1321, 0x3210, 0x0021, 0x2311, 0x3333, 0x2321};
+    const unsigned nodes = sizeof ids / sizeof ids[0];
+
+    begin_joins(&first, ids, nodes);
+    printf("%u deliveries\n", settle(&first, nodes));
+    print_verdict(&first);
+    for (unsigned to = 1; to <= nodes; to++)
+        print_lookup(&first, nodes, to);
+    save_and_read(&first, &second);
+    print_verdict(&second);
+    return 0;
+}
