@@ -1,7 +1,8 @@
 //! Times the proved engine beside the second one on the same calls, in one run: `cargo run --release --example bench`.
 //!
-//! A network grows to its size with joins in flight, then every node is looked up from others and the state is judged. The
-//! two engines play this in turn for many rounds; a call counts with its shortest time over the rounds.
+//! A network grows to its size with joins in flight; then nodes are looked up in it, and it is judged, written and read back. The two
+//! engines play this in turn for many rounds; a call counts with its shortest time over the rounds. The share of `sound` in a call is
+//! told by further rounds.
 
 use std::hint::black_box;
 use std::time::Instant;
@@ -16,6 +17,9 @@ use trials::second::network::Network;
 
 const ROUNDS: usize = 150;
 const IN_FLIGHT: usize = 4;
+
+/// Calls that judge the state first.
+const JUDGING: [&str; 5] = ["begin", "deliver", "lookup", "verdict", "write"];
 
 /// A founding, then beginnings and deliveries in any order until all nodes are in the system.
 fn growth(settings: [u64; 3], nodes: usize, rng: &mut Rng) -> Vec<Call> {
@@ -41,15 +45,34 @@ fn growth(settings: [u64; 3], nodes: usize, rng: &mut Rng) -> Vec<Call> {
     }
 }
 
+/// Calls on the grown network: lookups of each node, and as many of the calls that need no arguments.
+fn use_of(nodes: usize, image: &[u8], rng: &mut Rng) -> Vec<Call> {
+    let nodes = nodes as u64;
+    let calls = (1..=nodes).flat_map(|to| {
+        let from = rng.between(1, nodes);
+        let image = image.to_vec();
+        let looked = Call::Lookup { from, to };
+        [
+            looked,
+            Call::Sound,
+            Call::Verdict,
+            Call::Write,
+            Call::Read { image },
+        ]
+    });
+    calls.collect()
+}
+
 /// The calls of a round.
 fn round(settings: [u64; 3], nodes: usize) -> Vec<Call> {
     let mut rng = Rng::new(1);
     let mut calls = growth(settings, nodes, &mut rng);
-    for to in 1..=nodes as u64 {
-        let from = rng.between(1, nodes as u64);
-        calls.push(Call::Lookup { from, to });
-        calls.push(Call::Sound);
+    let mut memory = Lent::noise();
+    for call in &calls {
+        memory.call(&Second, call);
     }
+    let length = (memory.call(&Second, &Call::Write) >> 8) as usize;
+    calls.extend(use_of(nodes, &memory.out[..length], &mut rng));
     calls
 }
 
@@ -77,15 +100,27 @@ impl<'a> Clock<'a> {
         }
     }
 
-    /// The mean over the calls of one kind.
-    fn mean(&self, calls: &[Call], kind: &str) -> f64 {
-        let times = calls.iter().zip(&self.best);
-        let times: Vec<f64> = times
-            .filter(|(call, _)| call.to_string().starts_with(kind))
-            .map(|(_, &time)| time)
-            .collect();
-        times.iter().sum::<f64>() / times.len() as f64
+    /// The mean time of the calls at these places.
+    fn mean(&self, places: &[usize]) -> f64 {
+        let all: f64 = places.iter().map(|&place| self.best[place]).sum();
+        all / places.len() as f64
     }
+}
+
+/// What part of a judging call `sound` takes, by kind: each call is played after two of `sound`, of which the second finds memory and branches as
+/// warm as the call does.
+fn shares_of_sound(engine: &dyn Engine, calls: &[Call]) -> [f64; JUDGING.len()] {
+    let judged = |call: &Call| [Call::Sound, Call::Sound, call.clone()];
+    let calls: Vec<Call> = calls.iter().flat_map(judged).collect();
+    let mut clock = Clock::new(engine, calls.len());
+    for _ in 0..ROUNDS {
+        clock.play(&calls);
+    }
+    JUDGING.map(|kind| {
+        let judged = places(&calls, kind);
+        let sound: Vec<usize> = judged.iter().map(|place| place - 1).collect();
+        clock.mean(&sound) / clock.mean(&judged)
+    })
 }
 
 /// One pass over the memory that a call uses: the least that judging a state could take.
@@ -107,11 +142,29 @@ fn plain_pass(memory: &Lent) -> f64 {
     (0..1_000).map(|_| time()).fold(f64::MAX, f64::min)
 }
 
+/// Where calls of this kind are.
+fn places(calls: &[Call], kind: &str) -> Vec<usize> {
+    let of_kind = |&place: &usize| calls[place].to_string().starts_with(kind);
+    (0..calls.len()).filter(of_kind).collect()
+}
+
+/// A line for each kind of call.
+fn print(calls: &[Call], proved: &Clock, second: &Clock) {
+    let shares = shares_of_sound(proved.engine, calls).map(|share| format!("{share:>8.2}"));
+    let judging = JUDGING.into_iter().zip(shares);
+    let others = ["found", "read", "sound"].map(|kind| (kind, String::new()));
+    for (kind, share) in others.into_iter().chain(judging) {
+        let places = places(calls, kind);
+        let (ours, theirs) = (proved.mean(&places), second.mean(&places));
+        let ratio = ours / theirs;
+        println!("{kind:<12} {ours:>10.0} {theirs:>10.0} {ratio:>8.2} {share}");
+    }
+    let pass = plain_pass(&proved.memory);
+    println!("{:<12} {pass:>10.0}", "plain pass");
+}
+
 fn main() {
-    println!(
-        "{:<40} {:>10} {:>10} {:>8}",
-        "ns", "proved", "second", "ratio"
-    );
+    println!("ns a call, and the share of sound in the proved engine's");
     for (settings, nodes) in [([16, 8, 4], 64), ([4, 4, 2], 64), ([4, 4, 2], 5)] {
         let calls = round(settings, nodes);
         let mut proved = Clock::new(&Archive, calls.len());
@@ -122,18 +175,11 @@ fn main() {
         }
         assert!(proved.memory == second.memory, "the engines differ");
         let [base, digits, depth] = settings;
-        for kind in ["found", "begin", "deliver", "lookup", "sound"] {
-            let name = format!("{kind}, {nodes} nodes, b {base}, d {digits}, K {depth}");
-            let (ours, theirs) = (proved.mean(&calls, kind), second.mean(&calls, kind));
-            println!(
-                "{name:<40} {ours:>10.0} {theirs:>10.0} {:>8.2}",
-                ours / theirs
-            );
-        }
+        println!("{nodes} nodes, b {base}, d {digits}, K {depth}");
         println!(
-            "{:<40} {:>10.0}",
-            "a plain pass over the memory",
-            plain_pass(&proved.memory)
+            "{:>23} {:>10} {:>8} {:>8}",
+            "proved", "second", "ratio", "sound"
         );
+        print(&calls, &proved, &second);
     }
 }
