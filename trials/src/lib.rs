@@ -7,6 +7,8 @@
 //! - `lent`: the memory that a caller lends, with guard space around what is lent.
 //! - `compare`: runs one script on two engines and finds the first difference.
 //! - `random`: seeded settings, ids, runs, states and images, good and bad.
+//!
+//! `TRIALS_COUNT=50 TRIALS_SEED=1000000 cargo test --release` plays 50 times as many cases, with other seeds.
 
 pub mod archive;
 pub mod compare;

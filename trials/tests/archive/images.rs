@@ -101,6 +101,37 @@ fn images_with_each_byte_changed_are_judged_alike() {
     }
 }
 
+/// A few bytes changed at once, so that several sentences may hold.
+fn bytes_changed(rng: &mut Rng, image: &[u8]) -> Vec<u8> {
+    let mut changed = image.to_vec();
+    for _ in 0..rng.between(2, 4) {
+        let before_records = 8 + 4 * usize::from(image[5]);
+        let place = match rng.below(8) {
+            0 => rng.below(6),
+            1..=3 => rng.below(before_records),
+            _ => rng.below(image.len()),
+        };
+        changed[place] = rng.pick(&[0, 1, 2, 3, 4, 15, 64, 65, 255]);
+    }
+    changed
+}
+
+#[test]
+fn images_with_several_bytes_changed_are_judged_alike() {
+    let mut reader = Reader::new();
+    for seed in seeds(600, 150) {
+        reader.seed = seed;
+        let mut rng = Rng::new(seed);
+        let image = image(&mut rng);
+        for _ in 0..100 {
+            reader.read(&bytes_changed(&mut rng, &image));
+        }
+    }
+    for refusal in [0, 3, 4, 5, 6, 7, 8, 9, 10] {
+        assert!(reader.refusals[refusal] > 10, "{:?}", reader.refusals);
+    }
+}
+
 #[test]
 fn images_with_records_changed_are_judged_alike() {
     let mut reader = Reader::new();
