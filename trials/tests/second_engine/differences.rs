@@ -4,16 +4,20 @@ use trials::compare::compare;
 use trials::engine::{Engine, Second};
 use trials::script::Script;
 
-/// The second engine, but spoiled in what a beginning, a lookup or a writing does.
+/// The second engine, but spoiled in what a reading, a beginning, a lookup, a verdict or a writing does.
 struct Spoiled {
+    read: fn(&mut [u64], &mut [u8], u64) -> u64,
     begin: fn(&mut [u64], &mut [u8], u64) -> u64,
     lookup: fn(&mut [u64], &mut [u8]),
+    verdict: fn(u64) -> u64,
     write: fn(&mut [u8]),
 }
 
 const UNSPOILED: Spoiled = Spoiled {
+    read: |_, _, answer| answer,
     begin: |_, _, answer| answer,
     lookup: |_, _| {},
+    verdict: |answer| answer,
     write: |_| {},
 };
 
@@ -31,7 +35,8 @@ impl Engine for Spoiled {
     }
 
     fn read(&self, state: &mut [u64], tables: &mut [u8], image: &[u8]) -> u64 {
-        Second.read(state, tables, image)
+        let answer = Second.read(state, tables, image);
+        (self.read)(state, tables, answer)
     }
 
     fn begin(&self, state: &mut [u64], tables: &mut [u8], id: u32, gateway: u64) -> u64 {
@@ -49,7 +54,7 @@ impl Engine for Spoiled {
     }
 
     fn verdict(&self, state: &mut [u64], tables: &mut [u8]) -> u64 {
-        Second.verdict(state, tables)
+        (self.verdict)(Second.verdict(state, tables))
     }
 
     fn write(&self, state: &mut [u64], tables: &mut [u8], out: &mut [u8]) -> u64 {
@@ -59,7 +64,8 @@ impl Engine for Spoiled {
     }
 }
 
-const SCRIPT: &str = "found 2 2 1 0\nwrite\nlookup 1 1\nbegin 1 1\nbegin 1 1\nverdict\nsound\n";
+const SCRIPT: &str = "found 2 2 1 0\nwrite\nlookup 1 1\nbegin 1 1\nbegin 1 1\nverdict\nsound\n\
+                      read 04\nread 0401020201010000000002000100000101010001\nverdict\n";
 
 /// The line of the first difference between two engines.
 fn first_difference(a: &dyn Engine, b: &dyn Engine) -> Option<usize> {
@@ -74,7 +80,12 @@ fn equal_engines_do_not_differ() {
 
 #[test]
 fn every_difference_is_seen() {
+    let read = |read| Spoiled { read, ..UNSPOILED };
     let begin = |begin| Spoiled { begin, ..UNSPOILED };
+    let verdict = |verdict| Spoiled {
+        verdict,
+        ..UNSPOILED
+    };
     let lookup = |lookup| Spoiled {
         lookup,
         ..UNSPOILED
@@ -106,6 +117,27 @@ fn every_difference_is_seen() {
                 answer
             }),
             4,
+        ),
+        (read(|_, _, answer| if answer == 3 { 6 } else { answer }), 8),
+        (
+            read(|state, _, answer| {
+                state[9] ^= u64::from(answer == 0);
+                answer
+            }),
+            9,
+        ),
+        (
+            read(|_, tables, answer| {
+                tables[32_767] ^= u8::from(answer != 0);
+                answer
+            }),
+            8,
+        ),
+        (verdict(|answer| if answer == 15 { 0 } else { answer }), 6),
+        (verdict(|answer| answer ^ 0x100), 6),
+        (
+            verdict(|answer| if answer == 0x100 { 1 << 16 } else { answer }),
+            10,
         ),
         (lookup(|state, _| state[519] ^= 1), 3),
         (lookup(|_, tables| tables[32_767] ^= 1), 3),
