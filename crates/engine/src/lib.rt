@@ -1,5 +1,5 @@
-// The public calls: each judges the sentences that may refuse it, in the paper's order, and then has the work done. No function here asks
-// anything of its caller; each contract equates the memory and the answer with the book's call.
+// The seven public calls: each judges the sentences that may refuse it, in the paper's order, and then has the work done. None of them asks
+// anything of its caller; the contract of each equates the memory and the answer with the book's call.
 pub mod beginning;
 pub mod delivering;
 pub mod founding;

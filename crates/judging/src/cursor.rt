@@ -1,5 +1,5 @@
 // The cursor over the records of an image, by value. Records rise by node, level and digit, so the earlier records of an entry stand in one
-// run that ends at the cursor: it holds their number and the neighbours that they name, and no record is read twice.
+// run that ends at the cursor: it holds their number and the neighbours that they name, and reads no record twice.
 ghost use mathlib.Core.Path.{_≡_};
 ghost use Prim.Native.Nat.{_<_};
 ghost use Rattle.model.specs.Image.{imRecords, recAllowed, recOwnerFirst};

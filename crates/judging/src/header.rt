@@ -8,7 +8,7 @@ ghost use Rattle.model.specs.Image.{byteAt, imNodes, imRecords, lengthRight};
 ghost use Rattle.model.specs.Refusals.{noSettings, countsWrong};
 ghost use Rattle.judging.specs.Judged.{Counted, Headed};
 
-// "The verdict program takes an image of at most 65,535 bytes".
+// "its length .. passes 65,535"
 const LONGEST: usize = 65535;
 
 // The settings and the counts.

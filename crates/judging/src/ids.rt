@@ -19,7 +19,7 @@ pub fn id(image: &[u8], x: usize) -> u32
     (low + 65536 * high) as u32
 }
 
-// 7, of node x.
+// Not 7, of node x.
 fn is_valid(image: &[u8], h: Header, x: usize) -> bool
     requires { ⌜ Headed (now image) h ⌝ }
     requires { ⌜ IsNode (now image) x ⌝ }
@@ -28,7 +28,7 @@ fn is_valid(image: &[u8], h: Header, x: usize) -> bool
     valid_id(h.base, h.digits, id(image, x))
 }
 
-// 7: "An id has a digit not below b, or a bit above its digits."
+// Not 7: "An id has a digit not below b, or a bit above its digits."
 pub fn valid(image: &[u8], h: Header) -> bool
     requires { ⌜ Headed (now image) h ⌝ }
     ensures { λ r. ⌜ r ≡ allBelow (imNodes (now (image .entry))) (node (imIdValid (now (image .entry)))) ⌝ }
@@ -43,7 +43,7 @@ pub fn valid(image: &[u8], h: Header) -> bool
     true
 }
 
-// 8, of node x: no node before it has its id.
+// Not 8, of node x: no node before it has its id.
 fn is_new(image: &[u8], x: usize) -> bool
     requires { ⌜ Counted (now image) ⌝ }
     requires { ⌜ IsNode (now image) x ⌝ }
@@ -60,7 +60,7 @@ fn is_new(image: &[u8], x: usize) -> bool
     true
 }
 
-// 8: an id "occurs twice in an image".
+// Not 8: an id "occurs twice in an image".
 pub fn different(image: &[u8], h: Header) -> bool
     requires { ⌜ Headed (now image) h ⌝ }
     ensures { λ r. ⌜ r ≡ allBelow (imNodes (now (image .entry))) (node (imIdNew (now (image .entry)))) ⌝ }

@@ -1,4 +1,4 @@
-// The records of an image: 9 over all of them, then 10 in one pass from front to back and a pass over the own entries.
+// The records of an image: 9 over all of them, then 10 in one pass from front to back and one that marks the own entries.
 ghost use mathlib.Core.Path.{_≡_};
 ghost use Rattle.model.specs.Loops.{allBelow};
 ghost use Rattle.model.specs.Image.{imRecords, recNodesGood, recordsGood};
@@ -9,7 +9,7 @@ use crate::header::Header;
 use crate::own;
 use crate::record;
 
-// 9: "A member number, in a call or a record, is 0 or above the member count."
+// Not 9: "A member number, in a call or a record, is 0 or above the member count."
 pub fn named(image: &[u8], h: Header) -> bool
     requires { ⌜ Headed (now image) h ⌝ }
     ensures { λ r. ⌜ r ≡ allBelow (imRecords (now (image .entry))) (recNodesGood (now (image .entry))) ⌝ }
@@ -50,7 +50,7 @@ fn each_good(image: &[u8], h: Header) -> bool
     true
 }
 
-// 10: "Image records break their order or the table rules."
+// Not 10: "Image records break their order or the table rules."
 pub fn good(image: &[u8], h: Header) -> bool
     requires { ⌜ Headed (now image) h ⌝ }
     requires { ⌜ Named (now image) ⌝ }

@@ -45,7 +45,7 @@ fn is_node(h: Header, x: usize) -> bool
     x <= h.nodes
 }
 
-// 9, of record r: "A member number, in a call or a record, is 0 or above the member count."
+// Not 9, of record r: "A member number, in a call or a record, is 0 or above the member count."
 pub fn nodes_good(image: &[u8], h: Header, r: usize) -> bool
     requires { ⌜ Headed (now image) h ⌝ }
     requires { ⌜ r < imRecords (now image) ⌝ }

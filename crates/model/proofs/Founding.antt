@@ -9,7 +9,7 @@ use lib.ListN.{length, getD, length-set}
 use lib.Seq.{getD-set-other}
 use borrow.Author.Tests.{eq-eqb}
 use Rattle.model.specs.Ids.{validId}
-use Rattle.model.specs.Memory.{stateLength, tablesLength, base, digits, depth, nodeCount, idOf, zeroed, tableStart, tableOf}
+use Rattle.model.specs.Memory.{stateLength, tablesLength, base, digits, depth, nodeCount, idOf, isInSystem, zeroed, tableStart, tableOf}
 use Rattle.model.specs.Tables.{ownTable}
 use Rattle.model.specs.Sound.{spareZero, sound}
 use Rattle.model.specs.Join.{withSettings, inSystemNode, founded}
@@ -156,6 +156,10 @@ module _ (s t : List ℕ) (b d K id : ℕ) (long : Long s t) (range : InRange b 
     rest = λ p l h. zero p (omega (arith, l)) (inr (omega (arith, settings .count, l))) h;
     tables-rest = λ p l h. tables-zero p (omega (arith, settings .count, l)) h;
   }
+
+  pub founded-in-system : (x : ℕ) → IsNode (founded s t b d K id .state) x → isInSystem (founded s t b d K id .state) x ≡ true
+  unfolding s₁
+  founded-in-system x i = subst (λ (x : ℕ). isInSystem s₁ x ≡ true) (only x i) (eq-eqb _ 0 (stored .status))
 
   pub founded-sound : sound (founded s t b d K id .state) (founded s t b d K id .tables) ≡ true
   founded-sound = sound-of (founded s t b d K id .state) (founded s t b d K id .tables) founded-ok

@@ -2,7 +2,7 @@
 -- one plus 2, any other d + 1. Each request that a step sends raises this limit by one or more. Assumes nothing.
 use Prim.Native.Nat.{ℕ, _+_, _*_, _≤_, _<_}
 use mathlib.Core.Path.{_≡_, refl, sym, ap, ap₂, subst, _∙_}
-use mathlib.Core.Logic.{_≢_, inl}
+use mathlib.Core.Logic.{_≢_, inl, _⊎_, inr, ⊎-elim}
 use mathlib.Core.Bool.{Bool, true, false, cond, _||_}
 use mathlib.Core.List.{List}
 use native.Mathlib.Omega.{arith}
@@ -156,6 +156,76 @@ module _ (s t : List ℕ) (S : Sound s t) (x y : ℕ) (nx : IsNode s x) (ny : Is
   delivery-rises (notifies e h o) =
       subst (Rises s x) (sym (delivery-is s t S x y nx ny r notifying e))
       (settled-rises _ _ _ (deliverNotifying s x y (tableOf t x) (tableOf t y)) refl refl)
+
+-- ---- where a node that goes on asking asks next
+
+-- a node that a delivery leaves copying or waiting has a target that it matches in more digits than y, but for the one step from copying
+-- to waiting at the same target
+pub record Moves (s : List ℕ) (x y : ℕ) (d : Delivery) : Type 0 where
+  pub on : (d .sender .status ≡ copying) ⊎ (d .sender .status ≡ waiting)
+      → (suffixOf s x y < suffixOf s x (d .sender .target))
+      ⊎ ((statusOf s x ≡ copying) × (d .sender .status ≡ waiting) × (d .sender .target ≡ y))
+
+module _ (s t : List ℕ) (S : Sound s t) (x y : ℕ) (nx : IsNode s x) (ny : IsNode s y) (r : Receiver s x y) where
+  -- to a node that it matches in more digits
+  nearer : (status z : ℕ) (d : Delivery) → d .sender ≡ joiningNode (idOf s x) status z → suffixOf s x y + 1 ≤ suffixOf s x z → Moves s x y d
+  nearer status z d e h = record { on = λ q. inl (subst (λ (z : ℕ). suffixOf s x y < suffixOf s x z) (sym (ap (λ (n : Node). n .target) e)) (omega (arith, h))) }
+
+  -- it asks no more
+  ends : (k pend told : ℕ) (d : Delivery) → d .sender ≡ notifyingNode (idOf s x) k pend told → Moves s x y d
+  unfolding settle
+  ends k pend told d e = record { on = λ q. absurd (go (eqb pend 0) (⊎-elim (λ w. inl (sym here ∙ w)) (λ w. inr (sym here ∙ w)) q)) }
+    where
+      full : Node
+      full = record { id = idOf s x; status = notifying; level = k; target = 0; pending = pend; notified = told }
+
+      here : d .sender .status ≡ cond (eqb pend 0) (inSystemNode (idOf s x)) full .status
+      here = ap (λ (n : Node). n .status) e
+
+      go : (b : Bool) → (cond b (inSystemNode (idOf s x)) full .status ≡ copying) ⊎ (cond b (inSystemNode (idOf s x)) full .status ≡ waiting) → ⊥
+      go true (inl w) = omega arith
+      go true (inr w) = omega arith
+      go false (inl w) = omega arith
+      go false (inr w) = omega arith
+
+  copied-moves : statusOf s x ≡ copying → isAttached s x ≡ false → Moves s x y (deliverCopying s x y (tableOf t x) (tableOf t y))
+  unfolding deliverCopying
+  copied-moves c away = go (roomAtSuffix s (tableOf t y) x y) refl
+    where
+      d : Delivery
+      d = deliverCopying s x y (tableOf t x) (tableOf t y)
+
+      next : ℕ
+      next = firstAtSuffix s (tableOf t y) x y
+
+      sender : (a : Bool) → roomAtSuffix s (tableOf t y) x y ≡ a
+          → d .sender ≡ cond a (joiningNode (idOf s x) waiting y) (joiningNode (idOf s x) (cond (isInSystem s next) copying waiting) next)
+      sender a e =
+          ap (λ (a : Bool). cond a (joiningNode (idOf s x) waiting y) (joiningNode (idOf s x) (cond (isInSystem s next) copying waiting) next)) e
+
+      go : (a : Bool) → roomAtSuffix s (tableOf t y) x y ≡ a → Moves s x y d
+      go true e = record { on = λ q. inr (c, ap (λ (n : Node). n .status) (sender true e), ap (λ (n : Node). n .target) (sender true e)) }
+      go false e = nearer (cond (isInSystem s next) copying waiting) next d (sender false e) (first s t S x y nx ny r away e)
+
+  waited-moves : isAttached s x ≡ false → Moves s x y (deliverWaiting s x y (tableOf t x) (tableOf t y))
+  unfolding deliverWaiting deliverAttached deliverSentOn
+  waited-moves away = go (roomAtSuffix s (tableOf t y) x y) refl
+    where
+      go : (a : Bool) → roomAtSuffix s (tableOf t y) x y ≡ a
+          → Moves s x y (cond a (deliverAttached s x y (tableOf t x) (tableOf t y)) (deliverSentOn s x y (tableOf t x) (tableOf t y)))
+      go true e = ends _ _ _ (deliverAttached s x y (tableOf t x) (tableOf t y)) refl
+      go false e =
+          nearer waiting (firstAtSuffix s (tableOf t y) x y) (deliverSentOn s x y (tableOf t x) (tableOf t y)) refl (first s t S x y nx ny r away e)
+
+  pub delivery-moves : Sending s x y → Moves s x y (delivery s t x y)
+  unfolding deliverNotifying
+  delivery-moves (copies e g o) =
+      subst (Moves s x y) (sym (delivery-is s t S x y nx ny r copying e))
+      (copied-moves e (ap (λ (v : ℕ). eqb v inSystem || eqb v notifying) e))
+  delivery-moves (waits e g i o) =
+      subst (Moves s x y) (sym (delivery-is s t S x y nx ny r waiting e)) (waited-moves (ap (λ (v : ℕ). eqb v inSystem || eqb v notifying) e))
+  delivery-moves (notifies e h o) =
+      subst (Moves s x y) (sym (delivery-is s t S x y nx ny r notifying e)) (ends _ _ _ (deliverNotifying s x y (tableOf t x) (tableOf t y)) refl)
 
 -- ---- a later state in which z's record did not change
 

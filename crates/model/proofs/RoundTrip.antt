@@ -204,8 +204,9 @@ module _ (s t im : List ℕ) (byte : (a : ℕ) → byteAt im a < 256) (e : readR
   read-written = ext-getD 0 (imageOf s₂ t₂) im same-length (λ a h. same-byte a (omega (arith, same-length)))
 
   -- "Reading makes every member settled"
-  in-system : (x : ℕ) → IsNode s₂ x → isInSystem s₂ x ≡ true
-  in-system x n =
+  pub read-in-system : (x : ℕ) → IsNode (loaded s t im .state) x → isInSystem (loaded s t im .state) x ≡ true
+  unfolding s₂
+  read-in-system x n =
       eq-eqb _ 0 (W .zero (8 * x + 1) (omega (arith, n .low)) (omega (arith, n .high, S .few)) (λ y m. omega arith))
 
   -- the state that reading gives is one that writing takes, if there is room
@@ -213,9 +214,21 @@ module _ (s t im : List ℕ) (byte : (a : ℕ) → byteAt im a < 256) (e : readR
   unfolding s₂ t₂ writeRefusal refuse
   read-can-write out room =
       let settled : allBelow (nodeCount s₂) (node (isInSystem s₂)) ≡ true =
-      nodes-of (nodeCount s₂) (isInSystem s₂) (λ x l h. in-system x (record { low = l; high = h })) in
+      nodes-of (nodeCount s₂) (isInSystem s₂) (λ x l h. read-in-system x (record { low = l; high = h })) in
       let fits : ltb (length out) (length (imageOf s₂ t₂)) ≡ false = le-ltb (length out) (length (imageOf s₂ t₂)) (omega (arith, same-length)) in
       state-free s₂ t₂ _ S ∙ rw (settled, fits)
+
+-- an image read twice, over any old contents: the same state
+pub read-again : (s t s′ t′ im : List ℕ) → ((a : ℕ) → byteAt im a < 256) → readRefusal s t im ≡ 0 → Long s′ t′
+    → loaded s′ t′ im
+    ≡ record {
+      state = take stateLength (loaded s t im .state) ++ drop stateLength s′;
+      tables = take tablesLength (loaded s t im .tables) ++ drop tablesLength t′;
+    }
+read-again s t s′ t′ im byte e long =
+    let k = read-taken s t im e in
+    ap (loaded s′ t′) (sym (read-written s t im byte e))
+    ∙ written-read (loaded s t im .state) (loaded s t im .tables) (loaded-ok s t im (k .0) (k .1)) s′ t′ long (read-in-system s t im byte e)
 
 -- ---- the same of the calls
 

@@ -48,7 +48,7 @@ pub record EntryConsistent (s t : List ℕ) (x i j : ℕ) : Type 0 where
   -- "(b) If V_{j·x[i−1]…x[0]} = ∅, .. then N_x(i, j) = ∅"
   pub empty : ((y : ℕ) → HasSuffix s x i j y → ⊥) → neighbors s t x i j ≡ []
 
--- "The network .. satisfies K-consistency, K ≥ 1, if for any node x": i ∈ [d], j ∈ [b]
+-- "The network .. satisfies K-consistency, K ≥ 1, if for any node x": i ∈ [d], j ∈ [b]. (That K is at least 1 is a setting in range.)
 unfoldable pub KConsistent : List ℕ → List ℕ → Type 0
 KConsistent s t =
     (x i j : ℕ) → isNode s x ≡ true → i < digits s → j < base s → EntryConsistent s t x i j

@@ -73,7 +73,7 @@ readRefusal s t im = refuse (memoryShort s t) 1 (imageRefusal im)
 unfoldable pub stateRefusal : List ℕ → List ℕ → ℕ → ℕ
 stateRefusal s t later = refuse (memoryShort s t) 1 (refuse (not (sound s t)) 2 later)
 
--- 7, 8 and 9 as for an image, 11, "A join finds 64 members", and 12, "The gateway isn't settled"
+-- 7 and 9 as for an image, 8, 11, "A join finds 64 members", and 12, "The gateway isn't settled"
 unfoldable pub beginSentences : List ℕ → ℕ → ℕ → ℕ
 beginSentences s id gateway =
     refuse (not (validId (base s) (digits s) id)) 7
