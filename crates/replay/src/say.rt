@@ -1,0 +1,61 @@
+// Pieces of the output, and the refusals in words.
+use libc::STDOUT_FILENO;
+
+pub fn text(piece: &[u8]) {
+    io::write_all(STDOUT_FILENO, piece);
+}
+
+pub fn number(n: u64) {
+    io::print_decimal(STDOUT_FILENO, n);
+}
+
+// In hexadecimal, with zeros in front up to this width.
+pub fn hex(n: u64, width: usize) {
+    io::print_hex(STDOUT_FILENO, n, width);
+}
+
+// A piece, a number and the line's end.
+pub fn line(piece: &[u8], n: u64) {
+    text(piece);
+    number(n);
+    text(b"\n");
+}
+
+fn sentence_to_8(refusal: u64) {
+    match refusal {
+        1 => text(b"the lent memory is too short"),
+        2 => text(b"the state is not sound"),
+        3 => text(b"the image has fewer than 5 bytes or does not begin with 4"),
+        4 => text(b"the image's version is not 1"),
+        5 => text(b"a setting is out of range"),
+        6 => text(b"the image's node count is wrong, or its length differs from its counts"),
+        7 => text(b"an id has a digit not below the base, or a bit above its digits"),
+        _ => text(b"an id is taken already"),
+    }
+}
+
+fn sentence_from_9(refusal: u64) {
+    match refusal {
+        9 => text(b"a node number is 0 or above the number of nodes"),
+        10 => text(b"the image's records break their order or the table rules"),
+        11 => text(b"there are 64 nodes already"),
+        12 => text(b"the gateway is not settled"),
+        13 => text(b"no request from the first node to the second is outstanding"),
+        14 => text(b"the receiver of a wait request is not settled"),
+        15 => text(b"a node is not settled"),
+        _ => text(b"the memory for the image is too short"),
+    }
+}
+
+// The refusal's number and its sentence of document 01, shortened.
+pub fn refused(refusal: u64) {
+    text(b"refused ");
+    number(refusal);
+    text(b": ");
+    if refusal < 9 {
+        sentence_to_8(refusal);
+    } else {
+        sentence_from_9(refusal);
+    }
+    text(b"\n");
+}
