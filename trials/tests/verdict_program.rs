@@ -20,7 +20,12 @@ fn printed(input: &[u8], piece: usize) -> String {
         .stdin(Stdio::piped())
         .stdout(Stdio::piped())
         .spawn()
-        .unwrap_or_else(|error| panic!("{}: {error}; `rt check verdict` makes it", program.display()));
+        .unwrap_or_else(|error| {
+            panic!(
+                "{}: {error}; `rt check verdict` makes it",
+                program.display()
+            )
+        });
     let mut pipe = child.stdin.take().expect("it is piped");
     let input = input.to_vec();
     let writer = thread::spawn(move || {
@@ -50,14 +55,19 @@ fn expected(image: &[u8]) -> String {
 }
 
 fn agree(image: &[u8], piece: usize, seed: u64) {
-    assert_eq!(printed(image, piece), expected(image), "seed {seed}: {image:02x?}");
+    assert_eq!(
+        printed(image, piece),
+        expected(image),
+        "seed {seed}: {image:02x?}"
+    );
 }
 
 #[test]
 fn samples_print_what_stands_beside_them() {
     for name in ["e1", "e1-short", "network64"] {
         let image = fs::read(root().join("samples").join(format!("{name}.image"))).expect(name);
-        let lines = fs::read_to_string(root().join("samples").join(format!("{name}.out"))).expect(name);
+        let lines =
+            fs::read_to_string(root().join("samples").join(format!("{name}.out"))).expect(name);
         assert_eq!(printed(&image, 65_536), lines, "{name}");
         assert_eq!(expected(&image), lines, "{name}");
     }
