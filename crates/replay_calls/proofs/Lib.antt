@@ -1,0 +1,3 @@
+-- The laws of a run as code.
+pub mod Ones
+pub mod Runs

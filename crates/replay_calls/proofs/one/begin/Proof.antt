@@ -1,0 +1,20 @@
+-- `begin`: the words of the public call. Assumes nothing.
+use Rattle.replay_calls.proofs.Ones.{begin-words}
+use borrow.Author.Needs.{needs}
+use Rattle.replay_calls.proofs.one.begin.Statement.{statement}
+use Rattle.replay_calls.proofs.one.begin.Tie as tie
+
+begin-requires : tie.Need-begin-requires
+begin-requires c κs = search needs
+
+same-length : tie.Need-same-length
+same-length c = search needs
+
+same-length-2 : tie.Need-same-length-2
+same-length-2 c = search needs
+
+returns : tie.Need-returns
+returns c = search begin-words
+
+pub begin-spec : {M : Type 1} → statement M
+begin-spec = tie.close (tie.spec begin-requires same-length same-length-2 returns)

@@ -1,0 +1,24 @@
+-- `deliver`: the words of the public call. Assumes nothing.
+use Rattle.replay_calls.proofs.Ones.{deliver-words}
+use borrow.Author.Needs.{needs}
+use Rattle.replay_calls.proofs.one.deliver.Statement.{statement}
+use Rattle.replay_calls.proofs.one.deliver.Tie as tie
+
+deliver-requires : tie.Need-deliver-requires
+deliver-requires c κs = search needs
+
+delivery-words-requires : tie.Need-delivery-words-requires
+delivery-words-requires c κs = search needs
+
+same-length : tie.Need-same-length
+same-length c = search needs
+
+same-length-2 : tie.Need-same-length-2
+same-length-2 c = search needs
+
+returns : tie.Need-returns
+returns c = search deliver-words
+
+pub deliver-spec : {M : Type 1} → statement M
+deliver-spec =
+    tie.close (tie.spec deliver-requires delivery-words-requires same-length same-length-2 returns)

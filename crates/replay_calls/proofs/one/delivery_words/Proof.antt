@@ -1,0 +1,66 @@
+-- `delivery_words`: each arm is a kind of step. Assumes nothing.
+use Rattle.replay_calls.proofs.Ones.{words-refused, words-copied, words-sent-on, words-attached, words-notified}
+use borrow.Author.Needs.{needs}
+use Rattle.replay_calls.proofs.one.delivery_words.Statement.{statement}
+use Rattle.replay_calls.proofs.one.delivery_words.Tie as tie
+
+enum-known-step : tie.Need-enum-known-step
+enum-known-step c = search needs
+
+enum-told : tie.Need-enum-told
+enum-told c = search needs
+
+taken-requires : tie.Need-taken-requires
+taken-requires c κs = search needs
+
+enum-told-2 : tie.Need-enum-told-2
+enum-told-2 c = search needs
+
+taken-requires-2 : tie.Need-taken-requires-2
+taken-requires-2 c κs = search needs
+
+enum-known-step-2 : tie.Need-enum-known-step-2
+enum-known-step-2 c = search needs
+
+taken-requires-3 : tie.Need-taken-requires-3
+taken-requires-3 c κs = search needs
+
+enum-told-3 : tie.Need-enum-told-3
+enum-told-3 c = search needs
+
+taken-requires-4 : tie.Need-taken-requires-4
+taken-requires-4 c κs = search needs
+
+returns : tie.Need-returns
+returns c = search words-refused
+
+returns-2 : tie.Need-returns-2
+returns-2 c = search words-copied
+
+returns-3 : tie.Need-returns-3
+returns-3 c = search words-sent-on
+
+returns-4 : tie.Need-returns-4
+returns-4 c = search words-attached
+
+returns-5 : tie.Need-returns-5
+returns-5 c = search words-notified
+
+pub delivery-words-spec : {M : Type 1} → statement M
+delivery-words-spec =
+    tie.close
+    (tie.spec
+    enum-known-step
+    enum-told
+    taken-requires
+    enum-told-2
+    taken-requires-2
+    enum-known-step-2
+    taken-requires-3
+    enum-told-3
+    taken-requires-4
+    returns
+    returns-2
+    returns-3
+    returns-4
+    returns-5)

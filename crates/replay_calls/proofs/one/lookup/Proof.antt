@@ -1,0 +1,17 @@
+-- `lookup`: the words of the public call. Assumes nothing.
+use Rattle.replay_calls.proofs.Ones.{lookup-words}
+use borrow.Author.Needs.{needs}
+use Rattle.replay_calls.proofs.one.lookup.Statement.{statement}
+use Rattle.replay_calls.proofs.one.lookup.Tie as tie
+
+lookup-requires : tie.Need-lookup-requires
+lookup-requires c κs = search needs
+
+bit-requires : tie.Need-bit-requires
+bit-requires c κs = search needs
+
+returns : tie.Need-returns
+returns c = search lookup-words
+
+pub lookup-spec : {M : Type 1} → statement M
+lookup-spec = tie.close (tie.spec lookup-requires bit-requires returns)

@@ -1,0 +1,17 @@
+-- `verdict`: the words of the public call. Assumes nothing.
+use Rattle.replay_calls.proofs.Ones.{verdict-words}
+use borrow.Author.Needs.{needs}
+use Rattle.replay_calls.proofs.one.verdict.Statement.{statement}
+use Rattle.replay_calls.proofs.one.verdict.Tie as tie
+
+verdict-requires : tie.Need-verdict-requires
+verdict-requires c κs = search needs
+
+bit-requires : tie.Need-bit-requires
+bit-requires c κs = search needs
+
+returns : tie.Need-returns
+returns c = search verdict-words
+
+pub verdict-spec : {M : Type 1} → statement M
+verdict-spec = tie.close (tie.spec verdict-requires bit-requires returns)

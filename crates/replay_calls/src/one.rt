@@ -1,0 +1,127 @@
+// One call, played by the public call of its kind.
+ghost use mathlib.Core.Path.{_≡_};
+ghost use Rattle.model.specs.Calls.{foundCall, beginCall, deliverCall, lookupCall, verdictCall};
+ghost use Rattle.model.specs.Run.{step};
+ghost use Rattle.delivery.specs.Answers.{answerFields};
+ghost use Rattle.replay_calls.specs.Answered.{padded, takenWords, playing, memory};
+ghost use Rattle.replay_calls.specs.Shown.{called, listed, shown};
+use crate::answer::Words;
+use crate::answer::bit;
+use crate::call::Coded;
+use delivery::answer::Answer;
+use delivery::answer::Step;
+use engine::beginning;
+use engine::delivering;
+use engine::founding;
+
+fn found(state: &mut [u64], tables: &mut [u8], base: u64, digits: u64, depth: u64, id: u32) -> Words
+    ensures { λ r. ⌜ shown (now (state .exit)) (now (tables .exit)) r ≡ playing (foundCall (now (state .entry)) (now (tables .entry)) base digits depth id) ⌝ }
+{
+    let refusal = founding::found(state, tables, base, digits, depth, id);
+    Words {
+        refusal,
+        first: 0,
+        second: 0,
+        third: 0,
+        fourth: 0,
+    }
+}
+
+fn begin(state: &mut [u64], tables: &mut [u8], id: u32, gateway: u64) -> Words
+    ensures { λ r. ⌜ shown (now (state .exit)) (now (tables .exit)) r ≡ playing (beginCall (now (state .entry)) (now (tables .entry)) id gateway) ⌝ }
+{
+    let r = beginning::begin(state, tables, id, gateway);
+    Words {
+        refusal: r.refusal,
+        first: r.node,
+        second: 0,
+        third: 0,
+        fourth: 0,
+    }
+}
+
+// A delivery that was taken.
+fn taken(kind: u64, level: u64, settled: bool) -> Words
+    ensures { λ r. ⌜ listed r ≡ takenWords kind level settled ⌝ }
+{
+    Words {
+        refusal: 0,
+        first: kind,
+        second: level,
+        third: bit(settled),
+        fourth: 0,
+    }
+}
+
+fn delivery_words(answer: Answer) -> Words
+    ensures { λ r. ⌜ listed r ≡ padded (answerFields answer) ⌝ }
+{
+    let settled = answer.settled;
+    let step = answer.step;
+    match step {
+        Step::Refused(number) => Words {
+            refusal: number,
+            first: 0,
+            second: 0,
+            third: 0,
+            fourth: 0,
+        },
+        Step::Copied => taken(1, 0, settled),
+        Step::SentOn => taken(2, 0, settled),
+        Step::Attached(level) => taken(3, level, settled),
+        Step::Notified => taken(4, 0, settled),
+    }
+}
+
+fn deliver(state: &mut [u64], tables: &mut [u8], sender: u64, receiver: u64) -> Words
+    ensures { λ r. ⌜ shown (now (state .exit)) (now (tables .exit)) r ≡ playing (deliverCall (now (state .entry)) (now (tables .entry)) sender receiver) ⌝ }
+{
+    delivery_words(delivering::deliver(state, tables, sender, receiver))
+}
+
+fn lookup(state: &[u64], tables: &[u8], from: u64, to: u64) -> Words
+    ensures { λ r. ⌜ shown (now (state .entry)) (now (tables .entry)) r ≡ playing (lookupCall (now (state .entry)) (now (tables .entry)) from to) ⌝ }
+{
+    let r = engine::lookup::lookup(state, tables, from, to);
+    Words {
+        refusal: r.refusal,
+        first: bit(r.arrived),
+        second: r.hops,
+        third: r.last,
+        fourth: 0,
+    }
+}
+
+fn verdict(state: &[u64], tables: &[u8]) -> Words
+    ensures { λ r. ⌜ shown (now (state .entry)) (now (tables .entry)) r ≡ playing (verdictCall (now (state .entry)) (now (tables .entry))) ⌝ }
+{
+    let r = engine::verdict::verdict(state, tables);
+    Words {
+        refusal: r.refusal,
+        first: bit(r.consistent),
+        second: r.node,
+        third: r.level,
+        fourth: r.digit,
+    }
+}
+
+pub fn play(state: &mut [u64], tables: &mut [u8], r: Coded) -> Words
+    ensures { λ w. ⌜ shown (now (state .exit)) (now (tables .exit)) w ≡ playing (step (memory (now (state .entry)) (now (tables .entry))) (called r)) ⌝ }
+{
+    if r.kind == 0 {
+        return found(state, tables, r.a, r.b, r.c, r.id);
+    }
+    if r.kind == 1 {
+        return begin(state, tables, r.id, r.a);
+    }
+    if r.kind == 2 {
+        return deliver(state, tables, r.a, r.b);
+    }
+    if r.kind == 3 {
+        return lookup(state, tables, r.a, r.b);
+    }
+    if r.kind == 4 {
+        return verdict(state, tables);
+    }
+    lookup(state, tables, 0, 0)
+}
