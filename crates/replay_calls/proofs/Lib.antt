@@ -1,3 +1,4 @@
 -- The laws of a run as code.
 pub mod Ones
 pub mod Runs
+pub mod Kept
