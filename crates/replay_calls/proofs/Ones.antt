@@ -14,15 +14,15 @@ use Rattle.delivery.specs.declared.answer.Step.{Step}
 use Rattle.delivery.specs.declared.answer.Step.the-variants.{Refused, Copied, SentOn, Attached, Notified}
 use Rattle.delivery.specs.Answers.{outcome, stepFields, answerFields}
 use Rattle.engine.specs.Outcomes.{leaves}
-use Rattle.replay_calls.specs.Coded.{callOf, idAt, callAt}
+use Rattle.replay_calls.specs.Coded.{callOf, halfAt, numberAt, callAt}
 use Rattle.replay_calls.specs.Answered.{padded, takenWords, Played, playing, memory}
 use Rattle.replay_calls.specs.Shown.{listed, shown}
 use Rattle.replay_calls.specs.declared.answer.Words.{Words}
 
 -- ---- the bytes of a call
 
-pub call-loads : (bs : List ℕ) (at kind a b c id : ℕ) → kind ≡ getD bs at 0 → a ≡ getD bs (at + 1) 0 → b ≡ getD bs (at + 2) 0
-    → c ≡ getD bs (at + 3) 0 → id ≡ idAt bs (at + 4) → callOf kind a b c id ≡ callAt bs at
+pub call-loads : (bs : List ℕ) (at kind a b c id : ℕ) → kind ≡ getD bs (at + 28) 0 → a ≡ numberAt bs at
+    → b ≡ numberAt bs (at + 8) → c ≡ numberAt bs (at + 16) → id ≡ halfAt bs (at + 24) → callOf kind a b c id ≡ callAt bs at
 unfolding callAt
 call-loads bs at kind a b c id e₀ e₁ e₂ e₃ e₄ = cc
 

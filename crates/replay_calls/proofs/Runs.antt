@@ -34,7 +34,7 @@ unfolding answersTo wordsOf history firstCalls
 no-answers m bs out = refl
 
 module _ (m : Memory) (bs s t s₁ t₁ : List ℕ) (k : ℕ) (w : Words) (c : Call) (is : memory s t ≡ play m (firstCalls k bs))
-    (coded : c ≡ callAt bs (8 * k)) (e : shown s₁ t₁ w ≡ playing (step (memory s t) c)) where
+    (coded : c ≡ callAt bs (32 * k)) (e : shown s₁ t₁ w ≡ playing (step (memory s t) c)) where
   longer : firstCalls (k + 1) bs ≡ firstCalls k bs ++ (c ∷ [])
   unfolding firstCalls
   longer = rw (add-one, coded) refl
@@ -60,7 +60,7 @@ module _ (m : Memory) (bs s t s₁ t₁ : List ℕ) (k : ℕ) (w : Words) (c : C
 
 -- ---- the last turn is behind
 
-module _ (m : Memory) (bs : List ℕ) (k : ℕ) (l : k ≤ length bs / 8) (g : length bs / 8 ≤ k) where
+module _ (m : Memory) (bs : List ℕ) (k : ℕ) (l : k ≤ length bs / 32) (g : length bs / 32 ≤ k) where
   all-calls : firstCalls k bs ≡ decoded bs
   unfolding decoded
   all-calls = ap (λ (n : ℕ). firstCalls n bs) (le-antisymm l g)

@@ -1,8 +1,8 @@
-// A call in eight bytes.
+// A call in 32 bytes: numbers at 0, 8 and 16, the id at 24, the kind at 28.
 ghost use mathlib.Core.Path.{_≡_};
 ghost use Prim.Native.Nat.{_+_, _≤_};
 ghost use lib.ListN.{length};
-ghost use Rattle.replay_calls.specs.Coded.{idAt, callAt};
+ghost use Rattle.replay_calls.specs.Coded.{halfAt, numberAt, callAt};
 ghost use Rattle.replay_calls.specs.Shown.{called};
 use judging::header::byte;
 
@@ -15,28 +15,35 @@ pub struct Coded {
 }
 
 // Four bytes, low byte first.
-fn id(calls: &[u8], at: usize) -> u32
+fn half(calls: &[u8], at: usize) -> u32
     requires { ⌜ at + 4 ≤ length (now calls) ⌝ }
-    ensures { λ r. ⌜ r ≡ idAt (now (calls .entry)) at ⌝ }
+    ensures { λ r. ⌜ r ≡ halfAt (now (calls .entry)) at ⌝ }
 {
     let low = byte(calls, at) + 256 * byte(calls, at + 1);
     let high = byte(calls, at + 2) + 256 * byte(calls, at + 3);
     (low + 65536 * high) as u32
 }
 
-pub fn load(calls: &[u8], at: usize) -> Coded
+// Eight bytes, low byte first.
+fn number(calls: &[u8], at: usize) -> u64
     requires { ⌜ at + 8 ≤ length (now calls) ⌝ }
+    ensures { λ r. ⌜ r ≡ numberAt (now (calls .entry)) at ⌝ }
+{
+    let low = half(calls, at);
+    let high = half(calls, at + 4);
+    low as u64 + 4294967296 * (high as u64)
+}
+
+pub fn load(calls: &[u8], at: usize) -> Coded
+    requires { ⌜ at + 32 ≤ length (now calls) ⌝ }
     ensures { λ r. ⌜ called r ≡ callAt (now (calls .entry)) at ⌝ }
 {
-    let kind = byte(calls, at);
-    let a = byte(calls, at + 1);
-    let b = byte(calls, at + 2);
-    let c = byte(calls, at + 3);
+    let kind = byte(calls, at + 28);
     Coded {
         kind: kind as u64,
-        a: a as u64,
-        b: b as u64,
-        c: c as u64,
-        id: id(calls, at + 4),
+        a: number(calls, at),
+        b: number(calls, at + 8),
+        c: number(calls, at + 16),
+        id: half(calls, at + 24),
     }
 }

@@ -1,9 +1,9 @@
--- `id`: its four bytes, low first. Assumes nothing.
+-- `half`: its four bytes, low first. Assumes nothing.
 use native.Mathlib.Omega.{arith}
-use Rattle.replay_calls.specs.Coded.{idAt}
+use Rattle.replay_calls.specs.Coded.{halfAt}
 use borrow.Author.Needs.{needs}
-use Rattle.replay_calls.proofs.call.id.Statement.{statement}
-use Rattle.replay_calls.proofs.call.id.Tie as tie
+use Rattle.replay_calls.proofs.call.half.Statement.{statement}
+use Rattle.replay_calls.proofs.call.half.Tie as tie
 
 byte-requires : tie.Need-byte-requires
 byte-requires c κs = search needs
@@ -48,11 +48,11 @@ cast-result : tie.Need-cast-result
 cast-result c = search needs
 
 returns : tie.Need-returns
-unfolding idAt
+unfolding halfAt
 returns c = omega arith
 
-pub id-spec : {M : Type 1} → statement M
-id-spec =
+pub half-spec : {M : Type 1} → statement M
+half-spec =
     tie.close
     (tie.spec
     byte-requires
