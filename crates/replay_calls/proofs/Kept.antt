@@ -10,8 +10,8 @@ use Rattle.replay_calls.specs.Coded.{decoded}
 use Rattle.replay_calls.specs.Answered.{answersTo}
 use Rattle.replay_calls.specs.Kept.{Kept}
 
--- from what `run::play` ensures, where the bytes are a run: a taken founding, then calls of which none starts a new run
-pub run-kept : (m left : Memory) (bs words : List ℕ) (c : Call) (cs : List Call) → decoded bs ≡ c ∷ cs → isRun m c cs ≡ true
-    → left ≡ play m (decoded bs) → words ≡ answersTo m (decoded bs) → Kept m c cs left words
-run-kept m left bs words c cs d run e f =
+-- from what `run::play` ensures, where the bytes are a run: a taken founding or reading, then calls of which none starts a new run
+pub run-kept : (m left : Memory) (images bs words : List ℕ) (c : Call) (cs : List Call) → decoded images bs ≡ c ∷ cs → isRun m c cs ≡ true
+    → left ≡ play m (decoded images bs) → words ≡ answersTo m (decoded images bs) → Kept m c cs left words
+run-kept m left images bs words c cs d run e f =
     record { left-is = e ∙ ap (play m) d; words-are = f ∙ ap (answersTo m) d; promise = promise m c cs run }

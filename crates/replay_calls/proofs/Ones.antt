@@ -1,30 +1,62 @@
 -- One call: its bytes, its words, and the public call of its kind. Assumes nothing.
-use Prim.Native.Nat.{ℕ, _+_, _<_}
-use mathlib.Core.Path.{_≡_, sym, ap, _∙_}
+use Prim.Native.Nat.{ℕ, zero, suc, _+_, _-_, _≤_, _<_, min}
+use mathlib.Core.Path.{_≡_, refl, sym, ap, _∙_}
 use mathlib.Core.Bool.{Bool, cond}
 use mathlib.Core.List.{List, [], _∷_, _++_, append-assoc}
+use native.Mathlib.Nat.{add-sub-cancel-left, le-of-suc-le-suc, not-suc-le-zero, le-trans, min-le-right, zero-min, min-zero, suc-min-suc}
 use native.Mathlib.Numerals.{add-one}
-use lib.ListN.{length, getD, set, take}
-use lib.Seq.{take-suc-set}
+use lib.ListN.{length, getD, set, take, drop, replicate, length-drop, length-replicate}
+use lib.Seq.{length-take-le, take-suc-set}
 use borrow.Author.Tests.{ne-eqb}
-use Rattle.model.specs.Calls.{foundCall, beginCall, deliverCall, lookupCall, verdictCall}
+use Rattle.model.specs.Calls.{foundCall, readCall, beginCall, deliverCall, lookupCall, verdictCall, writeCall}
 use Rattle.model.specs.Run.{step}
 use Rattle.delivery.specs.declared.answer.Answer.{Answer}
 use Rattle.delivery.specs.declared.answer.Step.{Step}
 use Rattle.delivery.specs.declared.answer.Step.the-variants.{Refused, Copied, SentOn, Attached, Notified}
 use Rattle.delivery.specs.Answers.{outcome, stepFields, answerFields}
-use Rattle.engine.specs.Outcomes.{leaves}
-use Rattle.replay_calls.specs.Coded.{callOf, halfAt, numberAt, callAt}
+use Rattle.engine.specs.Outcomes.{leaves, writes}
+use Rattle.replay_calls.specs.Coded.{imageAt, zeros, callOf, halfAt, numberAt}
 use Rattle.replay_calls.specs.Answered.{padded, takenWords, Played, playing, memory}
-use Rattle.replay_calls.specs.Shown.{listed, shown}
+use Rattle.replay_calls.specs.Shown.{fieldsAt, listed, shown}
 use Rattle.replay_calls.specs.declared.answer.Words.{Words}
 
 -- ---- the bytes of a call
 
-pub call-loads : (bs : List ℕ) (at kind a b c id : ℕ) → kind ≡ getD bs (at + 28) 0 → a ≡ numberAt bs at
-    → b ≡ numberAt bs (at + 8) → c ≡ numberAt bs (at + 16) → id ≡ halfAt bs (at + 24) → callOf kind a b c id ≡ callAt bs at
-unfolding callAt
+pub call-loads : (bs : List ℕ) (at kind a b c id : ℕ) → kind ≡ getD bs (at + 28) 0 → a ≡ numberAt bs at → b ≡ numberAt bs (at + 8)
+    → c ≡ numberAt bs (at + 16) → id ≡ halfAt bs (at + 24)
+    → record { kind = kind; a = a; b = b; c = c; id = id } ≡ fieldsAt bs at
 call-loads bs at kind a b c id e₀ e₁ e₂ e₃ e₄ = cc
+
+-- ---- parts of bytes, as far as they reach
+
+take-min : (n : ℕ) (l : List ℕ) → take (min n (length l)) l ≡ take n l
+take-min zero l = rw zero-min refl
+take-min (suc n) [] = rw min-zero refl
+take-min (suc n) (x ∷ l) = rw suc-min-suc (ap (λ (r : List ℕ). x ∷ r) (take-min n l))
+
+drop-min : (n : ℕ) (l : List ℕ) → drop (min n (length l)) l ≡ drop n l
+drop-min zero l = rw zero-min refl
+drop-min (suc n) [] = rw min-zero refl
+drop-min (suc n) (x ∷ l) = rw suc-min-suc (drop-min n l)
+
+take-replicate : (k n : ℕ) → k ≤ n → take {A = ℕ} k (replicate n 0) ≡ replicate k 0
+take-replicate zero n h = refl
+take-replicate (suc k) zero h = absurd (not-suc-le-zero h)
+take-replicate (suc k) (suc n) h = ap (λ (r : List ℕ). 0 ∷ r) (take-replicate k n (le-of-suc-le-suc h))
+
+pub zeros-length : (room bound end : ℕ) → end ≡ min room bound → bound ≤ 65536
+    → end ≡ length (take {A = ℕ} end (replicate 65536 0))
+zeros-length room bound end h l =
+    sym (length-take-le end (replicate 65536 0) (rw (length-replicate, h) (le-trans (min-le-right room bound) l)))
+
+pub image-part : (images : List ℕ) (a b start count : ℕ) → start ≡ min a (length images) → count ≡ min b (length images - start)
+    → take (start + count - start) (drop start images) ≡ imageAt images a b
+unfolding imageAt
+image-part images a b start count h g =
+    rw add-sub-cancel-left
+    (ap (λ (n : ℕ). take n (drop start images)) (g ∙ ap (min b) (sym (length-drop start images)))
+    ∙ take-min b (drop start images)
+    ∙ ap (take b) (ap (λ (n : ℕ). drop n images) h ∙ drop-min a images))
 
 -- ---- the words of an answer
 
@@ -42,6 +74,11 @@ module _ (s t s₁ t₁ : List ℕ) where
       → shown s₁ t₁ (record { refusal = r; first = 0; second = 0; third = 0; fourth = 0 }) ≡ playing (foundCall s t b d K id)
   unfolding playing
   found-words b d K id r e = ap playing e
+
+  pub read-words : (im images : List ℕ) (a b r : ℕ) → im ≡ imageAt images a b → leaves s₁ t₁ (r ∷ []) ≡ readCall s t im
+      → shown s₁ t₁ (record { refusal = r; first = 0; second = 0; third = 0; fourth = 0 }) ≡ playing (readCall s t (imageAt images a b))
+  unfolding playing
+  read-words im images a b r h e = ap playing (e ∙ ap (readCall s t) h)
 
   pub begin-words : (id g r x : ℕ) → leaves s₁ t₁ (r ∷ x ∷ []) ≡ beginCall s t id g
       → shown s₁ t₁ (record { refusal = r; first = x; second = 0; third = 0; fourth = 0 }) ≡ playing (beginCall s t id g)
@@ -65,6 +102,14 @@ module _ (s t : List ℕ) where
   unfolding playing
   verdict-words r x i j b a e f =
       ap (λ (b : ℕ). shown s t (record { refusal = r; first = b; second = x; third = i; fourth = j })) f ∙ ap playing e
+
+  -- the zeros are the first of 65,536
+  pub write-words : (out : List ℕ) (room end r n : ℕ) → end ≡ min room 65536
+      → writes s t out (r ∷ n ∷ []) ≡ writeCall s t (take end (replicate 65536 0))
+      → shown s t (record { refusal = r; first = n; second = 0; third = 0; fourth = 0 }) ≡ playing (writeCall s t (zeros room))
+  unfolding playing zeros
+  write-words out room end r n h e =
+      ap playing (e ∙ ap (writeCall s t) (ap (λ (k : ℕ). take k (replicate 65536 0)) h ∙ take-replicate (min room 65536) 65536 (min-le-right room 65536)))
 
 -- ---- a delivery's answer in words, for each kind
 
@@ -91,32 +136,40 @@ module _ (r : Answer) where
 
 -- ---- the kind decides
 
-module _ (s t : List ℕ) (kind a b c id : ℕ) (x : Played) where
-  by-kind : (k : ℕ) → kind ≡ k → x ≡ playing (step (memory s t) (callOf k a b c id)) → x ≡ playing (step (memory s t) (callOf kind a b c id))
-  by-kind k h e = e ∙ ap (λ (k : ℕ). playing (step (memory s t) (callOf k a b c id))) (sym h)
+module _ (s t images : List ℕ) (kind a b c id : ℕ) (x : Played) where
+  by-kind : (k : ℕ) → kind ≡ k → x ≡ playing (step (memory s t) (callOf images k a b c id)) → x ≡ playing (step (memory s t) (callOf images kind a b c id))
+  by-kind k h e = e ∙ ap (λ (k : ℕ). playing (step (memory s t) (callOf images k a b c id))) (sym h)
 
-  pub kind-found : kind ≡ 0 → x ≡ playing (foundCall s t a b c id) → x ≡ playing (step (memory s t) (callOf kind a b c id))
+  pub kind-found : kind ≡ 0 → x ≡ playing (foundCall s t a b c id) → x ≡ playing (step (memory s t) (callOf images kind a b c id))
   unfolding callOf step
   kind-found h e = by-kind 0 h e
 
-  pub kind-begin : kind ≡ 1 → x ≡ playing (beginCall s t id a) → x ≡ playing (step (memory s t) (callOf kind a b c id))
+  pub kind-begin : kind ≡ 1 → x ≡ playing (beginCall s t id a) → x ≡ playing (step (memory s t) (callOf images kind a b c id))
   unfolding callOf step
   kind-begin h e = by-kind 1 h e
 
-  pub kind-deliver : kind ≡ 2 → x ≡ playing (deliverCall s t a b) → x ≡ playing (step (memory s t) (callOf kind a b c id))
+  pub kind-deliver : kind ≡ 2 → x ≡ playing (deliverCall s t a b) → x ≡ playing (step (memory s t) (callOf images kind a b c id))
   unfolding callOf step
   kind-deliver h e = by-kind 2 h e
 
-  pub kind-lookup : kind ≡ 3 → x ≡ playing (lookupCall s t a b) → x ≡ playing (step (memory s t) (callOf kind a b c id))
+  pub kind-lookup : kind ≡ 3 → x ≡ playing (lookupCall s t a b) → x ≡ playing (step (memory s t) (callOf images kind a b c id))
   unfolding callOf step
   kind-lookup h e = by-kind 3 h e
 
-  pub kind-verdict : kind ≡ 4 → x ≡ playing (verdictCall s t) → x ≡ playing (step (memory s t) (callOf kind a b c id))
+  pub kind-verdict : kind ≡ 4 → x ≡ playing (verdictCall s t) → x ≡ playing (step (memory s t) (callOf images kind a b c id))
   unfolding callOf step
   kind-verdict h e = by-kind 4 h e
 
-  pub kind-other : (kind ≡ 0 → ⊥) → (kind ≡ 1 → ⊥) → (kind ≡ 2 → ⊥) → (kind ≡ 3 → ⊥) → (kind ≡ 4 → ⊥)
-      → x ≡ playing (lookupCall s t 0 0) → x ≡ playing (step (memory s t) (callOf kind a b c id))
+  pub kind-read : kind ≡ 5 → x ≡ playing (readCall s t (imageAt images a b)) → x ≡ playing (step (memory s t) (callOf images kind a b c id))
   unfolding callOf step
-  kind-other h₀ h₁ h₂ h₃ h₄ e =
-      rw (ne-eqb kind 0 h₀, ne-eqb kind 1 h₁, ne-eqb kind 2 h₂, ne-eqb kind 3 h₃, ne-eqb kind 4 h₄) e
+  kind-read h e = by-kind 5 h e
+
+  pub kind-write : kind ≡ 6 → x ≡ playing (writeCall s t (zeros a)) → x ≡ playing (step (memory s t) (callOf images kind a b c id))
+  unfolding callOf step
+  kind-write h e = by-kind 6 h e
+
+  pub kind-other : (kind ≡ 0 → ⊥) → (kind ≡ 1 → ⊥) → (kind ≡ 2 → ⊥) → (kind ≡ 3 → ⊥) → (kind ≡ 4 → ⊥)
+      → (kind ≡ 5 → ⊥) → (kind ≡ 6 → ⊥) → x ≡ playing (lookupCall s t 0 0) → x ≡ playing (step (memory s t) (callOf images kind a b c id))
+  unfolding callOf step
+  kind-other h₀ h₁ h₂ h₃ h₄ h₅ h₆ e =
+      rw (ne-eqb kind 0 h₀, ne-eqb kind 1 h₁, ne-eqb kind 2 h₂, ne-eqb kind 3 h₃, ne-eqb kind 4 h₄, ne-eqb kind 5 h₅, ne-eqb kind 6 h₆) e

@@ -2,8 +2,8 @@
 ghost use mathlib.Core.Path.{_≡_};
 ghost use Prim.Native.Nat.{_+_, _≤_};
 ghost use lib.ListN.{length};
-ghost use Rattle.replay_calls.specs.Coded.{halfAt, numberAt, callAt};
-ghost use Rattle.replay_calls.specs.Shown.{called};
+ghost use Rattle.replay_calls.specs.Coded.{halfAt, numberAt};
+ghost use Rattle.replay_calls.specs.Shown.{fieldsAt};
 use judging::header::byte;
 
 pub struct Coded {
@@ -36,7 +36,7 @@ fn number(calls: &[u8], at: usize) -> u64
 
 pub fn load(calls: &[u8], at: usize) -> Coded
     requires { ⌜ at + 32 ≤ length (now calls) ⌝ }
-    ensures { λ r. ⌜ called r ≡ callAt (now (calls .entry)) at ⌝ }
+    ensures { λ r. ⌜ r ≡ fieldsAt (now (calls .entry)) at ⌝ }
 {
     let kind = byte(calls, at + 28);
     Coded {

@@ -1,8 +1,10 @@
 // One call, played by the public call of its kind.
 ghost use mathlib.Core.Path.{_≡_};
-ghost use Rattle.model.specs.Calls.{foundCall, beginCall, deliverCall, lookupCall, verdictCall};
+ghost use Prim.Native.Nat.{min};
+ghost use Rattle.model.specs.Calls.{foundCall, readCall, beginCall, deliverCall, lookupCall, verdictCall, writeCall};
 ghost use Rattle.model.specs.Run.{step};
 ghost use Rattle.delivery.specs.Answers.{answerFields};
+ghost use Rattle.replay_calls.specs.Coded.{imageAt, zeros};
 ghost use Rattle.replay_calls.specs.Answered.{padded, takenWords, playing, memory};
 ghost use Rattle.replay_calls.specs.Shown.{called, listed, shown};
 use crate::answer::Words;
@@ -13,6 +15,8 @@ use delivery::answer::Step;
 use engine::beginning;
 use engine::delivering;
 use engine::founding;
+use engine::reading;
+use engine::writing;
 
 fn found(state: &mut [u64], tables: &mut [u8], base: u64, digits: u64, depth: u64, id: u32) -> Words
     ensures { λ r. ⌜ shown (now (state .exit)) (now (tables .exit)) r ≡ playing (foundCall (now (state .entry)) (now (tables .entry)) base digits depth id) ⌝ }
@@ -105,8 +109,56 @@ fn verdict(state: &[u64], tables: &[u8]) -> Words
     }
 }
 
-pub fn play(state: &mut [u64], tables: &mut [u8], r: Coded) -> Words
-    ensures { λ w. ⌜ shown (now (state .exit)) (now (tables .exit)) w ≡ playing (step (memory (now (state .entry)) (now (tables .entry))) (called r)) ⌝ }
+// The number, or the bound where that is less.
+fn at_most(a: u64, bound: usize) -> usize
+    ensures { λ r. ⌜ r ≡ min a bound ⌝ }
+{
+    if a < bound as u64 {
+        return a as usize;
+    }
+    bound
+}
+
+// The image of b bytes from byte a on, as far as the bytes reach.
+fn image(images: &[u8], a: u64, b: u64) -> &[u8]
+    ensures { λ r. ⌜ now r ≡ imageAt (now (images .entry)) a b ⌝ }
+{
+    let start = at_most(a, images.len());
+    let end = start + at_most(b, images.len() - start);
+    &images[start..end]
+}
+
+fn read(state: &mut [u64], tables: &mut [u8], images: &[u8], a: u64, b: u64) -> Words
+    ensures { λ r. ⌜ shown (now (state .exit)) (now (tables .exit)) r ≡ playing (readCall (now (state .entry)) (now (tables .entry)) (imageAt (now (images .entry)) a b)) ⌝ }
+{
+    let refusal = reading::read(state, tables, image(images, a, b));
+    Words {
+        refusal,
+        first: 0,
+        second: 0,
+        third: 0,
+        fourth: 0,
+    }
+}
+
+// Writes into zeros that are not kept.
+fn write(state: &[u64], tables: &[u8], room: u64) -> Words
+    ensures { λ r. ⌜ shown (now (state .entry)) (now (tables .entry)) r ≡ playing (writeCall (now (state .entry)) (now (tables .entry)) (zeros room)) ⌝ }
+{
+    let mut out = [0u8; 65536];
+    let end = at_most(room, 65536);
+    let r = writing::write(state, tables, &mut out[..end]);
+    Words {
+        refusal: r.refusal,
+        first: r.length,
+        second: 0,
+        third: 0,
+        fourth: 0,
+    }
+}
+
+pub fn play(state: &mut [u64], tables: &mut [u8], images: &[u8], r: Coded) -> Words
+    ensures { λ w. ⌜ shown (now (state .exit)) (now (tables .exit)) w ≡ playing (step (memory (now (state .entry)) (now (tables .entry))) (called (now (images .entry)) r)) ⌝ }
 {
     if r.kind == 0 {
         return found(state, tables, r.a, r.b, r.c, r.id);
@@ -122,6 +174,12 @@ pub fn play(state: &mut [u64], tables: &mut [u8], r: Coded) -> Words
     }
     if r.kind == 4 {
         return verdict(state, tables);
+    }
+    if r.kind == 5 {
+        return read(state, tables, images, r.a, r.b);
+    }
+    if r.kind == 6 {
+        return write(state, tables, r.a);
     }
     lookup(state, tables, 0, 0)
 }

@@ -1,5 +1,6 @@
 -- `play`: the kind decides. Assumes nothing.
-use Rattle.replay_calls.proofs.Ones.{kind-found, kind-begin, kind-deliver, kind-lookup, kind-verdict, kind-other}
+use Rattle.replay_calls.proofs.Ones.{kind-found, kind-begin, kind-deliver, kind-lookup, kind-verdict, kind-read, kind-write, kind-other}
+use native.Mathlib.Omega.{arith}
 use borrow.Author.Needs.{needs}
 use Rattle.replay_calls.proofs.one.play.Statement.{statement}
 use Rattle.replay_calls.proofs.one.play.Tie as tie
@@ -64,8 +65,8 @@ same-length-10 c = search needs
 returns-5 : tie.Need-returns-5
 returns-5 c = search kind-verdict
 
-lookup-requires-2 : tie.Need-lookup-requires-2
-lookup-requires-2 c κs = search needs
+read-requires : tie.Need-read-requires
+read-requires c κs = search needs
 
 same-length-11 : tie.Need-same-length-11
 same-length-11 c = search needs
@@ -74,7 +75,31 @@ same-length-12 : tie.Need-same-length-12
 same-length-12 c = search needs
 
 returns-6 : tie.Need-returns-6
-returns-6 c = search kind-other
+returns-6 c = search kind-read
+
+write-requires : tie.Need-write-requires
+write-requires c κs = search needs
+
+same-length-13 : tie.Need-same-length-13
+same-length-13 c = search needs
+
+same-length-14 : tie.Need-same-length-14
+same-length-14 c = search needs
+
+returns-7 : tie.Need-returns-7
+returns-7 c = search kind-write
+
+lookup-requires-2 : tie.Need-lookup-requires-2
+lookup-requires-2 c κs = search needs
+
+same-length-15 : tie.Need-same-length-15
+same-length-15 c = search needs
+
+same-length-16 : tie.Need-same-length-16
+same-length-16 c = search needs
+
+returns-8 : tie.Need-returns-8
+returns-8 c = search kind-other
 
 pub play-spec : {M : Type 1} → statement M
 play-spec =
@@ -100,7 +125,15 @@ play-spec =
     same-length-9
     same-length-10
     returns-5
-    lookup-requires-2
+    read-requires
     same-length-11
     same-length-12
-    returns-6)
+    returns-6
+    write-requires
+    same-length-13
+    same-length-14
+    returns-7
+    lookup-requires-2
+    same-length-15
+    same-length-16
+    returns-8)

@@ -12,17 +12,17 @@ use Rattle.replay_calls.proofs.run.play.Statement.{statement}
 use Rattle.replay_calls.proofs.run.play.Tie as tie
 
 abbrev Inv-loop : tie.InvT-loop
-Inv-loop state₀ tables₀ calls out₀ n end₀ k₀ state tables out end k =
+Inv-loop state₀ tables₀ images calls out₀ n end₀ k₀ state tables out end k =
     (k ≤ n)
     × (end ≡ 5 * k)
-    × (memory state tables ≡ book.play (memory state₀ tables₀) (firstCalls k calls))
-    × (take end out ≡ answersTo (memory state₀ tables₀) (firstCalls k calls))
+    × (memory state tables ≡ book.play (memory state₀ tables₀) (firstCalls k images calls))
+    × (take end out ≡ answersTo (memory state₀ tables₀) (firstCalls k images calls))
     × (length state ≡ length state₀)
     × (length tables ≡ length tables₀)
     × (length out ≡ length out₀)
 
 abbrev μ-loop : tie.MeasureT-loop
-μ-loop state₀ tables₀ calls out₀ n end₀ k₀ state tables out end k = n - k
+μ-loop state₀ tables₀ images calls out₀ n end₀ k₀ state tables out end k = n - k
 
 loop-holds : tie.Need-loop-holds Inv-loop μ-loop
 loop-holds c = (omega arith, omega arith, search no-calls, search no-answers, refl, refl, refl)
