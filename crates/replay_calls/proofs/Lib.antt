@@ -2,3 +2,4 @@
 pub mod Ones
 pub mod Runs
 pub mod Kept
+pub mod Forms

@@ -1,11 +1,12 @@
 -- Calls as bytes. A call is 32 bytes: three numbers of eight bytes each, an id in four, the kind in one, and three bytes that say nothing.
 -- Numbers and ids have their low byte first. Bytes that do not fill another 32 are no call. The images that are read stand in bytes of
 -- their own.
-use Prim.Native.Nat.{ℕ, zero, suc, _+_, _*_, _/_, min}
+use Prim.Native.Nat.{ℕ, zero, suc, _+_, _*_, _/_, _%_, min}
 use mathlib.Core.Bool.{cond}
 use mathlib.Core.List.{List, [], _∷_, _++_}
 use lib.Dec.{eqb}
 use lib.ListN.{length, getD, take, drop, replicate}
+use Rattle.model.specs.Image.{fourBytes}
 use Rattle.model.specs.Run.{Call, found, read, begin, deliver, lookup, verdict, write}
 
 -- the image of b bytes from byte a on, as far as the bytes reach
@@ -47,3 +48,13 @@ firstCalls (suc k) images bs = firstCalls k images bs ++ (callAt images bs (32 *
 -- all calls
 unfoldable pub decoded : List ℕ → List ℕ → List Call
 decoded images bs = firstCalls (length bs / 32) images bs
+
+-- ---- the other way
+
+abbrev pub numberBytes : ℕ → List ℕ
+numberBytes n = fourBytes (n % 4294967296) ++ fourBytes (n / 4294967296)
+
+-- the 32 bytes of a call
+abbrev pub callBytes : ℕ → ℕ → ℕ → ℕ → ℕ → List ℕ
+callBytes kind a b c id =
+    numberBytes a ++ (numberBytes b ++ (numberBytes c ++ (fourBytes id ++ (kind ∷ 0 ∷ 0 ∷ 0 ∷ []))))

@@ -1,0 +1,105 @@
+-- Every call has a form in bytes: its 32 bytes are decoded to it, and a writing into any memory is answered as one into zeros. Assumes
+-- nothing.
+use Prim.Native.Nat.{ℕ, _+_, _*_, _/_, _%_, _^_, _≤_, _<_, min}
+use mathlib.Core.Path.{_≡_, refl, sym, ap, _∙_}
+use mathlib.Core.Bool.{Bool, true, false, cond, not}
+use mathlib.Core.Logic.{⊎-elim}
+use mathlib.Core.List.{List, [], _∷_}
+use native.Mathlib.Omega.{arith}
+use lib.Dec.{eqb, ltb}
+use lib.ListN.{length, length-replicate}
+use borrow.Author.Tests.{lt-ltb, le-ltb}
+use Rattle.model.specs.Memory.{Memory}
+use Rattle.model.specs.Sound.{sound}
+use Rattle.model.specs.Image.{imageOf}
+use Rattle.model.specs.Refusals.{refuse, memoryShort, someNotInSystem, stateRefusal, writeRefusal}
+use Rattle.model.specs.Calls.{refused, taken, unlessRefused, writeCall}
+use Rattle.model.specs.Run.{step, write}
+use Rattle.model.proofs.Bools.{le-or-lt}
+use Rattle.model.proofs.Sound.{Sound}
+use Rattle.model.proofs.Taken.{state-taken}
+use Rattle.model.proofs.Sections.{image-short}
+use Rattle.replay_calls.specs.Coded.{zeros, callOf, halfAt, numberAt, callAt, firstCalls, decoded, callBytes}
+use Rattle.replay_calls.specs.Answered.{playing}
+
+-- ---- the bytes of a call
+
+-- four bytes make the number that they are of
+half-back : (v : ℕ) → v < 4294967296 → v % 256 + 256 * (v / 256 % 256) + 65536 * (v / 65536 % 256 + 256 * (v / 16777216 % 256)) ≡ v
+half-back v l =
+    let e : v / 65536 ≡ v / 256 / 256 = omega arith in
+    let f : v / 16777216 ≡ v / 65536 / 256 = omega arith in
+    let z : v / 16777216 % 256 ≡ v / 16777216 = omega arith in
+    let y : v / 65536 ≡ 256 * (v / 65536 / 256) + v / 65536 % 256 = omega arith in
+    let x : v / 256 ≡ 256 * (v / 256 / 256) + v / 256 % 256 = omega arith in
+    let w : v ≡ 256 * (v / 256) + v % 256 = omega arith in
+    combine v (v % 256) (v / 256) (v / 256 % 256) (v / 65536) (v / 65536 % 256) (v / 16777216) (v / 16777216 % 256) w
+    (x ∙ ap (λ (n : ℕ). 256 * n + v / 256 % 256) (sym e)) (y ∙ ap (λ (n : ℕ). 256 * n + v / 65536 % 256) (sym f)) z
+  where
+    combine : (v r q r₁ q₁ r₂ q₂ r₃ : ℕ) → v ≡ 256 * q + r → q ≡ 256 * q₁ + r₁ → q₁ ≡ 256 * q₂ + r₂ → r₃ ≡ q₂
+        → r + 256 * r₁ + 65536 * (r₂ + 256 * r₃) ≡ v
+    combine v r q r₁ q₁ r₂ q₂ r₃ a b c d = omega arith
+
+halves : ℕ → ℕ → ℕ
+halves low high =
+    low % 256 + 256 * (low / 256 % 256) + 65536 * (low / 65536 % 256 + 256 * (low / 16777216 % 256))
+    + 4294967296 * (high % 256 + 256 * (high / 256 % 256) + 65536 * (high / 65536 % 256 + 256 * (high / 16777216 % 256)))
+
+number-back : (n : ℕ) → n < 2 ^ 64 → halves (n % 4294967296) (n / 4294967296) ≡ n
+unfolding halves
+number-back n l =
+    let g : n < 18446744073709551616 = l in
+    omega (arith, half-back (n % 4294967296) (omega arith), half-back (n / 4294967296) (omega arith))
+
+same-fields : (images : List ℕ) (kind a b c id a₁ b₁ c₁ id₁ : ℕ) → a ≡ a₁ → b ≡ b₁ → c ≡ c₁ → id ≡ id₁
+    → callOf images kind a b c id ∷ [] ≡ callOf images kind a₁ b₁ c₁ id₁ ∷ []
+same-fields images kind a b c id a₁ b₁ c₁ id₁ ea eb ec ei = cc
+
+-- a call's bytes are decoded to it
+pub call-back : (images : List ℕ) (kind a b c id : ℕ) → a < 2 ^ 64 → b < 2 ^ 64 → c < 2 ^ 64 → id < 2 ^ 32
+    → decoded images (callBytes kind a b c id) ≡ callOf images kind a b c id ∷ []
+unfolding decoded firstCalls callAt numberAt halfAt halves
+call-back images kind a b c id ha hb hc hi =
+    same-fields images kind _ _ _ _ a b c id (number-back a ha) (number-back b hb) (number-back c hc) (half-back id hi)
+
+-- ---- writing into any memory
+
+state-same : (s t : List ℕ) (x y : ℕ) → (Sound s t → x ≡ y) → stateRefusal s t x ≡ stateRefusal s t y
+unfolding stateRefusal refuse
+state-same s t x y h = go (memoryShort s t) (sound s t) (λ e. h (state-taken s t 0 e .0))
+  where
+    go : (p q : Bool) → (refuse p 1 (refuse (not q) 2 0) ≡ 0 → x ≡ y) → refuse p 1 (refuse (not q) 2 x) ≡ refuse p 1 (refuse (not q) 2 y)
+    go true q k = refl
+    go false false k = refl
+    go false true k = k refl
+
+-- an image has at most 65,535 bytes, so more room than 65,536 is no other test
+room-same : (room n : ℕ) → n ≤ 65535 → ltb (min room 65536) n ≡ ltb room n
+room-same room n h =
+    ⊎-elim (λ l. le-ltb (min room 65536) n (omega (arith, l)) ∙ sym (le-ltb room n l))
+    (λ l. lt-ltb (min room 65536) n (omega (arith, l)) ∙ sym (lt-ltb room n l)) (le-or-lt n room)
+
+module _ (s t out : List ℕ) where
+  refusal-same : writeRefusal s t out ≡ writeRefusal s t (zeros (length out))
+  unfolding writeRefusal zeros
+  refusal-same =
+      state-same s t _ _ (λ S.
+      ap (λ (b : Bool). refuse (someNotInSystem s) 15 (refuse b 16 0))
+      (sym (room-same (length out) (length (imageOf s t)) (image-short s t S))
+      ∙ ap (λ (n : ℕ). ltb n (length (imageOf s t))) (sym (length-replicate {A = ℕ} (min (length out) 65536) 0))))
+
+-- what it wrote is no part of what is played
+answer-same : (s t o o₁ p p₁ fields : List ℕ) (n k : ℕ) → n ≡ k
+    → playing (unlessRefused n (refused s t o 1) (taken s t o₁ fields)) ≡ playing (unlessRefused k (refused s t p 1) (taken s t p₁ fields))
+unfolding playing unlessRefused refused taken
+answer-same s t o o₁ p p₁ fields n k e =
+    go (eqb n 0) ∙ ap (λ (n : ℕ). playing (unlessRefused n (refused s t p 1) (taken s t p₁ fields))) e
+  where
+    go : (b : Bool) → playing (cond b (taken s t o₁ fields) (refused s t o 1 n)) ≡ playing (cond b (taken s t p₁ fields) (refused s t p 1 n))
+    go true = refl
+    go false = refl
+
+pub any-writing : (m : Memory) (out : List ℕ) → playing (step m (write out)) ≡ playing (step m (write (zeros (length out))))
+unfolding step writeCall
+any-writing m out =
+    answer-same (m .state) (m .tables) out _ (zeros (length out)) _ _ _ _ (refusal-same (m .state) (m .tables) out)
