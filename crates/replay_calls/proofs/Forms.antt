@@ -1,20 +1,21 @@
--- Every call has a form in bytes: its 32 bytes are decoded to it, and a writing into any memory is answered as one into zeros. Assumes
--- nothing.
-use Prim.Native.Nat.{ℕ, _+_, _*_, _/_, _%_, _^_, _≤_, _<_, min}
+-- Every call has a form in bytes: its 32 bytes behind any others are decoded to it, and a writing into any memory is answered as one into
+-- zeros. Assumes nothing.
+use Prim.Native.Nat.{ℕ, zero, suc, _+_, _*_, _/_, _%_, _^_, _≤_, _<_, min}
 use mathlib.Core.Path.{_≡_, refl, sym, ap, _∙_}
 use mathlib.Core.Bool.{Bool, true, false, cond, not}
 use mathlib.Core.Logic.{⊎-elim}
-use mathlib.Core.List.{List, [], _∷_}
+use mathlib.Core.List.{List, [], _∷_, _++_}
 use native.Mathlib.Omega.{arith}
 use lib.Dec.{eqb, ltb}
-use lib.ListN.{length, length-replicate}
+use lib.ListN.{length, getD, length-append, length-replicate, List·getD-append}
+use lib.Seq.{getD-append-add}
 use borrow.Author.Tests.{lt-ltb, le-ltb}
 use Rattle.model.specs.Memory.{Memory}
 use Rattle.model.specs.Sound.{sound}
 use Rattle.model.specs.Image.{imageOf}
 use Rattle.model.specs.Refusals.{refuse, memoryShort, someNotInSystem, stateRefusal, writeRefusal}
 use Rattle.model.specs.Calls.{refused, taken, unlessRefused, writeCall}
-use Rattle.model.specs.Run.{step, write}
+use Rattle.model.specs.Run.{Call, step, write}
 use Rattle.model.proofs.Bools.{le-or-lt}
 use Rattle.model.proofs.Sound.{Sound}
 use Rattle.model.proofs.Taken.{state-taken}
@@ -55,12 +56,65 @@ same-fields : (images : List ℕ) (kind a b c id a₁ b₁ c₁ id₁ : ℕ) →
     → callOf images kind a b c id ∷ [] ≡ callOf images kind a₁ b₁ c₁ id₁ ∷ []
 same-fields images kind a b c id a₁ b₁ c₁ id₁ ea eb ec ei = cc
 
--- a call's bytes are decoded to it
-pub call-back : (images : List ℕ) (kind a b c id : ℕ) → a < 2 ^ 64 → b < 2 ^ 64 → c < 2 ^ 64 → id < 2 ^ 32
-    → decoded images (callBytes kind a b c id) ≡ callOf images kind a b c id ∷ []
-unfolding decoded firstCalls callAt numberAt halfAt halves
-call-back images kind a b c id ha hb hc hi =
+call-at-start : (images : List ℕ) (kind a b c id : ℕ) → a < 2 ^ 64 → b < 2 ^ 64 → c < 2 ^ 64 → id < 2 ^ 32
+    → callAt images (callBytes kind a b c id) 0 ∷ [] ≡ callOf images kind a b c id ∷ []
+unfolding callAt numberAt halfAt halves
+call-at-start images kind a b c id ha hb hc hi =
     same-fields images kind _ _ _ _ a b c id (number-back a ha) (number-back b hb) (number-back c hc) (half-back id hi)
+
+module _ (bs x : List ℕ) where
+  byte-before : (at : ℕ) → at < length bs → getD (bs ++ x) at 0 ≡ getD bs at 0
+  byte-before at h = List·getD-append bs x 0 at h
+
+  half-before : (at : ℕ) → at + 4 ≤ length bs → halfAt (bs ++ x) at ≡ halfAt bs at
+  unfolding halfAt
+  half-before at h =
+      rw (byte-before at (omega arith), byte-before (at + 1) (omega arith), byte-before (at + 2) (omega arith), byte-before (at + 3) (omega arith)) refl
+
+  number-before : (at : ℕ) → at + 8 ≤ length bs → numberAt (bs ++ x) at ≡ numberAt bs at
+  unfolding numberAt
+  number-before at h = rw (half-before at (omega arith), half-before (at + 4) (omega arith)) refl
+
+  call-before : (images : List ℕ) (at : ℕ) → at + 32 ≤ length bs → callAt images (bs ++ x) at ≡ callAt images bs at
+  unfolding callAt
+  call-before images at h =
+      rw (byte-before (at + 28) (omega arith), number-before at (omega arith), number-before (at + 8) (omega arith), number-before (at + 16) (omega arith), half-before (at + 24) (omega arith)) refl
+
+  calls-before : (images : List ℕ) (k : ℕ) → 32 * k ≤ length bs → firstCalls k images (bs ++ x) ≡ firstCalls k images bs
+  unfolding firstCalls
+  calls-before images zero h = refl
+  calls-before images (suc k) h =
+      rw (calls-before images k (omega arith), call-before images (32 * k) (omega arith)) refl
+
+  byte-behind : (at i : ℕ) → at ≡ length bs + i → getD (bs ++ x) at 0 ≡ getD x i 0
+  byte-behind at i e = ap (λ (n : ℕ). getD (bs ++ x) n 0) e ∙ getD-append-add bs x i 0
+
+  half-behind : (at i : ℕ) → at ≡ length bs + i → halfAt (bs ++ x) at ≡ halfAt x i
+  unfolding halfAt
+  half-behind at i e =
+      rw (byte-behind at i e, byte-behind (at + 1) (i + 1) (omega arith), byte-behind (at + 2) (i + 2) (omega arith), byte-behind (at + 3) (i + 3) (omega arith)) refl
+
+  number-behind : (at i : ℕ) → at ≡ length bs + i → numberAt (bs ++ x) at ≡ numberAt x i
+  unfolding numberAt
+  number-behind at i e = rw (half-behind at i e, half-behind (at + 4) (i + 4) (omega arith)) refl
+
+  call-behind : (images : List ℕ) (at : ℕ) → at ≡ length bs → callAt images (bs ++ x) at ≡ callAt images x 0
+  unfolding callAt
+  call-behind images at e =
+      rw (byte-behind (at + 28) 28 (omega arith), number-behind at 0 (omega arith), number-behind (at + 8) 8 (omega arith), number-behind (at + 16) 16 (omega arith), half-behind (at + 24) 24 (omega arith)) refl
+
+  last-call : (images : List ℕ) → length bs % 32 ≡ 0 → length x ≡ 32 → decoded images (bs ++ x) ≡ decoded images bs ++ (callAt images x 0 ∷ [])
+  unfolding decoded firstCalls
+  last-call images whole long =
+      let e : length (bs ++ x) / 32 ≡ suc (length bs / 32) = omega (arith, length-append bs x) in
+      rw (e, calls-before images (length bs / 32) (omega arith), call-behind images (32 * (length bs / 32)) (omega arith)) refl
+
+-- the 32 bytes of one call more are decoded to it
+pub call-back : (images bs : List ℕ) (kind a b c id : ℕ) → length bs % 32 ≡ 0 → a < 2 ^ 64 → b < 2 ^ 64 → c < 2 ^ 64 → id < 2 ^ 32
+    → decoded images (bs ++ callBytes kind a b c id) ≡ decoded images bs ++ (callOf images kind a b c id ∷ [])
+call-back images bs kind a b c id whole ha hb hc hi =
+    last-call bs (callBytes kind a b c id) images whole refl
+    ∙ ap (λ (l : List Call). decoded images bs ++ l) (call-at-start images kind a b c id ha hb hc hi)
 
 -- ---- writing into any memory
 

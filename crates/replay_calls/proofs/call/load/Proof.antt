@@ -1,6 +1,5 @@
 -- `load`: number by number. Assumes nothing.
 use Rattle.replay_calls.proofs.Ones.{call-loads}
-use native.Mathlib.Omega.{arith}
 use borrow.Author.Needs.{needs}
 use Rattle.replay_calls.proofs.call.load.Statement.{statement}
 use Rattle.replay_calls.proofs.call.load.Tie as tie

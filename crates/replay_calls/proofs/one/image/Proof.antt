@@ -1,6 +1,5 @@
 -- `image`: a part of the images, as far as they reach. Assumes nothing.
 use Rattle.replay_calls.proofs.Ones.{image-part}
-use native.Mathlib.Omega.{arith}
 use borrow.Author.Needs.{needs}
 use Rattle.replay_calls.proofs.one.image.Statement.{statement}
 use Rattle.replay_calls.proofs.one.image.Tie as tie

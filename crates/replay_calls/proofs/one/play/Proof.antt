@@ -1,6 +1,5 @@
 -- `play`: the kind decides. Assumes nothing.
 use Rattle.replay_calls.proofs.Ones.{kind-found, kind-begin, kind-deliver, kind-lookup, kind-verdict, kind-read, kind-write, kind-other}
-use native.Mathlib.Omega.{arith}
 use borrow.Author.Needs.{needs}
 use Rattle.replay_calls.proofs.one.play.Statement.{statement}
 use Rattle.replay_calls.proofs.one.play.Tie as tie

@@ -1,6 +1,5 @@
 -- `read`: the words of the public call. Assumes nothing.
 use Rattle.replay_calls.proofs.Ones.{read-words}
-use native.Mathlib.Omega.{arith}
 use borrow.Author.Needs.{needs}
 use Rattle.replay_calls.proofs.one.read.Statement.{statement}
 use Rattle.replay_calls.proofs.one.read.Tie as tie

@@ -1,6 +1,5 @@
 -- `write`: the words of the public call, on as many zeros. Assumes nothing.
 use Rattle.replay_calls.proofs.Ones.{zeros-length, write-words}
-use native.Mathlib.Omega.{arith}
 use borrow.Author.Needs.{needs}
 use Rattle.replay_calls.proofs.one.write.Statement.{statement}
 use Rattle.replay_calls.proofs.one.write.Tie as tie
