@@ -6,7 +6,7 @@ use std::process::{self, Command, Stdio};
 use std::{env, fs, thread};
 
 use trials::engine::{Engine, Second};
-use trials::random::{run, Rng};
+use trials::random::{run, seeds, Rng};
 use trials::script::{Call, Line};
 
 const SENTENCES: [&str; 17] = [
@@ -193,7 +193,7 @@ fn replay(script: &str, folder: &Folder) -> String {
 
 #[test]
 fn random_scripts_print_what_the_second_engine_answers() {
-    for seed in 0..150 {
+    for seed in seeds(0, 150) {
         let folder = Folder::new(seed);
         let (script, _) = run(&mut Rng::new(seed), 200);
         let mut expected = Expected::new();
