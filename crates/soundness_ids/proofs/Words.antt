@@ -1,21 +1,24 @@
 -- Ids as words of the state: a valid id fits 32 bits. Assumes nothing.
 use Prim.Native.Nat.{ℕ, _+_, _-_, _*_, _^_, _≤_, _<_}
-use mathlib.Core.Path.{_≡_, refl, sym, ap, _∙_}
+use mathlib.Core.Path.{_≡_, refl, sym, ap, ap₂, subst, _∙_}
+use mathlib.Core.Logic.{⊎-elim}
 use mathlib.Core.Bool.{Bool, true, false, not}
 use mathlib.Core.List.{List}
-use native.Mathlib.Nat.{lt-of-lt-of-le}
+use native.Mathlib.Nat.{lt-of-lt-of-le, eq-or-lt-of-le}
 use native.Mathlib.Omega.{arith}
 use lib.Pow.{pow-mono}
-use borrow.Author.Tests.{eq-eqb, ne-eqb}
-use Rattle.model.specs.Loops.{allBelow}
+use lib.Dec.{eqb}
+use lib.ListN.{length, getD, set, replicate, length-set}
+use lib.Seq.{getD-set-same, getD-set-other}
+use Rattle.model.specs.Loops.{allBelow, node}
 use Rattle.model.specs.Ids.{validId}
 use Rattle.model.specs.Memory.{base, digits, nodeCount, idOf}
 use Rattle.model.specs.Sound.{hasValidId, idDiffers, hasNewId}
 use Rattle.model.proofs.Bools.{is-false}
 use Rattle.model.proofs.Ids.{valid-lt, power-bits}
-use Rattle.model.proofs.Loops.{all-goes, all-false, all-ends}
+use Rattle.model.proofs.Loops.{all-same, all-goes, all-leaves}
 use Rattle.model.proofs.Nodes.{nodes-at}
-use Rattle.soundness_ids.specs.Checked.{Identified, IsNode}
+use Rattle.soundness_ids.specs.Checked.{Identified, IsNode, InRow, differsAt}
 
 pub valid-fits : (b d id : ℕ) → d ≤ 8 → validId b d id ≡ true → id < 2 ^ 32
 valid-fits b d id l e =
@@ -30,19 +33,44 @@ pub word-fits : (s : List ℕ) → Identified s → (x : ℕ) → IsNode s x →
 word-fits s w x h =
     valid-fits (base s) (digits s) (idOf s x) (w .ranged .digits) (nodes-at (nodeCount s) (hasValidId s) (w .ids) x (h .first) (h .last))
 
--- ---- the loop over the nodes before x: a and b are their words as the code has read them
+-- ---- the ids in one row
 
-pub new-goes : (s : List ℕ) (x k a b : ℕ) → allBelow k (idDiffers s x) ≡ true → a ≡ idOf s (k + 1) → b ≡ idOf s x → (a ≡ b → ⊥)
-    → allBelow (k + 1) (idDiffers s x) ≡ true
-new-goes s x k a b e p q h =
-    all-goes k (idDiffers s x) (idDiffers s x k) e refl
-    (ap (λ (t : Bool). not (not t)) (ne-eqb (idOf s (k + 1)) (idOf s x) (λ g. h (p ∙ g ∙ sym q))))
+-- the ids of the first k nodes stand in the row
+pub record RowBelow (s ids : List ℕ) (k : ℕ) : Type 0 where
+  pub long : length ids ≡ 64
+  pub each : (e : ℕ) → e < k → getD ids e 0 ≡ idOf s (e + 1)
 
-pub new-leaves : (s : List ℕ) (x k a b : ℕ) → k < x - 1 → a ≡ idOf s (k + 1) → b ≡ idOf s x → a ≡ b → false ≡ hasNewId s x
-unfolding hasNewId
-new-leaves s x k a b l p q e =
-    sym (all-false (x - 1) (idDiffers s x) k l (ap not (eq-eqb (idOf s (k + 1)) (idOf s x) (sym p ∙ e ∙ q))))
+pub row-none : (s : List ℕ) → RowBelow s (replicate 64 0) 0
+row-none s = record { long = refl; each = λ e l. omega arith }
 
-pub new-ends : (s : List ℕ) (x k : ℕ) → allBelow k (idDiffers s x) ≡ true → k ≤ x - 1 → x - 1 ≤ k → true ≡ hasNewId s x
-unfolding hasNewId
-new-ends s x k = all-ends (x - 1) (idDiffers s x) k
+pub row-goes : (s ids : List ℕ) (k id : ℕ) → RowBelow s ids k → k < 64 → id ≡ idOf s (k + 1) → RowBelow s (set ids k id) (k + 1)
+row-goes s ids k id r l e = record {
+  long = length-set ids k id ∙ r .long;
+  each = λ p h. ⊎-elim (here p) (before p) (eq-or-lt-of-le (omega arith));
+}
+  where
+    here : (p : ℕ) → p ≡ k → getD (set ids k id) p 0 ≡ idOf s (p + 1)
+    here p q = subst (λ (p : ℕ). getD (set ids k id) p 0 ≡ idOf s (p + 1)) (sym q) (getD-set-same ids k id 0 (omega (arith, r .long)) ∙ e)
+
+    before : (p : ℕ) → p < k → getD (set ids k id) p 0 ≡ idOf s (p + 1)
+    before p q = getD-set-other ids k p id 0 (omega arith) ∙ r .each p q
+
+pub row-ends : (s ids : List ℕ) (k n : ℕ) → RowBelow s ids k → n ≡ nodeCount s → k ≤ n → n ≤ k → InRow s ids
+row-ends s ids k n r e l h = record { each = λ p q. r .each p (omega arith) }
+
+-- the test of a place in the row is the book's test of its node
+module _ (s ids : List ℕ) (w : InRow s ids) (k n : ℕ) (e : n ≡ nodeCount s) (l : k < n) (r : Bool) (q : r ≡ allBelow k (differsAt ids k)) where
+  place-new : r ≡ hasNewId s (k + 1)
+  unfolding hasNewId
+  place-new =
+      let g : k + 1 - 1 ≡ k = omega arith in
+      q
+      ∙ all-same k (differsAt ids k) (idDiffers s (k + 1))
+      (λ p h. ap₂ (λ (a b : ℕ). not (eqb a b)) (w .each p (omega arith)) (w .each k (omega arith)))
+      ∙ ap (λ (m : ℕ). allBelow m (idDiffers s (k + 1))) (sym g)
+
+  pub row-leaves : not r ≡ true → false ≡ allBelow (nodeCount s) (node (hasNewId s))
+  row-leaves = all-leaves (nodeCount s) (node (hasNewId s)) k r (omega arith) place-new
+
+  pub row-new : allBelow k (node (hasNewId s)) ≡ true → not r ≡ false → allBelow (k + 1) (node (hasNewId s)) ≡ true
+  row-new f = all-goes k (node (hasNewId s)) r f place-new

@@ -4,11 +4,12 @@ ghost use Rattle.model.specs.Loops.{allBelow, node};
 ghost use Rattle.model.specs.Memory.{nodeCount};
 ghost use Rattle.model.specs.Sound.{hasValidId, hasNewId};
 ghost use Rattle.records.specs.Loaded.{SettingsOf};
-ghost use Rattle.soundness_ids.specs.Checked.{Ranged, IsNode};
+ghost use Rattle.soundness_ids.specs.Checked.{Ranged, Identified, IsNode};
 use records::record;
 use records::settings::Settings;
 
 pub mod node;
+mod row;
 pub mod zero;
 
 const LARGEST: u64 = 0xffff_ffff;
@@ -42,31 +43,15 @@ pub fn valid(state: &[u64], s: Settings) -> bool
     true
 }
 
-// No node before x has its id.
-fn is_new(state: &[u64], x: usize) -> bool
-    requires { ⌜ Ranged (now state) ⌝ }
-    requires { ⌜ IsNode (now state) x ⌝ }
-    ensures { λ r. ⌜ r ≡ hasNewId (now (state .entry)) x ⌝ }
-{
-    let id = record::id(state, x);
-    let mut k = 0;
-    while k < x - 1 {
-        if record::id(state, k + 1) == id {
-            return false;
-        }
-        k += 1;
-    }
-    true
-}
-
 pub fn different(state: &[u64], s: Settings) -> bool
-    requires { ⌜ Ranged (now state) ⌝ }
+    requires { ⌜ Identified (now state) ⌝ }
     requires { ⌜ SettingsOf (now state) s ⌝ }
     ensures { λ r. ⌜ r ≡ allBelow (nodeCount (now (state .entry))) (node (hasNewId (now (state .entry)))) ⌝ }
 {
+    let ids = row::of(state, s);
     let mut k = 0;
     while k < s.nodes {
-        if !is_new(state, k + 1) {
+        if !row::is_new(&ids, k) {
             return false;
         }
         k += 1;

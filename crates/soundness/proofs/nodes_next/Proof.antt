@@ -12,7 +12,9 @@ returns : tie.Need-returns
 returns c = search and-leaves
 
 different-requires : tie.Need-different-requires
-different-requires c κs = search needs
+different-requires c κs =
+    let p = c .before .before .before .before .pre in
+    (identified-of _ _ (p .0) (c .before .valid .ensures) (c .if1 .left), p .1 .0)
 
 returns-2 : tie.Need-returns-2
 returns-2 c = search (and-goes, and-leaves)
