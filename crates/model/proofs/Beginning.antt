@@ -1,21 +1,18 @@
 -- A taken beginning leaves a sound state: one node more, copying, with its own entries only. Assumes nothing.
 use Prim.Native.Nat.{ℕ, _+_, _*_, _≤_, _<_}
-use mathlib.Core.Path.{_≡_, sym, ap, ap₂, subst, subst₂, subst₃, _∙_}
+use mathlib.Core.Path.{_≡_, sym, ap, subst, subst₂, subst₃, _∙_}
 use mathlib.Core.Logic.{_≢_, _⊎_, inl, inr, ⊎-elim}
-use mathlib.Core.Bool.{true, _&&_, _||_}
+use mathlib.Core.Bool.{true, _||_}
 use mathlib.Core.List.{List}
 use native.Mathlib.Nat.{eq-or-lt-of-le}
 use native.Mathlib.Omega.{arith}
 use lib.Dec.{eqb}
 use lib.ListN.{length, getD, set, length-set}
 use lib.Seq.{getD-set-same, getD-set-other}
-use borrow.Author.Tests.{eq-eqb}
 use Rattle.model.specs.Ids.{validId}
 use Rattle.model.specs.Memory.{tablesLength, base, digits, depth, nodeCount, idOf, isInSystem, copying, tableStart, tableOf}
 use Rattle.model.specs.Tables.{ownTable}
-use Rattle.model.specs.Sound.{spareZero}
 use Rattle.model.specs.Join.{joiningNode, begun}
-use Rattle.model.proofs.Bools.{and-intro}
 use Rattle.model.proofs.Memory.{Stored, node-length, node-stored, node-outside, stored-length, stored-outside, stored-same, stored-other}
 use Rattle.model.proofs.Status.{IsNode, StatusOk, is-copying}
 use Rattle.model.proofs.Ids.{InRange}
@@ -170,19 +167,12 @@ module _ (s t : List ℕ) (id gateway : ℕ) (S : Sound s t) (c : CanBegin s id 
         rest = record { level = stored .level; pending = stored .pending; notified = stored .notified };
       })
 
-  spare : (y : ℕ) → IsNode s₁ y → spareZero s₁ y ≡ true
-  spare y n = ⊎-elim newest older (which y n)
+  spare : (y : ℕ) → IsNode s₁ y → (k : ℕ) → 6 ≤ k → k < 8 → getD s₁ (8 * y + k) 0 ≡ 0
+  spare y n k l h = ⊎-elim newest (λ o. same-record y k o h ∙ S .spare y o k l h) (which y n)
     where
-      at : (y k : ℕ) → y ≡ nodeCount s + 1 → 6 ≤ k → k < 8 → getD s₁ (8 * y + k) 0 ≡ 0
-      at y k e l h =
+      newest : y ≡ nodeCount s + 1 → getD s₁ (8 * y + k) 0 ≡ 0
+      newest e =
           same (8 * y + k) (omega arith) (inr (omega arith)) ∙ S .rest (8 * y + k) (omega arith) (omega (arith, c .room))
-
-      newest : y ≡ nodeCount s + 1 → spareZero s₁ y ≡ true
-      newest e = and-intro _ _ (eq-eqb _ 0 (at y 6 e (omega arith) (omega arith))) (eq-eqb _ 0 (at y 7 e (omega arith) (omega arith)))
-
-      older : IsNode s y → spareZero s₁ y ≡ true
-      older o =
-          ap₂ (λ (a b : ℕ). eqb a 0 && eqb b 0) (same-record y 6 o (omega arith)) (same-record y 7 o (omega arith)) ∙ S .spare y o
 
   long : Long s₁ t₁
   unfolding s₁ t₁ begun s₀

@@ -18,7 +18,7 @@ use Rattle.model.proofs.Bools.{true-or-false, not-both}
 use Rattle.model.proofs.Memory.{table-length}
 use Rattle.model.proofs.Loops.{all-at, all-of, any-found, count-some, count-none, first-holds, first-whole, first-short, first-fails}
 use Rattle.model.proofs.Nodes.{nodes-at, nodes-of, no-node-at}
-use Rattle.model.proofs.Ids.{suffix-self, qualified-of, valid-digit}
+use Rattle.model.proofs.Ids.{qualified-of, valid-digit}
 use Rattle.model.proofs.Tables.{size-le, size-filled, size-least, entry-length, entry-at}
 use Rattle.model.proofs.Status.{IsNode, is-node, is-node-of}
 use Rattle.model.proofs.Sound.{Sound, table-fits}
@@ -32,12 +32,6 @@ counts s x i j y n q =
     let w : y ≡ y - 1 + 1 = omega (arith, n .low) in
     count-some (nodeCount s) (node (qualifies s x i j)) (y - 1) (omega (arith, n .low, n .high))
     (subst (λ (y : ℕ). qualifies s x i j y ≡ true) w q)
-
--- "H being how many members qualify, the owner included": in its own entries the owner counts
-pub owner-counts : (s : List ℕ) (x i : ℕ) → IsNode s x → i ≤ digits s → 1 ≤ howMany s x i (digitOf (idOf s x) i)
-owner-counts s x i n h =
-    counts s x i (digitOf (idOf s x) i) x n
-    (qualified-of (digits s) (idOf s x) (idOf s x) i (digitOf (idOf s x) i) (rw suffix-self h) refl)
 
 length-none : (xs : List ℕ) → length xs ≡ 0 → xs ≡ []
 length-none [] e = refl

@@ -1,15 +1,15 @@
 -- Every taken delivery leaves a sound state. Assumes nothing.
 use Prim.Native.Nat.{ℕ, _+_, _≤_}
 use mathlib.Core.Path.{_≡_, refl, sym, ap, subst}
-use mathlib.Core.Bool.{Bool, true, false, cond, _||_}
+use mathlib.Core.Bool.{Bool, true, false, cond}
 use mathlib.Core.List.{List}
 use lib.Dec.{eqb}
-use Rattle.model.specs.Memory.{idOf, statusOf, inSystem, copying, waiting, notifying, isInSystem, isAttached, withNode, tableOf, withTable}
+use Rattle.model.specs.Memory.{idOf, statusOf, copying, waiting, notifying, isInSystem, isAttached, withNode, tableOf, withTable}
 use Rattle.model.specs.Sound.{suffixOf}
 use Rattle.model.specs.Join.{Delivery, joiningNode, roomAtSuffix, firstAtSuffix, outstanding, deliverCopying, deliverSentOn, deliverAttached, deliverWaiting, deliverNotifying, delivery, delivered}
 use Rattle.model.specs.Learning.{learnTable}
 use Rattle.model.specs.Refusals.{waitHeld}
-use Rattle.model.proofs.Status.{IsNode}
+use Rattle.model.proofs.Status.{IsNode, attached-by}
 use Rattle.model.proofs.Sound.{Sound}
 use Rattle.model.proofs.Sender.{Sending, copies, waits, notifies, sending, Receiver, receiver}
 use Rattle.model.proofs.Delivering.{Next, copy, wait, asking-ok, first-node}
@@ -70,13 +70,10 @@ module _ (s t : List ℕ) (S : Sound s t) (x y : ℕ) (nx : IsNode s x) (ny : Is
       cond (eqb n copying) (deliverCopying s x y (tableOf t x) (tableOf t y))
       (cond (eqb n waiting) (deliverWaiting s x y (tableOf t x) (tableOf t y)) (deliverNotifying s x y (tableOf t x) (tableOf t y)))) e
 
-  away-is : (n : ℕ) → statusOf s x ≡ n → isAttached s x ≡ (eqb n inSystem || eqb n notifying)
-  away-is n e = ap (λ (v : ℕ). eqb v inSystem || eqb v notifying) e
-
   leaves : Sending s x y → Leaves (delivery s t x y)
   unfolding Leaves delivered deliverNotifying
-  leaves (copies e g o) = subst Leaves (sym (delivery-is copying e)) (copied-ok (away-is copying e))
-  leaves (waits e g i o) = subst Leaves (sym (delivery-is waiting e)) (waited-ok (away-is waiting e))
+  leaves (copies e g o) = subst Leaves (sym (delivery-is copying e)) (copied-ok (attached-by s x copying e))
+  leaves (waits e g i o) = subst Leaves (sym (delivery-is waiting e)) (waited-ok (attached-by s x waiting e))
   leaves (notifies e h o) =
       subst Leaves (sym (delivery-is notifying e)) (notified-ok s t S x y nx ny (r .other) e o (r .attached))
 

@@ -1,5 +1,5 @@
 -- The founded state is sound, for all settings in range and every valid id. Assumes nothing.
-use Prim.Native.Nat.{ℕ, _+_, _≤_, _<_}
+use Prim.Native.Nat.{ℕ, _+_, _*_, _≤_, _<_}
 use mathlib.Core.Path.{_≡_, refl, sym, ap₂, subst, subst₃, _∙_}
 use mathlib.Core.Logic.{_≢_, _⊎_, inl, inr}
 use mathlib.Core.Bool.{true}
@@ -11,9 +11,8 @@ use borrow.Author.Tests.{eq-eqb}
 use Rattle.model.specs.Ids.{validId}
 use Rattle.model.specs.Memory.{stateLength, tablesLength, base, digits, depth, nodeCount, idOf, isInSystem, zeroed, tableStart, tableOf}
 use Rattle.model.specs.Tables.{ownTable}
-use Rattle.model.specs.Sound.{spareZero, sound}
+use Rattle.model.specs.Sound.{sound}
 use Rattle.model.specs.Join.{withSettings, inSystemNode, founded}
-use Rattle.model.proofs.Bools.{and-intro}
 use Rattle.model.proofs.Memory.{Stored, node-length, node-stored, node-outside, stored-length, stored-outside, stored-same, zeroed-length, zeroed-within}
 use Rattle.model.proofs.Status.{IsNode, StatusOk, is-in-system}
 use Rattle.model.proofs.Ids.{InRange}
@@ -151,7 +150,7 @@ module _ (s t : List ℕ) (b d K id : ℕ) (long : Long s t) (range : InRange b 
       pending = stored .pending;
       notified = stored .notified;
     }));
-    spare = λ x i. subst (λ (x : ℕ). spareZero s₁ x ≡ true) (only x i) (and-intro _ _ (eq-eqb _ 0 (zero 14 (omega arith) (inr (omega arith)) (omega arith))) (eq-eqb _ 0 (zero 15 (omega arith) (inr (omega arith)) (omega arith))));
+    spare = λ x i k l h. zero (8 * x + k) (omega arith) (inr (omega (arith, only x i))) (omega (arith, only x i));
     head = λ p l h. zero p l (inl h) (omega arith);
     rest = λ p l h. zero p (omega (arith, l)) (inr (omega (arith, settings .count, l))) h;
     tables-rest = λ p l h. tables-zero p (omega (arith, settings .count, l)) h;

@@ -15,7 +15,7 @@ use Rattle.model.proofs.Bools.{not-both}
 use Rattle.model.proofs.Memory.{node-stored, table-length, stored-length, stored-same, stored-other}
 use Rattle.model.proofs.Tables.{Grows, grows-refl, grows-trans}
 use Rattle.model.proofs.Learning.{learn-grows, learn-table-grows}
-use Rattle.model.proofs.Status.{IsNode}
+use Rattle.model.proofs.Status.{IsNode, attached-by}
 use Rattle.model.proofs.Sound.{Sound, node-fits, table-fits}
 use Rattle.model.proofs.Own.{own-long}
 use Rattle.model.proofs.Later.{Later, node-later}
@@ -157,12 +157,9 @@ module _ (s t : List ℕ) (S : Sound s t) (x y : ℕ) (c : CanDeliver s x y) whe
   unfolding deliverNotifying
   does = go sends
     where
-      away : (n : ℕ) → statusOf s x ≡ n → isAttached s x ≡ (eqb n inSystem || eqb n notifying)
-      away n e = ap (λ (v : ℕ). eqb v inSystem || eqb v notifying) e
-
       go : Sending s x y → Does s t x y (delivery s t x y)
-      go (copies e g o) = subst (Does s t x y) (sym (delivery-is s t S x y nx ny to copying e)) (copied-does s t x y (away copying e))
-      go (waits e g i o) = subst (Does s t x y) (sym (delivery-is s t S x y nx ny to waiting e)) (waited-does s t x y (away waiting e))
+      go (copies e g o) = subst (Does s t x y) (sym (delivery-is s t S x y nx ny to copying e)) (copied-does s t x y (attached-by s x copying e))
+      go (waits e g i o) = subst (Does s t x y) (sym (delivery-is s t S x y nx ny to waiting e)) (waited-does s t x y (attached-by s x waiting e))
       go (notifies e h o) =
           subst (Does s t x y) (sym (delivery-is s t S x y nx ny to notifying e))
           (notifies-does s t x y _ _ _ (deliverNotifying s x y (tableOf t x) (tableOf t y)) refl

@@ -3,7 +3,7 @@
 use Prim.Native.Nat.{ℕ, zero, suc, _+_, _*_, _/_, _%_, _^_, _≤_, _<_}
 use mathlib.Core.Path.{_≡_, refl, sym, ap, ap₂, subst, _∙_}
 use mathlib.Core.Bool.{true}
-use native.Mathlib.Nat.{pow-suc, pow-succ', one-le-pow, mod-one, mod-lt, mod-eq-of-lt, div-eq-of-lt, div-lt-iff-lt-mul, zero-lt-suc, le-refl, le-trans, le-of-lt, le-of-eq, le-antisymm, le-step, lt-suc-self, lt-of-lt-of-le, lt-irrefl, one-mul, mul-suc}
+use native.Mathlib.Nat.{pow-suc, pow-succ', one-le-pow, mod-one, mod-lt, mod-eq-of-lt, div-eq-of-lt, div-lt-iff-lt-mul, zero-lt-suc, le-refl, le-trans, le-of-eq, le-antisymm, le-step, lt-suc-self, lt-of-lt-of-le, one-mul, mul-suc}
 use native.Mathlib.Decide.{le-ind}
 use native.Mathlib.Numerals.{add-one, lt-of-le-of-ne}
 use native.Mathlib.Omega.{arith}
@@ -58,7 +58,7 @@ pub digit-lt : (x i : ℕ) → digitOf x i < 16
 unfolding digitOf
 digit-lt x i = mod-lt (x / 16 ^ i) (zero-lt-suc 15)
 
-low-lt : (x i : ℕ) → lowDigits x i < 16 ^ i
+pub low-lt : (x i : ℕ) → lowDigits x i < 16 ^ i
 unfolding lowDigits
 low-lt x i = mod-lt x (power-pos i)
 
@@ -103,10 +103,6 @@ pub low-at : (x y i : ℕ) → lowDigits x i ≡ lowDigits y i → (k : ℕ) →
 low-at x y i e k l =
     le-ind (λ (m : ℕ). lowDigits x m ≡ lowDigits y m → digitOf x k ≡ digitOf y k) (low-digit x y k) (λ m g h q. h (low-rest x y m q)) i l e
 
--- fewer low digits agree where more do
-pub low-fewer : (x y i k : ℕ) → k ≤ i → lowDigits x i ≡ lowDigits y i → lowDigits x k ≡ lowDigits y k
-low-fewer x y i k l e = low-of-digits x y k (λ m g. low-at x y i e m (lt-of-lt-of-le g l))
-
 -- ---- the common suffix
 
 pub suffix-le : (d x y : ℕ) → commonSuffix d x y ≤ d
@@ -146,13 +142,6 @@ suffix-self d x = le-antisymm (suffix-le d x x) (suffix-of-low d x x d (le-refl 
 pub suffix-three : (d x y z i : ℕ) → i ≤ commonSuffix d x y → i ≤ commonSuffix d x z → i ≤ commonSuffix d y z
 suffix-three d x y z i l g =
     suffix-of-low d y z i (le-trans l (suffix-le d x y)) (sym (suffix-low d x y i l) ∙ suffix-low d x z i g)
-
-pub suffix-least : (d x y z : ℕ) → commonSuffix d x y < commonSuffix d y z → commonSuffix d x z ≡ commonSuffix d x y
-suffix-least d x y z l =
-    le-antisymm
-    (le-of-not-lt (λ g. lt-irrefl (commonSuffix d x y)
-    (suffix-three d z x y _ (lt-of-lt-of-le g (le-of-eq (suffix-sym d x z))) (lt-of-lt-of-le l (le-of-eq (suffix-sym d y z))))))
-    (suffix-three d y x z (commonSuffix d x y) (le-of-eq (suffix-sym d x y)) (le-of-lt l))
 
 -- ---- valid ids
 
@@ -197,14 +186,6 @@ pub qualified-of : (d x y i j : ℕ) → i ≤ commonSuffix d x y → digitOf y 
 unfolding qualified
 qualified-of d x y i j l e =
     and-intro (eqb (lowDigits y i) (lowDigits x i)) (eqb (digitOf y i) j) (eq-eqb _ _ (sym (suffix-low d x y i l))) (eq-eqb _ _ e)
-
--- it shares more than i digits exactly when j is the owner's digit
-pub qualified-owner : (d x y i j : ℕ) → qualified x y i j ≡ true → i < commonSuffix d x y → digitOf x i ≡ j
-qualified-owner d x y i j e l = suffix-digit d x y i l ∙ qualified-digit x y i j e
-
-pub qualified-more : (d x y i j : ℕ) → i < d → qualified x y i j ≡ true → digitOf x i ≡ j → i < commonSuffix d x y
-qualified-more d x y i j l e q =
-    suffix-of-low d x y (suc i) l (low-join x y i (q ∙ sym (qualified-digit x y i j e)) (qualified-low x y i j e))
 
 -- the next hop from u to z shares one digit more with z
 pub next-hop : (d u v z : ℕ) → commonSuffix d u z < d → qualified u v (commonSuffix d u z) (digitOf z (commonSuffix d u z)) ≡ true

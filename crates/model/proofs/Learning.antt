@@ -1,10 +1,9 @@
 -- Laws of learning: a learned node is appended where it may be, and nothing else changes. Assumes nothing.
-use Prim.Native.Nat.{ℕ, suc, _*_, _≤_, _<_}
+use Prim.Native.Nat.{ℕ, suc, _≤_, _<_}
 use mathlib.Core.Path.{_≡_, refl, ap, ap₂}
 use mathlib.Core.Logic.{_≢_, _⊎_, inl, inr, ⊎-elim}
 use mathlib.Core.Bool.{Bool, true, false, cond, _&&_, _||_}
 use mathlib.Core.List.{List}
-use native.Mathlib.Omega.{arith}
 use lib.Dec.{leb, eqb}
 use lib.ListN.{getD}
 use borrow.Author.Tests.{leb-true, ltb-true, eqb-false, not-true}
@@ -15,7 +14,7 @@ use Rattle.model.specs.Sound.{suffixOf}
 use Rattle.model.specs.Learning.{floorOf, roomFor, learnAt, learn, learnPlace, learnTable}
 use Rattle.model.proofs.Bools.{and-left, and-right, true-or-false}
 use Rattle.model.proofs.Loops.{each-keeps}
-use Rattle.model.proofs.Tables.{Grows, grows-refl, grows-trans, append-away, append-grows}
+use Rattle.model.proofs.Tables.{Grows, grows-refl, grows-trans, append-grows}
 
 ruleset parts = (and-left, and-right)
 
@@ -49,16 +48,6 @@ module _ (s : List ℕ) (u i : ℕ) (T : List ℕ) where
 
   pub learn-at-grows : Grows T (learnAt s u i T)
   learn-at-grows = ⊎-elim (λ a. rw (a .is) (append-grows (depth s) T i (digitOf (idOf s u) i) u (a .room))) (λ e. rw e (grows-refl T)) learn-at-cases
-
-  -- "from u's floor": a place of a level below it is as it was
-  pub learn-at-below : (p : ℕ) → p < 64 * floorOf s u → getD (learnAt s u i T) p 0 ≡ getD T p 0
-  learn-at-below p h =
-      ⊎-elim
-      (λ a.
-      let f : floorOf s u ≤ i = a .floor in
-      rw (a .is) (append-away (depth s) T i (digitOf (idOf s u) i) u p (omega arith)))
-      (λ e. ap (λ (l : List ℕ). getD l p 0) e)
-      learn-at-cases
 
 module _ (s : List ℕ) (x u : ℕ) (T : List ℕ) where
   pub learn-grows : Grows T (learn s x u T)

@@ -26,7 +26,7 @@ use Rattle.model.proofs.Memory.{zeroed-length, zeroed-within, table-len
 use Rattle.model.proofs.Founding.{Settings, settings-length, settings-stored, settings-outside}
 use Rattle.model.proofs.Status.{IsNode, is-in-system}
 use Rattle.model.proofs.Sound.{Long, Sound}
-use Rattle.model.proofs.Tables.{entry-length, entry-at, entry-same, entry-none, holds-none, gap-rest, append-length, append-entry, append-other}
+use Rattle.model.proofs.Tables.{entry-length, entry-at, entry-none, holds-none, gap-rest, append-length, append-entry, append-apart}
 use Rattle.model.proofs.Rules.{Entries, Addable, gap-free, append-entries}
 use Rattle.model.proofs.Picked.{picked, Origin, picked-length, picked-origin, picked-first}
 
@@ -347,8 +347,8 @@ module _ (im s : List ℕ) (R : Readable im) (W : Words im s) where
         → entry (depth s) T′ i′ j′ ≡ picked (suc r) (inEntry im x i′ j′) (recNeighbor im)
     unfolding T′
     elsewhere i′ j′ hi hj ne =
-        entry-same (depth s) T′ T i′ j′ (slots-fit T′ T′-long i′ j′ hi hj) (slots-fit T T-long i′ j′ hi hj)
-        (append-other (depth s) T i j u (range .depth-most) (omega (arith, range .base-most, ok .digit)) (omega (arith, range .base-most)) room ne)
+        append-apart (depth s) T i j u (range .depth-most) (omega (arith, range .base-most, ok .digit)) (omega (arith, range .base-most)) room
+        (slots-fit T T-long i′ j′ hi hj) ne
         ∙ L .lists x i′ j′ (ok .owner) hi hj
         ∙ picked-more x i′ j′
         (back-false (inEntry im x i′ j′ r) false
@@ -526,9 +526,7 @@ module _ (s t im : List ℕ) (long : Long s t) (R : Readable im) where
       pending = zero-at x n 4 (omega arith) (omega arith);
       notified = zero-at x n 5 (omega arith) (omega arith);
     });
-    spare =
-        λ x n.
-        and-intro _ _ (eq-eqb _ 0 (zero-at x n 6 (omega arith) (omega arith))) (eq-eqb _ 0 (zero-at x n 7 (omega arith) (omega arith)));
+    spare = λ x n k l. zero-at x n k (omega arith);
     head = λ p l h. W .zero p l (omega (arith, h)) (λ x n. omega (arith, h, n .low));
     rest = λ p l h. W .zero p (omega (arith, l)) h (λ x n. omega (arith, l, n .high));
     tables-rest = L .rest;

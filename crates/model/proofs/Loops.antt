@@ -6,7 +6,7 @@ use mathlib.Core.Path.{_≡_, refl, sym, ap, ap₂, subst, fun-ext, _∙_}
 use mathlib.Core.Logic.{_⊎_, inl, inr}
 use mathlib.Core.Bool.{Bool, true, false, not, cond, _&&_, _||_, and-false, or-true}
 use mathlib.Core.List.{List, [], _++_}
-use native.Mathlib.Nat.{add-zero, le-of-suc-le-suc, le-refl, le-suc, le-antisymm, eq-or-lt-of-le, lt-suc-self, le-step, lt-irrefl, lt-of-not-le, lt-of-lt-of-le}
+use native.Mathlib.Nat.{le-of-suc-le-suc, le-refl, le-suc, le-antisymm, eq-or-lt-of-le, lt-suc-self, le-step, lt-irrefl, lt-of-not-le, lt-of-lt-of-le}
 use native.Mathlib.Decide.{le-ind}
 use native.Mathlib.Numerals.{add-one, add-one-le, lt-of-le-of-ne}
 use native.Mathlib.Omega.{arith}
@@ -219,9 +219,6 @@ count-none (suc n) f h = rw (h n (omega arith), count-none n f (λ k l. h k (ome
 pub count-hit : (i : ℕ) (f : ℕ → Bool) (r : Bool) (x y : ℕ) → x ≡ countBelow i f → r ≡ f i → r ≡ true → y ≡ x + 1 → y ≡ countBelow (i + 1) f
 count-hit i f r x y e q h g = g ∙ ap₂ (λ (n : ℕ) (b : Bool). n + cond b 1 0) e (sym h ∙ q) ∙ sym (count-step i f)
 
-pub count-miss : (i : ℕ) (f : ℕ → Bool) (r : Bool) (x y : ℕ) → x ≡ countBelow i f → r ≡ f i → r ≡ false → y ≡ x → y ≡ countBelow (i + 1) f
-count-miss i f r x y e q h g = g ∙ sym (add-zero x) ∙ ap₂ (λ (n : ℕ) (b : Bool). n + cond b 1 0) e (sym h ∙ q) ∙ sym (count-step i f)
-
 pub count-ends : (n : ℕ) (f : ℕ → Bool) (i x : ℕ) → x ≡ countBelow i f → i ≤ n → n ≤ i → x ≡ countBelow n f
 count-ends n f i x = at-end (λ (m : ℕ). x ≡ countBelow m f)
 
@@ -258,16 +255,9 @@ module _ {ℓ} {A : Type ℓ} where
 
 -- ---- joinBelow
 
-pub join-zero : (f : ℕ → List ℕ) → [] ≡ joinBelow 0 f
-unfolding joinBelow
-join-zero f = refl
-
 pub join-step : (i : ℕ) (f : ℕ → List ℕ) (x y : List ℕ) → x ≡ joinBelow i f → y ≡ x ++ f i → y ≡ joinBelow (i + 1) f
 unfolding joinBelow
 join-step i f x y e q = rw add-one (q ∙ ap (λ (l : List ℕ). l ++ f i) e)
-
-pub join-ends : (n : ℕ) (f : ℕ → List ℕ) (i : ℕ) (x : List ℕ) → x ≡ joinBelow i f → i ≤ n → n ≤ i → x ≡ joinBelow n f
-join-ends n f i x = at-end (λ (m : ℕ). x ≡ joinBelow m f)
 
 -- ---- two loops that agree at every index are equal
 

@@ -7,7 +7,6 @@ use mathlib.Core.Bool.{Bool, true, false}
 use mathlib.Core.List.{List}
 use native.Mathlib.Decide.{decLt, ℕ-discrete}
 use native.Mathlib.Omega.{arith}
-use lib.Dec.{eqb}
 use lib.ListN.{length, getD, set, length-set}
 use lib.Seq.{getD-set-other}
 use borrow.Author.Tests.{eqb-true, not-false}
@@ -16,7 +15,7 @@ use Rattle.model.specs.Memory.{stateLength, tablesLength, base, digits, 
 use Rattle.model.specs.Tables.{slotPlace, slotAt, entrySize, append}
 use Rattle.model.specs.Join.{withSettings}
 use Rattle.model.specs.Image.{imBase, imDigits, imDepth, imNodes, imId, imRecords, recNode, recLevel, recDigit, recNeighbor, loadId, loadRecord, loaded}
-use Rattle.model.proofs.Bools.{and-left, and-right, true-or-false}
+use Rattle.model.proofs.Bools.{true-or-false}
 use Rattle.model.proofs.Loops.{each-step, each-keeps}
 use Rattle.model.proofs.Memory.{zeroed-length, zeroed-within, table-set}
 use Rattle.model.proofs.Founding.{settings-length, settings-outside}
@@ -191,15 +190,12 @@ module _ (s t : List ℕ) (S : Sound s t) (settled : (x : ℕ) → IsNode s x �
   rest-zero (is-notifying e r) c l h = absurd (omega (arith, sym e ∙ status-zero))
 
   pub words-zero : (c : ℕ) → 1 ≤ c → c < 8 → getD s (8 * x + c) 0 ≡ 0
-  words-zero c l h = go (ℕ-discrete c 1) (decLt c 6) (ℕ-discrete c 6)
+  words-zero c l h = go (ℕ-discrete c 1) (decLt c 6)
     where
-      go : Dec (c ≡ 1) → Dec (c < 6) → Dec (c ≡ 6) → getD s (8 * x + c) 0 ≡ 0
-      go (yes e) b d = ap (λ (c : ℕ). getD s (8 * x + c) 0) e ∙ status-zero
-      go (no f) (yes g) d = rest-zero (S .statuses x n) c (omega arith) g
-      go (no f) (no g) (yes e) = ap (λ (c : ℕ). getD s (8 * x + c) 0) e ∙ eqb-true _ 0 (and-left _ _ (S .spare x n))
-      go (no f) (no g) (no k) =
-          let e : c ≡ 7 = omega arith in
-          ap (λ (c : ℕ). getD s (8 * x + c) 0) e ∙ eqb-true _ 0 (and-right (eqb (getD s (8 * x + 6) 0) 0) _ (S .spare x n))
+      go : Dec (c ≡ 1) → Dec (c < 6) → getD s (8 * x + c) 0 ≡ 0
+      go (yes e) d = ap (λ (c : ℕ). getD s (8 * x + c) 0) e ∙ status-zero
+      go (no f) (yes g) = rest-zero (S .statuses x n) c (omega arith) g
+      go (no f) (no g) = S .spare x n c (omega arith) h
 
 module _ (im s t : List ℕ) (S : Sound s t) (P : Pictures im s t) (settled : (x : ℕ) → IsNode s x → isInSystem s x ≡ true)
     (s′ : List ℕ) (room : stateLength ≤ length s′) where

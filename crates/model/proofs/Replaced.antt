@@ -1,9 +1,9 @@
 -- A step that replaces one node's record and two tables leaves a sound state if the new record and tables keep their rules.
 -- Assumes nothing.
 use Prim.Native.Nat.{ℕ, _+_, _*_, _≤_, _<_}
-use mathlib.Core.Path.{_≡_, sym, ap, ap₂, subst, subst₃, _∙_}
+use mathlib.Core.Path.{_≡_, sym, ap, subst, subst₃, _∙_}
 use mathlib.Core.Logic.{_≢_, _⊎_, inl, inr}
-use mathlib.Core.Bool.{true, _&&_, _||_}
+use mathlib.Core.Bool.{true, _||_}
 use mathlib.Core.List.{List}
 use native.Mathlib.Decide.{ℕ-discrete, decLt}
 use native.Mathlib.Omega.{arith}
@@ -11,7 +11,6 @@ use lib.Dec.{eqb}
 use lib.ListN.{length, getD}
 use Rattle.model.specs.Ids.{validId}
 use Rattle.model.specs.Memory.{tablesLength, base, digits, depth, nodeCount, Node, idOf, isAttached, isInSystem, withNode, tableStart, tableOf, withTable}
-use Rattle.model.specs.Sound.{spareZero}
 use Rattle.model.proofs.Memory.{node-length, node-stored, node-outside, stored-length, stored-outside, stored-same, stored-other}
 use Rattle.model.proofs.Status.{IsNode, StatusOk}
 use Rattle.model.proofs.Ids.{InRange}
@@ -142,13 +141,9 @@ module _ (s t : List ℕ) (x y : ℕ) (r : Node) (Tx Ty : List ℕ) (S : Sound s
   status z n (no e) = status-later s s₁ l z n (agree-kept x s s₁ a z e) (S .statuses z n)
 
   -- the spare words, of x's record too
-  spare : (z : ℕ) → IsNode s z → Dec (z ≡ x) → spareZero s₁ z ≡ true
-  spare z n (no e) =
-      ap₂ (λ (a b : ℕ). eqb a 0 && eqb b 0) (agree-record x s s₁ a z 6 e (omega arith)) (agree-record x s s₁ a z 7 e (omega arith))
-      ∙ S .spare z n
-  spare z n (yes e) =
-      ap₂ (λ (a b : ℕ). eqb a 0 && eqb b 0) (a .words (8 * z + 6) (inr (omega arith))) (a .words (8 * z + 7) (inr (omega arith)))
-      ∙ S .spare z n
+  spare : (z : ℕ) → IsNode s z → Dec (z ≡ x) → (k : ℕ) → 6 ≤ k → k < 8 → getD s₁ (8 * z + k) 0 ≡ 0
+  spare z n (no e) k l h = agree-record x s s₁ a z k e h ∙ S .spare z n k l h
+  spare z n (yes e) k l h = a .words (8 * z + k) (inr (omega arith)) ∙ S .spare z n k l h
 
   valid : (z : ℕ) → IsNode s z → validId (base s₁) (digits s₁) (idOf s₁ z) ≡ true
   unfolding s₁

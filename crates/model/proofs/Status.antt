@@ -14,6 +14,10 @@ use Rattle.model.proofs.Nodes.{nodes-at, nodes-of}
 
 ruleset parts = (and-left, and-right)
 
+-- whether x is attached, by the number of its status
+pub attached-by : (s : List ℕ) (x n : ℕ) → statusOf s x ≡ n → isAttached s x ≡ (eqb n inSystem || eqb n notifying)
+attached-by s x n = ap (λ (v : ℕ). eqb v inSystem || eqb v notifying)
+
 -- x is the number of a node
 pub record IsNode (s : List ℕ) (x : ℕ) : Type 0 where
   pub low : 1 ≤ x

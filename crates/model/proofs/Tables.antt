@@ -12,7 +12,7 @@ use lib.Dec.{eqb}
 use lib.ListN.{length, getD, set, take, drop, length-set, length-drop}
 use lib.Seq.{ext-getD, getD-set-same, getD-set-other, drop-set-add, take-suc-set}
 use borrow.Author.Tests.{eqb-true, eqb-false, eq-eqb, ne-eqb}
-use Rattle.model.specs.Tables.{slotPlace, slotAt, slotIs, entrySize, entry, holds, append}
+use Rattle.model.specs.Tables.{slotPlace, slotAt, slotIs, entrySize, entry, holds, append, firstOf}
 use Rattle.model.proofs.Splice.{part-length, part-at}
 use Rattle.model.proofs.Loops.{first-le, first-before, first-holds, first-unique, first-min, first-same, any-at, any-false}
 
@@ -163,6 +163,12 @@ module _ (K : ℕ) (T : List ℕ) (i j u : ℕ) where
   append-other {i′} {j′} hK hj hj′ h e k l =
       append-away (slotPlace i′ j′ k) (λ q. e (omega arith) (omega arith))
 
+  -- as a list too
+  pub append-apart : {i′ j′ : ℕ} → K ≤ 4 → j < 16 → j′ < 16 → entrySize K T i j < K → slotPlace i′ j′ K ≤ length T
+      → (i′ ≡ i → j′ ≡ j → ⊥) → entry K (append K T i j u) i′ j′ ≡ entry K T i′ j′
+  append-apart {i′} {j′} hK hj hj′ h f e =
+      entry-same K (append K T i j u) T i′ j′ (omega (arith, append-length)) f (append-other hK hj hj′ h e)
+
 -- ---- a table that only gains nodes: no filled place changes
 
 pub record Grows (T T′ : List ℕ) : Type 0 where
@@ -184,3 +190,8 @@ append-grows K T i j u h = record {
   long = append-length K T i j u;
   kept = λ p f. append-away K T i j u p (λ e. f (ap (λ (q : ℕ). getD T q 0) e ∙ size-empty K T i j h));
 }
+
+-- the first of a non-empty entry never changes by appending, to this entry or another
+pub append-first : (K : ℕ) (T : List ℕ) (i j u : ℕ) → entrySize K T i j < K → (i′ j′ : ℕ) → firstOf T i′ j′ ≢ 0
+    → firstOf (append K T i j u) i′ j′ ≡ firstOf T i′ j′
+append-first K T i j u h i′ j′ = append-grows K T i j u h .kept (slotPlace i′ j′ 0)

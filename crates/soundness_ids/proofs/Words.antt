@@ -18,7 +18,8 @@ use Rattle.model.proofs.Bools.{is-false}
 use Rattle.model.proofs.Ids.{valid-lt, power-bits}
 use Rattle.model.proofs.Loops.{all-same, all-goes, all-leaves}
 use Rattle.model.proofs.Nodes.{nodes-at}
-use Rattle.soundness_ids.specs.Checked.{Identified, IsNode, InRow, differsAt}
+use Rattle.model.proofs.Status.{IsNode}
+use Rattle.soundness_ids.specs.Checked.{Identified, InRow, differsAt}
 
 pub valid-fits : (b d id : ℕ) → d ≤ 8 → validId b d id ≡ true → id < 2 ^ 32
 valid-fits b d id l e =
@@ -31,7 +32,7 @@ word-invalid b d id l h =
 
 pub word-fits : (s : List ℕ) → Identified s → (x : ℕ) → IsNode s x → idOf s x < 2 ^ 32
 word-fits s w x h =
-    valid-fits (base s) (digits s) (idOf s x) (w .ranged .digits) (nodes-at (nodeCount s) (hasValidId s) (w .ids) x (h .first) (h .last))
+    valid-fits (base s) (digits s) (idOf s x) (w .ranged .digits) (nodes-at (nodeCount s) (hasValidId s) (w .ids) x (h .low) (h .high))
 
 -- ---- the ids in one row
 

@@ -24,11 +24,6 @@ pub record Identified (s : List ℕ) : Type 0 where
   pub ranged : Ranged s
   pub ids : allBelow (nodeCount s) (node (hasValidId s)) ≡ true
 
--- x is a node
-pub record IsNode (s : List ℕ) (x : ℕ) : Type 0 where
-  pub first : 1 ≤ x
-  pub last : x ≤ nodeCount s
-
 -- whose table or record is looked at
 pub record OwnerOf (s : List ℕ) (o : Owner) : Type 0 where
   pub first : 1 ≤ o .number

@@ -4,7 +4,8 @@ ghost use Rattle.model.specs.Loops.{allBelow, node};
 ghost use Rattle.model.specs.Memory.{nodeCount};
 ghost use Rattle.model.specs.Sound.{hasValidId, hasNewId};
 ghost use Rattle.records.specs.Loaded.{SettingsOf};
-ghost use Rattle.soundness_ids.specs.Checked.{Ranged, Identified, IsNode};
+ghost use Rattle.model.proofs.Status.{IsNode};
+ghost use Rattle.soundness_ids.specs.Checked.{Ranged, Identified};
 use records::record;
 use records::settings::Settings;
 

@@ -1,7 +1,8 @@
 // What the check asks of one node.
 ghost use mathlib.Core.Path.{_≡_};
 ghost use Rattle.model.specs.Memory.{idOf, isInSystem, isAttached};
-ghost use Rattle.soundness_ids.specs.Checked.{Ranged, Identified, IsNode};
+ghost use Rattle.model.proofs.Status.{IsNode};
+ghost use Rattle.soundness_ids.specs.Checked.{Ranged, Identified};
 use records::record;
 use records::status::Status;
 

@@ -17,7 +17,7 @@ use Rattle.records.specs.Loaded.{SettingsOf, NodeOf}
 use Rattle.records.specs.declared.record.Node.{Node}
 use Rattle.records.specs.declared.settings.Settings.{Settings}
 use Rattle.records.proofs.Loads.{settingsAt, settings-is, nodeAt, node-is}
-use Rattle.soundness_ids.specs.Checked.{IsNode}
+use Rattle.model.proofs.Status.{IsNode}
 use Rattle.soundness_status.specs.StatusFacts.{atRest, joiningAtRest, setsSound}
 
 -- a fact of the loaded settings and record is one of the book's
@@ -39,7 +39,7 @@ pub target-node : (s : List ℕ) (n t : ℕ) (h : Bool) → n ≡ nodeCount s �
 target-node s n t h p e g =
     let o : isNodeOf n t ≡ true = sym e ∙ not-false h g in
     let l : 1 ≤ t = leb-true 1 t (and-left _ _ o) in
-    let m : t ≤ n = leb-true t n (and-right (leb 1 t) _ o) in record { first = l; last = omega arith }
+    let m : t ≤ n = leb-true t n (and-right (leb 1 t) _ o) in record { low = l; high = omega arith }
 
 pub copying-of : (s : List ℕ) (x : ℕ) (v : Settings) (r : Node) (q : Bool) → SettingsOf s v → NodeOf s x r
     → q ≡ (isNodeOf (v .nodes) (r .target) && (isInSystem s (r .target) && joiningAtRest r)) → q ≡ copyingSound s x

@@ -2,7 +2,8 @@
 ghost use mathlib.Core.Path.{_≡_};
 ghost use Rattle.model.specs.Sound.{notifyingSound};
 ghost use Rattle.records.specs.Loaded.{SettingsOf, NodeOf};
-ghost use Rattle.soundness_ids.specs.Checked.{Identified, IsNode};
+ghost use Rattle.model.proofs.Status.{IsNode};
+ghost use Rattle.soundness_ids.specs.Checked.{Identified};
 ghost use Rattle.soundness_status.specs.StatusFacts.{setsSound};
 use crate::notified;
 use crate::pending;

@@ -3,7 +3,7 @@ use Prim.Native.Nat.{ℕ, suc, _+_, _*_, _/_, _%_, _^_, _≤_, _<_, min}
 use mathlib.Core.Path.{_≡_, sym, ap, ap₂, _∙_}
 use mathlib.Core.Bool.{true}
 use mathlib.Core.List.{List}
-use native.Mathlib.Nat.{add-comm, mul-comm, mul-le-mul, mod-lt, one-mul, pow-le-pow-right, zero-lt-suc, le-of-lt, min-eq-left}
+use native.Mathlib.Nat.{add-comm, mul-comm, mul-le-mul, one-mul, pow-le-pow-right, zero-lt-suc, le-of-lt, min-eq-left}
 use native.Mathlib.Numerals.{add-one}
 use native.Mathlib.Omega.{arith}
 use lib.Arith.{digits-div, digits-mod}
@@ -15,7 +15,7 @@ use Rattle.model.specs.Ids.{digitOf, lowDigits, suffixMask}
 use Rattle.model.specs.Memory.{idOf}
 use Rattle.model.specs.Tables.{qualified}
 use Rattle.model.proofs.Bools.{same-test, and-left, and-right, and-intro}
-use Rattle.model.proofs.Ids.{power-pos, power-bits, low-suc, mask-low}
+use Rattle.model.proofs.Ids.{power-bits, low-suc, mask-low, low-lt}
 use Rattle.soundness_ids.specs.Checked.{OwnerOf}
 use Rattle.soundness_ids.specs.declared.node.Owner.{Owner}
 use Rattle.soundness_tables.specs.declared.rows.Row.{Row}
@@ -24,10 +24,6 @@ use Rattle.soundness_tables.specs.TableFacts.{RowMade, RowOf}
 -- the low i digits of xId with digit j before them
 abbrev ending : ℕ → ℕ → ℕ → ℕ
 ending xId i j = j * 16 ^ i + lowDigits xId i
-
-low-lt : (x i : ℕ) → lowDigits x i < 16 ^ i
-unfolding lowDigits
-low-lt x i = mod-lt x (power-pos i)
 
 module _ (xId yId i j : ℕ) where
   ends : qualified xId yId i j ≡ true → lowDigits yId (suc i) ≡ ending xId i j

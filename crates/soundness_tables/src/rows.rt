@@ -3,7 +3,8 @@
 ghost use mathlib.Core.Path.{_≡_};
 ghost use Prim.Native.Nat.{_<_};
 ghost use Rattle.model.specs.Sound.{qualifies};
-ghost use Rattle.soundness_ids.specs.Checked.{Ranged, IsNode};
+ghost use Rattle.model.proofs.Status.{IsNode};
+ghost use Rattle.soundness_ids.specs.Checked.{Ranged};
 ghost use Rattle.soundness_tables.specs.TableFacts.{RowOf, RowMade};
 use records::record;
 use soundness_ids::node::Owner;

@@ -25,7 +25,7 @@ add-one c = omega arith
 one-requires : tie.Need-one-requires Inv-loop μ-loop
 one-requires c κs =
     let p = c .before .before .before .before .pre in
-    (p .0, (p .1 .0, (p .1 .1 .0, (p .1 .1 .1, record { first = omega arith; last = omega arith }))))
+    (p .0, (p .1 .0, (p .1 .1 .0, (p .1 .1 .1, record { low = omega arith; high = omega arith }))))
 
 returns : tie.Need-returns Inv-loop μ-loop
 returns c = search (needs, all-loop-to)

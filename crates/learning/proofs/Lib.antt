@@ -1,2 +1,0 @@
--- Laws for the callers of learning and gathering.
-pub mod Readable
