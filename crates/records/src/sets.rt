@@ -1,9 +1,12 @@
 // Sets of nodes, 64 bits each: bit x − 1 for node x.
 ghost use mathlib.Core.Path.{_≡_};
 ghost use Prim.Native.Nat.{_≤_, _^_};
-ghost use lib.Dec.{ltb};
+ghost use lib.Dec.{eqb, ltb};
 ghost use Rattle.model.specs.Memory.{hasNode, addNode, removeNode};
 ghost use Rattle.records.specs.Loaded.{Numbered};
+
+// The set that names no node.
+pub const EMPTY: u64 = 0;
 
 pub fn has(nodes: u64, x: usize) -> bool
     requires { ⌜ Numbered x ⌝ }
@@ -27,6 +30,13 @@ pub fn remove(nodes: u64, x: usize) -> u64
         return nodes ^ (1 << (x - 1));
     }
     nodes
+}
+
+// The set names no node.
+pub fn is_empty(nodes: u64) -> bool
+    ensures { λ r. ⌜ r ≡ eqb nodes 0 ⌝ }
+{
+    nodes == 0
 }
 
 // The set names no number above n.
