@@ -31,15 +31,15 @@ use Rattle.delivery.proofs.Stores.{stored-twice, table-back, gather-sam
 -- ---- the records of x
 
 -- "A notifying member whose asked set is empty settles"
-pub settles : (id level asked told : ℕ) → asked ≡ 0 → inSystemNode id ≡ notifyingNode id level asked told
+pub settles : (id level asked told : ℕ) (b : Bool) → b ≡ eqb asked 0 → b ≡ true → inSystemNode id ≡ notifyingNode id level asked told
 unfolding settle
-settles id level asked told e = rw (eq-eqb asked 0 e)
+settles id level asked told b e t = rw (sym e ∙ t)
 
-pub stays : (id level asked told : ℕ) → (asked ≡ 0 → ⊥)
+pub stays : (id level asked told : ℕ) (b : Bool) → b ≡ eqb asked 0 → b ≡ false
     → _≡_ {A = memory.Node} (record { id = id; status = notifying; level = level; target = 0; pending = asked; notified = told })
     (notifyingNode id level asked told)
 unfolding settle
-stays id level asked told ne = rw (ne-eqb asked 0 ne)
+stays id level asked told b e f = rw (sym e ∙ f)
 
 settled-is : (id level asked told : ℕ) → eqb asked 0 ≡ eqb (notifyingNode id level asked told .status) inSystem
 unfolding settle

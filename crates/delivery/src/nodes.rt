@@ -6,6 +6,7 @@ ghost use Rattle.model.specs.Join.{joiningNode, notifyingNode};
 ghost use Rattle.records.specs.Loaded.{Placed, bookNode};
 use records::record;
 use records::record::Node;
+use records::sets;
 use records::status::Status;
 
 // A node that copies or waits, by its status and target.
@@ -17,8 +18,8 @@ pub fn joining_node(id: u64, status: u64, target: usize) -> Node
         status,
         level: 0,
         target: target as u64,
-        pending: 0,
-        notified: 0,
+        pending: sets::EMPTY,
+        notified: sets::EMPTY,
     }
 }
 
@@ -27,14 +28,14 @@ pub fn joining_node(id: u64, status: u64, target: usize) -> Node
 fn notifying_node(id: u64, level: u64, asked: u64, told: u64) -> Node
     ensures { λ r. ⌜ bookNode r ≡ notifyingNode id level asked told ⌝ }
 {
-    if asked == 0 {
+    if sets::is_empty(asked) {
         return Node {
             id,
             status: Status::IN_SYSTEM,
             level: 0,
             target: 0,
-            pending: 0,
-            notified: 0,
+            pending: sets::EMPTY,
+            notified: sets::EMPTY,
         };
     }
     Node {
@@ -54,5 +55,5 @@ pub fn store_notifying(state: &mut [u64], x: usize, level: u64, asked: u64, told
 {
     let id = record::id(state, x);
     record::store(state, x, notifying_node(id, level, asked, told));
-    asked == 0
+    sets::is_empty(asked)
 }

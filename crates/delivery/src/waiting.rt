@@ -51,7 +51,7 @@ fn to_ask(state: &[u64], tables: &[u8], x: usize, y: usize, level: usize, told: 
     requires { ⌜ Meets (now state) (now tables) x y ⌝ }
     ensures { λ r. ⌜ r ≡ gather (now (state .entry)) x level told (tableOf (now (tables .entry)) y) (gather (now (state .entry)) x level told (tableOf (now (tables .entry)) x) 0) ⌝ }
 {
-    let own = gather_from(state, tables, x, x, level, told, 0);
+    let own = gather_from(state, tables, x, x, level, told, sets::EMPTY);
     gather_from(state, tables, x, y, level, told, own)
 }
 
@@ -64,7 +64,7 @@ fn start_notifying(state: &mut [u64], tables: &[u8], x: usize, y: usize) -> usiz
 {
     let level = attach_level(state, tables, x, y);
     let id = record::id(state, x);
-    let told = sets::add(0, y);
+    let told = sets::add(sets::EMPTY, y);
     record::store(
         state,
         x,
@@ -73,7 +73,7 @@ fn start_notifying(state: &mut [u64], tables: &[u8], x: usize, y: usize) -> usiz
             status: Status::NOTIFYING,
             level: level as u64,
             target: 0,
-            pending: 0,
+            pending: sets::EMPTY,
             notified: told,
         },
     );
@@ -87,7 +87,7 @@ fn attach(state: &mut [u64], tables: &mut [u8], x: usize, y: usize) -> Answer
 {
     let level = start_notifying(state, tables, x, y);
     exchange(state, tables, x, y);
-    let told = sets::add(0, y);
+    let told = sets::add(sets::EMPTY, y);
     let asked = to_ask(state, tables, x, y, level, told);
     let settled = store_notifying(state, x, level as u64, asked, told);
     Answer {

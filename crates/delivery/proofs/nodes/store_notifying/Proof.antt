@@ -13,6 +13,9 @@ notifying-node-requires c κs = search needs
 store-requires : tie.Need-store-requires
 store-requires c κs = search needs
 
+is-empty-requires : tie.Need-is-empty-requires
+is-empty-requires c κs = search needs
+
 same-length : tie.Need-same-length
 same-length c = search needs
 
@@ -21,4 +24,11 @@ returns c = (search stored-is, search needs)
 
 pub store-notifying-spec : {M : Type 1} → statement M
 store-notifying-spec =
-    tie.close (tie.spec id-requires notifying-node-requires store-requires same-length returns)
+    tie.close
+    (tie.spec
+    id-requires
+    notifying-node-requires
+    store-requires
+    is-empty-requires
+    same-length
+    returns)
