@@ -6,7 +6,7 @@ use mathlib.Core.Bool.{Bool, true, false, not, _&&_, _||_, or-false}
 use mathlib.Core.List.{List}
 use native.Mathlib.Omega.{arith}
 use lib.Dec.{eqb, leb, ltb}
-use borrow.Author.Tests.{leb-true, eq-eqb, ne-eqb, not-false}
+use borrow.Author.Tests.{leb-true, eqb-true, eqb-false, eq-eqb, ne-eqb, not-false}
 use Rattle.model.specs.Loops.{allBelow, node}
 use Rattle.model.specs.Ids.{commonSuffix}
 use Rattle.model.specs.Memory.{digits, nodeCount, idOf, statusOf, isInSystem, isAttached, hasNode}
@@ -94,12 +94,14 @@ unfolding notifiedSound
 notified-of s x u r q w =
     subst (λ (r : Node). q ≡ (not (hasNode (r .notified) u) || (isAttached s u && not (eqb u x)))) (node-is s x r w)
 
--- a set that is not empty
-pub some-leaves : (m : ℕ) (b : Bool) → m ≡ 0 → false ≡ (ltb 0 m && b)
-some-leaves m b e = lt-leaves 0 m b (omega arith)
+-- a set that is empty, and one that is not
+pub some-leaves : (nodes : ℕ) (h b : Bool) → h ≡ eqb nodes 0 → h ≡ true → false ≡ (ltb 0 nodes && b)
+some-leaves nodes h b e g =
+    let z : nodes ≡ 0 = eqb-true nodes 0 (sym e ∙ g) in lt-leaves 0 nodes b (omega arith)
 
-pub some-goes : (m : ℕ) (b q : Bool) → (m ≡ 0 → ⊥) → q ≡ b → q ≡ (ltb 0 m && b)
-some-goes m b q h = lt-goes 0 m b q (omega arith)
+pub some-goes : (nodes : ℕ) (h b q : Bool) → h ≡ eqb nodes 0 → h ≡ false → q ≡ b → q ≡ (ltb 0 nodes && b)
+some-goes nodes h b q e g =
+    let z : nodes ≡ 0 → ⊥ = eqb-false nodes 0 (sym e ∙ g) in lt-goes 0 nodes b q (omega arith)
 
 pub sets-of : (s : List ℕ) (x : ℕ) (v : Settings) (r : Node) (q : Bool) → SettingsOf s v → NodeOf s x r
     → q ≡ (ltb (r .pending) (2 ^ v .nodes) && (ltb (r .notified) (2 ^ v .nodes) && (allBelow (nodeCount s) (node (pendingSound s x)) && allBelow (nodeCount s) (node (notifiedSound s x)))))

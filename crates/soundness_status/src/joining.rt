@@ -8,6 +8,7 @@ ghost use Rattle.records.specs.Loaded.{SettingsOf, NodeOf};
 ghost use Rattle.soundness_ids.specs.Checked.{Ranged};
 ghost use Rattle.soundness_status.specs.StatusFacts.{joiningAtRest};
 use records::record::Node;
+use records::sets;
 use records::settings::Settings;
 use soundness_ids::node;
 
@@ -17,10 +18,10 @@ fn at_rest(r: Node) -> bool
     if r.level != 0 {
         return false;
     }
-    if r.pending != 0 {
+    if !sets::is_empty(r.pending) {
         return false;
     }
-    r.notified == 0
+    sets::is_empty(r.notified)
 }
 
 fn is_node(nodes: usize, x: u64) -> bool

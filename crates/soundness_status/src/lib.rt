@@ -9,6 +9,7 @@ ghost use Rattle.soundness_ids.specs.Checked.{Identified};
 ghost use Rattle.soundness_status.specs.StatusFacts.{atRest};
 use records::record;
 use records::record::Node;
+use records::sets;
 use records::settings::Settings;
 use records::status::Status;
 
@@ -27,10 +28,10 @@ fn in_system(r: Node) -> bool
     if r.target != 0 {
         return false;
     }
-    if r.pending != 0 {
+    if !sets::is_empty(r.pending) {
         return false;
     }
-    r.notified == 0
+    sets::is_empty(r.notified)
 }
 
 // The rules of the status of node x; a number above 3 is no status.

@@ -50,7 +50,7 @@ pub fn sound(state: &[u64], s: Settings, x: usize, r: Node) -> bool
     if s.digits as u64 <= r.level {
         return false;
     }
-    if r.pending == 0 {
+    if sets::is_empty(r.pending) {
         return false;
     }
     sets_sound(state, s, x, r)

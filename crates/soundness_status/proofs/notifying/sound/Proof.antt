@@ -11,6 +11,9 @@ returns c = search (notifying-of, eq-leaves)
 returns-2 : tie.Need-returns-2
 returns-2 c = search (notifying-of, eq-goes, lt-leaves)
 
+is-empty-requires : tie.Need-is-empty-requires
+is-empty-requires c κs = search needs
+
 returns-3 : tie.Need-returns-3
 returns-3 c = search (notifying-of, eq-goes, lt-goes, some-leaves)
 
@@ -21,4 +24,6 @@ returns-4 : tie.Need-returns-4
 returns-4 c = search (notifying-of, eq-goes, lt-goes, some-goes)
 
 pub sound-spec : {M : Type 1} → statement M
-sound-spec = tie.close (tie.spec returns returns-2 returns-3 sets-sound-requires returns-4)
+sound-spec =
+    tie.close
+    (tie.spec returns returns-2 is-empty-requires returns-3 sets-sound-requires returns-4)
