@@ -6,6 +6,7 @@ ghost use Rattle.model.specs.Join.{begun};
 ghost use Rattle.join.specs.After.{after, Begins};
 use records::record;
 use records::record::Node;
+use records::sets;
 use records::settings;
 use records::status::Status;
 use tables::own;
@@ -26,8 +27,8 @@ pub fn begin(state: &mut [u64], tables: &mut [u8], id: u32, gateway: usize) -> u
             status: Status::COPYING,
             level: 0,
             target: gateway as u64,
-            pending: 0,
-            notified: 0,
+            pending: sets::EMPTY,
+            notified: sets::EMPTY,
         },
     );
     own::write_own(tables, s.digits, id, x);

@@ -6,6 +6,7 @@ ghost use Rattle.model.specs.Join.{founded};
 ghost use Rattle.join.specs.After.{after};
 use records::record;
 use records::record::Node;
+use records::sets;
 use records::settings;
 use records::settings::Settings;
 use records::status::Status;
@@ -43,8 +44,8 @@ pub fn found(
             status: Status::IN_SYSTEM,
             level: 0,
             target: 0,
-            pending: 0,
-            notified: 0,
+            pending: sets::EMPTY,
+            notified: sets::EMPTY,
         },
     );
     own::write_own(tables, digits, id, 1);

@@ -42,7 +42,7 @@ impl Cursor {
             next: 0,
             key: 0,
             count: 0,
-            named: 0,
+            named: sets::EMPTY,
         }
     }
 
@@ -57,7 +57,7 @@ impl Cursor {
             next: self.next,
             key,
             count: 0,
-            named: 0,
+            named: sets::EMPTY,
         }
     }
 
