@@ -20,7 +20,7 @@ use Rattle.model.proofs.Sound.{Sound}
 use Rattle.model.proofs.Status.{IsNode, is-node}
 use Rattle.model.proofs.Taken.{state-taken, state-free, found-taken, begin-taken, lookup-taken}
 use Rattle.records.specs.Loaded.{Placed}
-use Rattle.join.specs.After.{Begins}
+use Rattle.join.specs.Begins.{Begins}
 use Rattle.engine.specs.Outcomes.{leaves}
 
 -- ---- 1 and 2

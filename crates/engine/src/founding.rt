@@ -4,14 +4,14 @@ ghost use mathlib.Core.List.{[], _∷_};
 ghost use Rattle.model.specs.Refusals.{foundRefusal};
 ghost use Rattle.model.specs.Calls.{foundCall};
 ghost use Rattle.engine.specs.Outcomes.{leaves};
-use crate::sentences;
 use ident::settings_in_range;
 use ident::valid_id;
+use records::lent;
 
 fn refusal(state: &[u64], tables: &[u8], base: u64, digits: u64, depth: u64, id: u32) -> u64
     ensures { λ r. ⌜ r ≡ foundRefusal (now (state .entry)) (now (tables .entry)) base digits depth id ⌝ }
 {
-    if sentences::memory_short(state, tables) {
+    if lent::short(state, tables) {
         return 1;
     }
     if !settings_in_range(base, digits, depth) {

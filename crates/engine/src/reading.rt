@@ -4,12 +4,12 @@ ghost use mathlib.Core.List.{[], _∷_};
 ghost use Rattle.model.specs.Refusals.{readRefusal};
 ghost use Rattle.model.specs.Calls.{readCall};
 ghost use Rattle.engine.specs.Outcomes.{leaves};
-use crate::sentences;
+use records::lent;
 
 fn refusal(state: &[u64], tables: &[u8], image: &[u8]) -> u64
     ensures { λ r. ⌜ r ≡ readRefusal (now (state .entry)) (now (tables .entry)) (now (image .entry)) ⌝ }
 {
-    if sentences::memory_short(state, tables) {
+    if lent::short(state, tables) {
         return 1;
     }
     judging::refusal(image)

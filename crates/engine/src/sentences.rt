@@ -5,33 +5,19 @@ ghost use lib.ListN.{length};
 ghost use Rattle.model.specs.Loops.{allBelow, node};
 ghost use Rattle.model.specs.Memory.{nodeCount, isInSystem};
 ghost use Rattle.model.specs.Sound as book;
-ghost use Rattle.model.specs.Refusals.{memoryShort, stateRefusal};
+ghost use Rattle.model.specs.Refusals.{stateRefusal};
 ghost use Rattle.engine.specs.Outcomes.{Counted};
+use records::lent;
 use records::record;
 use records::settings;
 use records::status::Status;
 use soundness::sound;
 
-// The fixed lengths of the lent memory, in words and in bytes.
-const STATE: usize = 520;
-
-const TABLES: usize = 32768;
-
-// 1: "Lent table memory is shorter than 32,768 bytes, or other lent state memory than the fixed length".
-pub fn memory_short(state: &[u64], tables: &[u8]) -> bool
-    ensures { λ r. ⌜ r ≡ memoryShort (now (state .entry)) (now (tables .entry)) ⌝ }
-{
-    if tables.len() < TABLES {
-        return true;
-    }
-    state.len() < STATE
-}
-
-// 1 and 2: "The state isn't sound".
+// 1, memory that is too short, and 2: "The state isn't sound".
 pub fn state_refusal(state: &[u64], tables: &[u8]) -> u64
     ensures { λ r. ⌜ r ≡ stateRefusal (now (state .entry)) (now (tables .entry)) 0 ⌝ }
 {
-    if memory_short(state, tables) {
+    if lent::short(state, tables) {
         return 1;
     }
     if !sound(state, tables) {
@@ -48,7 +34,7 @@ pub fn is_node(state: &[u64], x: u64) -> bool
     if x < 1 {
         return false;
     }
-    x <= state[3]
+    x <= settings::load(state).nodes as u64
 }
 
 // Not 15: "Verdict or writing finds a member not settled."

@@ -1,2 +1,2 @@
--- What the contracts of founding and beginning cite.
-pub mod After
+-- What the contract of beginning cites.
+pub mod Begins

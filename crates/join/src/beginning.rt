@@ -3,7 +3,8 @@ ghost use mathlib.Core.Path.{_≡_};
 ghost use Prim.Native.Nat.{_+_};
 ghost use Rattle.model.specs.Memory.{nodeCount};
 ghost use Rattle.model.specs.Join.{begun};
-ghost use Rattle.join.specs.After.{after, Begins};
+ghost use Rattle.records.specs.Lent.{memory};
+ghost use Rattle.join.specs.Begins.{Begins};
 use records::record;
 use records::record::Node;
 use records::sets;
@@ -14,11 +15,11 @@ use tables::own;
 // Answers the new node's number.
 pub fn begin(state: &mut [u64], tables: &mut [u8], id: u32, gateway: usize) -> usize
     requires { ⌜ Begins (now state) (now tables) ⌝ }
-    ensures { λ r. ⌜ (after (now (state .exit)) (now (tables .exit)) ≡ begun (now (state .entry)) (now (tables .entry)) id gateway) × (r ≡ nodeCount (now (state .entry)) + 1) ⌝ }
+    ensures { λ r. ⌜ (memory (now (state .exit)) (now (tables .exit)) ≡ begun (now (state .entry)) (now (tables .entry)) id gateway) × (r ≡ nodeCount (now (state .entry)) + 1) ⌝ }
 {
     let s = settings::load(state);
     let x = s.nodes + 1;
-    state[3] = x as u64;
+    settings::store_nodes(state, x);
     record::store(
         state,
         x,

@@ -3,7 +3,7 @@ ghost use mathlib.Core.Path.{_≡_};
 ghost use Prim.Native.Nat.{_≤_};
 ghost use lib.ListN.{length};
 ghost use Rattle.model.specs.Join.{founded};
-ghost use Rattle.join.specs.After.{after};
+ghost use Rattle.records.specs.Lent.{memory};
 use records::record;
 use records::record::Node;
 use records::sets;
@@ -23,7 +23,7 @@ pub fn found(
     requires { ⌜ 520 ≤ length (now state) ⌝ }
     requires { ⌜ 32768 ≤ length (now tables) ⌝ }
     requires { ⌜ digits ≤ 8 ⌝ }
-    ensures { λ r. ⌜ after (now (state .exit)) (now (tables .exit)) ≡ founded (now (state .entry)) (now (tables .entry)) base digits depth id ⌝ }
+    ensures { λ r. ⌜ memory (now (state .exit)) (now (tables .exit)) ≡ founded (now (state .entry)) (now (tables .entry)) base digits depth id ⌝ }
 {
     records::clear::clear(state);
     tables::clear::clear(tables);

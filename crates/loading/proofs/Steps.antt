@@ -15,7 +15,8 @@ use Rattle.model.proofs.Loading.{Readable, Words, words-loaded, record-ok, reco
 use Rattle.judging.specs.declared.header.Header.{Header}
 use Rattle.judging.specs.declared.record.Record.{Record}
 use Rattle.judging.specs.Judged.{Headed, RecordOf, Small}
-use Rattle.loading.specs.Loads.{after, Loads, Fills, Appends}
+use Rattle.records.specs.Lent.{memory}
+use Rattle.loading.specs.Loads.{Loads, Fills, Appends}
 
 pub id-step : (im s : List ℕ) (k v : ℕ) → v ≡ imId im (k + 1) → set s (8 * (k + 1)) v ≡ loadId im k s
 id-step im s k v e = ap (set s (8 * (k + 1))) e
@@ -78,10 +79,10 @@ module _ (im t₁ : List ℕ) (F : Fills t₁ im) where
 
 pub loaded-is : (s t im s₁ s₂ s₃ t₁ t₂ : List ℕ) (h : Header) → Headed im h → s₁ ≡ zeroed 520 s
     → s₂ ≡ withSettings s₁ (h .base) (h .digits) (h .depth) (h .nodes) → s₃ ≡ eachBelow (imNodes im) (loadId im) s₂
-    → t₁ ≡ zeroed 32768 t → t₂ ≡ eachBelow (imRecords im) (loadRecord im) t₁ → after s₃ t₂ ≡ loaded s t im
+    → t₁ ≡ zeroed 32768 t → t₂ ≡ eachBelow (imRecords im) (loadRecord im) t₁ → memory s₃ t₂ ≡ loaded s t im
 unfolding loaded
 loaded-is s t im s₁ s₂ s₃ t₁ t₂ h o e₁ e₂ e₃ f₁ f₂ =
-    ap₂ after (e₃ ∙ ap (eachBelow (imNodes im) (loadId im)) (e₂ ∙ ap (λ (s : List ℕ). withSettings s (h .base) (h .digits) (h .depth) (h .nodes)) e₁ ∙ head))
+    ap₂ memory (e₃ ∙ ap (eachBelow (imNodes im) (loadId im)) (e₂ ∙ ap (λ (s : List ℕ). withSettings s (h .base) (h .digits) (h .depth) (h .nodes)) e₁ ∙ head))
     (f₂ ∙ ap (eachBelow (imRecords im) (loadRecord im)) f₁)
   where
     head : withSettings (zeroed 520 s) (h .base) (h .digits) (h .depth) (h .nodes) ≡ withSettings (zeroed 520 s) (imBase im) (imDigits im) (imDepth im) (imNodes im)

@@ -3,14 +3,10 @@ use Prim.Native.Nat.{ℕ, _≤_, _<_}
 use mathlib.Core.Path.{_≡_}
 use mathlib.Core.List.{List}
 use lib.ListN.{length}
-use Rattle.model.specs.Memory.{Memory, zeroed, tableOf}
+use Rattle.model.specs.Memory.{zeroed, tableOf}
 use Rattle.model.specs.Tables.{entrySize}
 use Rattle.model.proofs.Loading.{Readable}
 use Rattle.judging.specs.Judged.{Counted}
-
--- state and tables as the book's memory
-abbrev pub after : List ℕ → List ℕ → Memory
-after s t = record { state = s; tables = t }
 
 -- the image is one that reading takes, and the memory is long enough
 pub record Loads (s t im : List ℕ) : Type 0 where

@@ -8,7 +8,8 @@ ghost use Rattle.model.specs.Tables as book;
 ghost use Rattle.model.specs.Join.{withSettings};
 ghost use Rattle.model.specs.Image.{imNodes, imRecords, loadId, loadRecord, loaded};
 ghost use Rattle.judging.specs.Judged.{Headed};
-ghost use Rattle.loading.specs.Loads.{after, Loads, Fills, Appends};
+ghost use Rattle.records.specs.Lent.{memory};
+ghost use Rattle.loading.specs.Loads.{Loads, Fills, Appends};
 use judging::header;
 use judging::header::Header;
 use judging::ids;
@@ -69,7 +70,7 @@ fn load_records(tables: &mut [u8], image: &[u8], h: Header)
 
 pub fn load(state: &mut [u64], tables: &mut [u8], image: &[u8])
     requires { ⌜ Loads (now state) (now tables) (now image) ⌝ }
-    ensures { λ u. ⌜ after (now (state .exit)) (now (tables .exit)) ≡ loaded (now (state .entry)) (now (tables .entry)) (now (image .entry)) ⌝ }
+    ensures { λ u. ⌜ memory (now (state .exit)) (now (tables .exit)) ≡ loaded (now (state .entry)) (now (tables .entry)) (now (image .entry)) ⌝ }
 {
     let h = header::load(image);
     records::clear::clear(state);

@@ -26,7 +26,7 @@ use Rattle.model.proofs.Loading.{Readable}
 
 ruleset parts = (and-left, and-right)
 
-long-of : (s t : List ℕ) → memoryShort s t ≡ false → Long s t
+pub long-of : (s t : List ℕ) → memoryShort s t ≡ false → Long s t
 long-of s t e = record {
   state = ltb-false (length s) stateLength (or-none-right (ltb (length t) tablesLength) _ e);
   tables = ltb-false (length t) tablesLength (or-none-left (ltb (length t) tablesLength) (ltb (length s) stateLength) e);

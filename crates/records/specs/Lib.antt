@@ -1,2 +1,3 @@
 -- What the contracts of the lent words cite.
+pub mod Lent
 pub mod Loaded

@@ -1,5 +1,6 @@
-// The lent words: the settings, a node's record, the status of a node, sets of nodes.
+// The lent memory: its lengths, and of its words the settings, a node's record, the status of a node, sets of nodes.
 pub mod clear;
+pub mod lent;
 pub mod record;
 pub mod sets;
 pub mod settings;

@@ -1,7 +1,7 @@
 // Words 0 to 3 of the state: the settings and the number of nodes.
 ghost use mathlib.Core.Path.{_≡_};
 ghost use Prim.Native.Nat.{_≤_};
-ghost use lib.ListN.{length};
+ghost use lib.ListN.{length, set};
 ghost use Rattle.model.specs.Join.{withSettings};
 ghost use Rattle.records.specs.Loaded.{SettingsOf};
 
@@ -32,4 +32,12 @@ pub fn store(state: &mut [u64], s: Settings)
     state[1] = s.digits as u64;
     state[2] = s.depth as u64;
     state[3] = s.nodes as u64;
+}
+
+// The number of nodes alone.
+pub fn store_nodes(state: &mut [u64], nodes: usize)
+    requires { ⌜ 520 ≤ length (now state) ⌝ }
+    ensures { λ r. ⌜ now (state .exit) ≡ set (now (state .entry)) 3 nodes ⌝ }
+{
+    state[3] = nodes as u64;
 }

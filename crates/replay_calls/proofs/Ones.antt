@@ -16,7 +16,8 @@ use Rattle.delivery.specs.declared.answer.Step.the-variants.{Refused, Copied, S
 use Rattle.delivery.specs.Answers.{outcome, stepFields, answerFields}
 use Rattle.engine.specs.Outcomes.{leaves, writes}
 use Rattle.replay_calls.specs.Coded.{imageAt, zeros, callOf, halfAt, numberAt}
-use Rattle.replay_calls.specs.Answered.{padded, takenWords, Played, playing, memory}
+use Rattle.records.specs.Lent.{memory}
+use Rattle.replay_calls.specs.Answered.{padded, takenWords, Played, playing}
 use Rattle.replay_calls.specs.Shown.{fieldsAt, listed, shown}
 use Rattle.replay_calls.specs.declared.answer.Words.{Words}
 

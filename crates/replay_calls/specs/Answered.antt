@@ -31,6 +31,3 @@ wordsOf (e ∷ es) = padded (e .answer) ++ wordsOf es
 -- the answers to a list of calls
 unfoldable pub answersTo : Memory → List Call → List ℕ
 answersTo m cs = wordsOf (history m cs)
-
-abbrev pub memory : List ℕ → List ℕ → Memory
-memory s t = record { state = s; tables = t }

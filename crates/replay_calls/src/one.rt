@@ -5,7 +5,8 @@ ghost use Rattle.model.specs.Calls.{foundCall, readCall, beginCall, deliverCall
 ghost use Rattle.model.specs.Run.{step};
 ghost use Rattle.delivery.specs.Answers.{answerFields};
 ghost use Rattle.replay_calls.specs.Coded.{imageAt, zeros};
-ghost use Rattle.replay_calls.specs.Answered.{padded, takenWords, playing, memory};
+ghost use Rattle.records.specs.Lent.{memory};
+ghost use Rattle.replay_calls.specs.Answered.{padded, takenWords, playing};
 ghost use Rattle.replay_calls.specs.Shown.{called, listed, shown};
 use crate::answer::Words;
 use crate::answer::bit;

@@ -8,15 +8,11 @@ ghost use Rattle.model.specs.Refusals.{memoryShort};
 ghost use Rattle.records.specs.Loaded.{SettingsOf};
 ghost use Rattle.soundness_ids.specs.Checked.{Ranged};
 ghost use Rattle.soundness.specs.Clauses.{nodesSound};
+use records::lent;
 use records::settings;
 use records::settings::Settings;
 
 mod unused;
-
-// The fixed lengths of the lent memory, in words and in bytes.
-const STATE: usize = 520;
-
-const TABLES: usize = 32768;
 
 // The lent memory is as long as it must be, and the state in it is sound.
 pub fn sound(state: &[u64], tables: &[u8]) -> bool
@@ -24,10 +20,7 @@ pub fn sound(state: &[u64], tables: &[u8]) -> bool
         r ≡ (not (memoryShort (now (state .entry)) (now (tables .entry))) && book.sound (now (state .entry)) (now (tables .entry)))
         ⌝ }
 {
-    if tables.len() < TABLES {
-        return false;
-    }
-    if state.len() < STATE {
+    if lent::short(state, tables) {
         return false;
     }
     settings_first(state, tables)

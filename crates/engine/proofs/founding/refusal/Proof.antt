@@ -5,8 +5,8 @@ use Rattle.model.proofs.Refusals.{sentences}
 use Rattle.engine.proofs.founding.refusal.Statement.{statement}
 use Rattle.engine.proofs.founding.refusal.Tie as tie
 
-memory-short-requires : tie.Need-memory-short-requires
-memory-short-requires c κs = search needs
+short-requires : tie.Need-short-requires
+short-requires c κs = search needs
 
 returns : tie.Need-returns
 unfolding foundRefusal
@@ -34,7 +34,7 @@ pub refusal-spec : {M : Type 1} → statement M
 refusal-spec =
     tie.close
     (tie.spec
-    memory-short-requires
+    short-requires
     returns
     settings-in-range-requires
     returns-2

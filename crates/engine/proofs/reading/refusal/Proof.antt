@@ -4,8 +4,8 @@ use borrow.Author.Needs.{needs}
 use Rattle.engine.proofs.reading.refusal.Statement.{statement}
 use Rattle.engine.proofs.reading.refusal.Tie as tie
 
-memory-short-requires : tie.Need-memory-short-requires
-memory-short-requires c κs = search needs
+short-requires : tie.Need-short-requires
+short-requires c κs = search needs
 
 returns : tie.Need-returns
 returns c = search read-1
@@ -17,4 +17,4 @@ returns-2 : tie.Need-returns-2
 returns-2 c = search read-image
 
 pub refusal-spec : {M : Type 1} → statement M
-refusal-spec = tie.close (tie.spec memory-short-requires returns refusal-requires returns-2)
+refusal-spec = tie.close (tie.spec short-requires returns refusal-requires returns-2)

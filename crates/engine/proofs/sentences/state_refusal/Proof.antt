@@ -4,8 +4,8 @@ use Rattle.engine.proofs.Laws.{state-short, state-unsound, state-good}
 use Rattle.engine.proofs.sentences.state_refusal.Statement.{statement}
 use Rattle.engine.proofs.sentences.state_refusal.Tie as tie
 
-memory-short-requires : tie.Need-memory-short-requires
-memory-short-requires c κs = search needs
+short-requires : tie.Need-short-requires
+short-requires c κs = search needs
 
 returns : tie.Need-returns
 returns c = search state-short
@@ -21,4 +21,4 @@ returns-3 c = search state-good
 
 pub state-refusal-spec : {M : Type 1} → statement M
 state-refusal-spec =
-    tie.close (tie.spec memory-short-requires returns sound-requires returns-2 returns-3)
+    tie.close (tie.spec short-requires returns sound-requires returns-2 returns-3)

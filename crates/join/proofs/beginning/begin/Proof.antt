@@ -1,8 +1,8 @@
 -- `begin`: the count, the new record and the new table are those of `begun`. Assumes nothing.
-use lib.ListN.{length-set}
+use Rattle.join.proofs.Laws.{begun-is}
+use native.Mathlib.Omega.{arith}
 use borrow.Author.Needs.{needs}
 use Rattle.join.proofs.beginning.begin.Statement.{statement}
-use Rattle.join.proofs.Laws.{begun-is}
 use Rattle.join.proofs.beginning.begin.Tie as tie
 
 load-requires : tie.Need-load-requires
@@ -11,8 +11,8 @@ load-requires c κs = search needs
 add-x : tie.Need-add-x
 add-x c = search needs
 
-slice-write-state : tie.Need-slice-write-state
-slice-write-state c = search needs
+store-nodes-requires : tie.Need-store-nodes-requires
+store-nodes-requires c κs = search needs
 
 store-requires : tie.Need-store-requires
 store-requires c κs = search needs
@@ -21,7 +21,7 @@ write-own-requires : tie.Need-write-own-requires
 write-own-requires c κs = search needs
 
 same-length : tie.Need-same-length
-same-length c = simp length-set at (c .before .before .before .before .before .before .store .kept .0)
+same-length c = search needs
 
 same-length-2 : tie.Need-same-length-2
 same-length-2 c = search needs
@@ -35,7 +35,7 @@ begin-spec =
     (tie.spec
     load-requires
     add-x
-    slice-write-state
+    store-nodes-requires
     store-requires
     write-own-requires
     same-length
