@@ -3,12 +3,12 @@ ghost use mathlib.Core.Path.{_≡_};
 ghost use Rattle.model.specs.Join.{delivery};
 ghost use Rattle.model.proofs.Sound.{Sound};
 ghost use Rattle.model.proofs.Delivered.{CanDeliver};
-ghost use Rattle.delivery.specs.Answers.{outcome, tookDelivery};
-use crate::answer::Answer;
-use crate::answer::Step;
+ghost use Rattle.delivery_parts.specs.Answers.{outcome, tookDelivery};
 use crate::copying::deliver_copying;
 use crate::notifying::deliver_notifying;
-use crate::waiting::deliver_waiting;
+use delivery_parts::answer::Answer;
+use delivery_parts::answer::Step;
+use delivery_waiting::deliver_waiting;
 use records::record;
 
 // The delivery of an outstanding request from x to y. A settled node has none, and no other number is a status.

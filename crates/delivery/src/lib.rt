@@ -1,9 +1,5 @@
-// Delivering a request, a function for each kind, on a sound state: document 01, "The join, step by step".
-pub mod answer;
+// Delivering a request, a function for each kind, on a sound state: document 01, "The join, step by step". A wait request is in
+// `delivery_waiting`.
 pub mod copying;
 pub mod delivering;
-pub mod meeting;
-pub mod nodes;
 pub mod notifying;
-pub mod room;
-pub mod waiting;

@@ -3,14 +3,14 @@
 ghost use mathlib.Core.Path.{_≡_};
 ghost use Rattle.model.specs.Memory.{tableOf};
 ghost use Rattle.model.specs.Join.{deliverNotifying};
-ghost use Rattle.delivery.specs.Answers.{outcome, tookDelivery};
-ghost use Rattle.delivery.specs.Delivers.{Delivers, Meets, told};
-use crate::answer::Answer;
-use crate::answer::Step;
-use crate::meeting::gather_from;
-use crate::meeting::learn_from;
-use crate::meeting::teach;
-use crate::nodes::store_notifying;
+ghost use Rattle.delivery_parts.specs.Answers.{outcome, tookDelivery};
+ghost use Rattle.delivery_parts.specs.Delivers.{Delivers, Meets, told};
+use delivery_parts::answer::Answer;
+use delivery_parts::answer::Step;
+use delivery_parts::meeting::gather_from;
+use delivery_parts::meeting::learn_from;
+use delivery_parts::meeting::teach;
+use delivery_parts::nodes::store_notifying;
 use records::record;
 use records::sets;
 

@@ -18,8 +18,8 @@ use Rattle.model.proofs.Delivered.{CanDeliver}
 use Rattle.model.proofs.Taken.{deliver-taken}
 use Rattle.records.specs.declared.record.Node.{Node}
 use Rattle.records.specs.Loaded.{Placed, NodeOf}
-use Rattle.delivery.specs.declared.answer.Step.the-variants.{Refused}
-use Rattle.delivery.specs.Answers.{outcome, tookDelivery}
+use Rattle.delivery_parts.specs.declared.answer.Step.the-variants.{Refused}
+use Rattle.delivery_parts.specs.Answers.{outcome, tookDelivery}
 use Rattle.engine.specs.Outcomes.{deliverSentences}
 use Rattle.engine.proofs.Laws.{state-refused, state-later, state-sound, gateway-placed}
 

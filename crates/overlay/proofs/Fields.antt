@@ -7,10 +7,10 @@ use native.Mathlib.Omega.{arith}
 use native.Mathlib.Nat.{pow-succ', div-div-eq-div-mul, zero-div}
 use lib.ListN.{getD}
 use Rattle.model.specs.Calls.{Outcome, beginCall, deliverCall, lookupCall, verdictCall}
-use Rattle.delivery.specs.declared.answer.Answer.{Answer}
-use Rattle.delivery.specs.declared.answer.Step.{Step}
-use Rattle.delivery.specs.declared.answer.Step.the-variants.{Refused, Copied, SentOn, Attached, Notified}
-use Rattle.delivery.specs.Answers.{outcome, stepFields, answerFields}
+use Rattle.delivery_parts.specs.declared.answer.Answer.{Answer}
+use Rattle.delivery_parts.specs.declared.answer.Step.{Step}
+use Rattle.delivery_parts.specs.declared.answer.Step.the-variants.{Refused, Copied, SentOn, Attached, Notified}
+use Rattle.delivery_parts.specs.Answers.{outcome, stepFields, answerFields}
 use Rattle.engine.specs.Outcomes.{leaves}
 use Rattle.overlay.specs.declared.delivered.Numbers.{Numbers}
 use Rattle.overlay.specs.Numbers.{listed, takenFields}

@@ -1,11 +1,11 @@
 // A delivery's answer as numbers: the refusal; 1 copied, 2 sent on, 3 attached, 4 notified; the level where it attached; 1 if the
 // sender settled.
 ghost use mathlib.Core.Path.{_≡_};
-ghost use Rattle.delivery.specs.Answers.{answerFields};
+ghost use Rattle.delivery_parts.specs.Answers.{answerFields};
 ghost use Rattle.overlay.specs.Numbers.{listed, takenFields};
 use crate::pack::bit;
-use delivery::answer::Answer;
-use delivery::answer::Step;
+use delivery_parts::answer::Answer;
+use delivery_parts::answer::Step;
 
 pub struct Numbers {
     pub refusal: u64,

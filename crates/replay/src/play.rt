@@ -1,6 +1,6 @@
 // Each command played by the public calls, and its answer in words.
 use crate::say;
-use delivery::answer::Step;
+use delivery_parts::answer::Step;
 use engine::beginning;
 use engine::delivering;
 use engine::founding;

@@ -10,10 +10,10 @@ use lib.Seq.{length-take-le, take-suc-set}
 use borrow.Author.Tests.{ne-eqb}
 use Rattle.model.specs.Calls.{foundCall, readCall, beginCall, deliverCall, lookupCall, verdictCall, writeCall}
 use Rattle.model.specs.Run.{step}
-use Rattle.delivery.specs.declared.answer.Answer.{Answer}
-use Rattle.delivery.specs.declared.answer.Step.{Step}
-use Rattle.delivery.specs.declared.answer.Step.the-variants.{Refused, Copied, SentOn, Attached, Notified}
-use Rattle.delivery.specs.Answers.{outcome, stepFields, answerFields}
+use Rattle.delivery_parts.specs.declared.answer.Answer.{Answer}
+use Rattle.delivery_parts.specs.declared.answer.Step.{Step}
+use Rattle.delivery_parts.specs.declared.answer.Step.the-variants.{Refused, Copied, SentOn, Attached, Notified}
+use Rattle.delivery_parts.specs.Answers.{outcome, stepFields, answerFields}
 use Rattle.engine.specs.Outcomes.{leaves, writes}
 use Rattle.replay_calls.specs.Coded.{imageAt, zeros, callOf, halfAt, numberAt}
 use Rattle.records.specs.Lent.{memory}

@@ -1,6 +1,6 @@
 -- `deliver_copying`: the record and x's table are the delivery's, and y's table stays. Assumes nothing.
-use Rattle.delivery.proofs.Readers.{meets}
-use Rattle.delivery.proofs.Deliveries.{copied-is}
+use Rattle.delivery_parts.proofs.Readers.{meets}
+use Rattle.delivery_parts.proofs.Deliveries.{copied-is}
 use borrow.Author.Needs.{needs}
 use Rattle.delivery.proofs.copying.deliver_copying.Statement.{statement}
 use Rattle.delivery.proofs.copying.deliver_copying.Tie as tie

@@ -1,6 +1,6 @@
 -- `next_request`: each return is a case of the definition. Assumes nothing.
-use Rattle.delivery.proofs.Levels.{first-placed}
-use Rattle.delivery.proofs.Deliveries.{asks-receiver, asks-first, waits-first}
+use Rattle.delivery_parts.proofs.Levels.{first-placed}
+use Rattle.delivery_parts.proofs.Deliveries.{asks-receiver, asks-first, waits-first}
 use borrow.Author.Needs.{needs}
 use Rattle.delivery.proofs.copying.next_request.Statement.{statement}
 use Rattle.delivery.proofs.copying.next_request.Tie as tie

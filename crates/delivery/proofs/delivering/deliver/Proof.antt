@@ -1,5 +1,5 @@
 -- `deliver`: the arm that is taken is the definition's case, and a sender that asks has one of the three statuses. Assumes nothing.
-use Rattle.delivery.proofs.Deliveries.{delivers, delivers-copying, delivers-waiting, delivers-notifying, settled-asks-nothing, other-asks-nothing}
+use Rattle.delivery_parts.proofs.Deliveries.{delivers, delivers-copying, delivers-waiting, delivers-notifying, settled-asks-nothing, other-asks-nothing}
 use borrow.Author.Needs.{needs}
 use Rattle.delivery.proofs.delivering.deliver.Statement.{statement}
 use Rattle.delivery.proofs.delivering.deliver.Tie as tie

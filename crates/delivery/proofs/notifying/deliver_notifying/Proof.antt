@@ -1,7 +1,7 @@
 -- `deliver_notifying`: the sets, the level and both tables are the delivery's. Assumes nothing.
-use Rattle.delivery.proofs.Readers.{placed, meets}
-use Rattle.delivery.proofs.Learned.{gathers-told}
-use Rattle.delivery.proofs.Deliveries.{notified-is}
+use Rattle.delivery_parts.proofs.Readers.{placed, meets}
+use Rattle.delivery_parts.proofs.Learned.{gathers-told}
+use Rattle.delivery_parts.proofs.Deliveries.{notified-is}
 use borrow.Author.Needs.{needs}
 use Rattle.delivery.proofs.notifying.deliver_notifying.Statement.{statement}
 use Rattle.delivery.proofs.notifying.deliver_notifying.Tie as tie

@@ -1,5 +1,5 @@
 -- `notify`: y's table is put back with x in it, and x learns it from there. Assumes nothing.
-use Rattle.delivery.proofs.Learned.{meets-taught, told-is}
+use Rattle.delivery_parts.proofs.Learned.{meets-taught, told-is}
 use borrow.Author.Needs.{needs}
 use Rattle.delivery.proofs.notifying.notify.Statement.{statement}
 use Rattle.delivery.proofs.notifying.notify.Tie as tie

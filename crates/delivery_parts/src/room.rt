@@ -1,0 +1,58 @@
+// Room in the receiver's table for the sender: x sends to y, and h is their match.
+ghost use mathlib.Core.Path.{_≡_};
+ghost use mathlib.Core.Bool.{true};
+ghost use Rattle.model.specs.Memory.{tableOf};
+ghost use Rattle.model.specs.Sound.{suffixOf};
+ghost use Rattle.model.specs.Join.{roomAtSuffix, attachLevel};
+ghost use Rattle.delivery_parts.specs.Delivers.{Delivers, Level, roomAt, EntryOf};
+use ident::digit;
+use learning::owner::Owner;
+use tables::entry;
+use tables::part;
+
+// "y's entry (i, digit i of x) .. holds fewer than K"
+fn has_room(sender: Owner, theirs: &[u8], i: usize) -> bool
+    requires { ⌜ Level (now theirs) (sender .depth) i ⌝ }
+    ensures { λ r. ⌜ r ≡ roomAt (sender .depth) (now (theirs .entry)) (sender .id) i ⌝ }
+{
+    let size = entry::size(theirs, sender.depth, i, digit(sender.id, i));
+    size < sender.depth
+}
+
+// E, "y's entry (h, digit h of x) before the step": whether it holds fewer than K, and its first.
+pub struct SuffixEntry {
+    pub room: bool,
+    pub first: usize,
+}
+
+pub fn suffix_entry(state: &[u64], tables: &[u8], x: usize, y: usize) -> SuffixEntry
+    requires { ⌜ Delivers (now state) (now tables) x y ⌝ }
+    ensures { λ r. ⌜ EntryOf (now (state .entry)) (now (tables .entry)) x y r ⌝ }
+{
+    let sender = Owner::load(state, x);
+    let suffix = sender.suffix(state, y);
+    let theirs = part::lent(tables, y);
+    SuffixEntry {
+        room: has_room(sender, theirs, suffix),
+        first: entry::first(theirs, suffix, digit(sender.id, suffix)),
+    }
+}
+
+// "the attach level is the lowest k such that each y entry (i, digit i of x), k to h, holds fewer than K": E does, and k goes down
+// until the level below is full.
+pub fn attach_level(state: &[u64], tables: &[u8], x: usize, y: usize) -> usize
+    requires { ⌜ Delivers (now state) (now tables) x y ⌝ }
+    requires { ⌜ roomAtSuffix (now state) (tableOf (now tables) y) x y ≡ true ⌝ }
+    ensures { λ r. ⌜ r ≡ attachLevel (now (state .entry)) (tableOf (now (tables .entry)) y) x (suffixOf (now (state .entry)) x y) ⌝ }
+{
+    let sender = Owner::load(state, x);
+    let theirs = part::lent(tables, y);
+    let mut k = sender.suffix(state, y);
+    while 0 < k {
+        if !has_room(sender, theirs, k - 1) {
+            return k;
+        }
+        k -= 1;
+    }
+    0
+}
