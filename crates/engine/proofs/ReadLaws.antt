@@ -1,26 +1,17 @@
--- The sentences of a reading, and its two ends. Assumes nothing.
+-- A reading's two ends. Assumes nothing.
 use Prim.Native.Nat.{ℕ, _<_}
 use mathlib.Core.Path.{_≡_, sym, ap, _∙_}
-use mathlib.Core.Bool.{Bool, true, false}
 use mathlib.Core.List.{List, [], _∷_}
 use Rattle.model.specs.Memory.{Memory}
 use Rattle.model.specs.Image.{byteAt, loaded}
 use Rattle.model.specs.Refusals.{memoryShort, imageRefusal, readRefusal}
 use Rattle.model.specs.Calls.{refused, taken, readCall}
 use Rattle.model.proofs.Calls.{taken-is, refused-is}
-use Rattle.model.proofs.Refusals.{refuse-leaves, refuse-goes, passed}
+use Rattle.model.proofs.Refusals.{passed}
 use Rattle.model.proofs.Taken.{read-taken}
 use Rattle.judging.proofs.Sentences.{counted-taken}
 use Rattle.loading.specs.Loads.{Loads}
 use Rattle.engine.specs.Outcomes.{leaves}
-
-pub read-1 : (s t im : List ℕ) (q : Bool) → q ≡ memoryShort s t → q ≡ true → 1 ≡ readRefusal s t im
-unfolding readRefusal
-read-1 s t im q e h = refuse-leaves (memoryShort s t) 1 (imageRefusal im) q e h
-
-pub read-image : (s t im : List ℕ) (q : Bool) (r : ℕ) → q ≡ memoryShort s t → q ≡ false → r ≡ imageRefusal im → r ≡ readRefusal s t im
-unfolding readRefusal
-read-image s t im q r e h f = refuse-goes (memoryShort s t) 1 (imageRefusal im) r q e h f
 
 image-taken : (s t im : List ℕ) → readRefusal s t im ≡ 0 → imageRefusal im ≡ 0
 unfolding readRefusal

@@ -1,27 +1,8 @@
 // Founding.
 ghost use mathlib.Core.Path.{_≡_};
 ghost use mathlib.Core.List.{[], _∷_};
-ghost use Rattle.model.specs.Refusals.{foundRefusal};
 ghost use Rattle.model.specs.Calls.{foundCall};
 ghost use Rattle.engine.specs.Outcomes.{leaves};
-use ident::settings_in_range;
-use ident::valid_id;
-use records::lent;
-
-fn refusal(state: &[u64], tables: &[u8], base: u64, digits: u64, depth: u64, id: u32) -> u64
-    ensures { λ r. ⌜ r ≡ foundRefusal (now (state .entry)) (now (tables .entry)) base digits depth id ⌝ }
-{
-    if lent::short(state, tables) {
-        return 1;
-    }
-    if !settings_in_range(base, digits, depth) {
-        return 5;
-    }
-    if !valid_id(base as usize, digits as usize, id) {
-        return 7;
-    }
-    0
-}
 
 // Makes node 1 of a new network in the lent memory, whatever it held. Answers the refusal: 1, 5 or 7, or 0.
 pub fn found(
@@ -34,7 +15,7 @@ pub fn found(
 ) -> u64
     ensures { λ r. ⌜ leaves (now (state .exit)) (now (tables .exit)) (r ∷ []) ≡ foundCall (now (state .entry)) (now (tables .entry)) base digits depth id ⌝ }
 {
-    let r = refusal(state, tables, base, digits, depth, id);
+    let r = refusals::founding::refusal(state, tables, base, digits, depth, id);
     if r != 0 {
         return r;
     }

@@ -5,6 +5,5 @@ pub mod delivering;
 pub mod founding;
 pub mod lookup;
 pub mod reading;
-pub mod sentences;
 pub mod verdict;
 pub mod writing;

@@ -2,10 +2,8 @@
 ghost use mathlib.Core.Path.{_≡_};
 ghost use mathlib.Core.Bool.{cond};
 ghost use mathlib.Core.List.{[], _∷_};
-ghost use Rattle.model.specs.Refusals.{lookupRefusal};
 ghost use Rattle.model.specs.Calls.{lookupCall};
 ghost use Rattle.engine.specs.Outcomes.{leaves};
-use crate::sentences;
 
 // The refusal; whether the lookup arrived, its hops and its last node.
 pub struct Found {
@@ -15,27 +13,11 @@ pub struct Found {
     pub last: u64,
 }
 
-fn refusal(state: &[u64], tables: &[u8], from: u64, to: u64) -> u64
-    ensures { λ r. ⌜ r ≡ lookupRefusal (now (state .entry)) (now (tables .entry)) from to ⌝ }
-{
-    let r = sentences::state_refusal(state, tables);
-    if r != 0 {
-        return r;
-    }
-    if !sentences::is_node(state, from) {
-        return 9;
-    }
-    if !sentences::is_node(state, to) {
-        return 9;
-    }
-    0
-}
-
 // Follows the lookup from one node to another. Refusals: 1, 2, 9.
 pub fn lookup(state: &[u64], tables: &[u8], from: u64, to: u64) -> Found
     ensures { λ r. ⌜ leaves (now (state .entry)) (now (tables .entry)) (r .refusal ∷ cond (r .arrived) 1 0 ∷ r .hops ∷ r .last ∷ []) ≡ lookupCall (now (state .entry)) (now (tables .entry)) from to ⌝ }
 {
-    let r = refusal(state, tables, from, to);
+    let r = refusals::lookup::refusal(state, tables, from, to);
     if r != 0 {
         return Found {
             refusal: r,

@@ -1,26 +1,15 @@
 // Reading an image.
 ghost use mathlib.Core.Path.{_≡_};
 ghost use mathlib.Core.List.{[], _∷_};
-ghost use Rattle.model.specs.Refusals.{readRefusal};
 ghost use Rattle.model.specs.Calls.{readCall};
 ghost use Rattle.engine.specs.Outcomes.{leaves};
-use records::lent;
-
-fn refusal(state: &[u64], tables: &[u8], image: &[u8]) -> u64
-    ensures { λ r. ⌜ r ≡ readRefusal (now (state .entry)) (now (tables .entry)) (now (image .entry)) ⌝ }
-{
-    if lent::short(state, tables) {
-        return 1;
-    }
-    judging::refusal(image)
-}
 
 // Makes the network of the image in the lent memory, whatever it held, every node in the system. The whole image is judged before one byte
 // is written. Answers the refusal: 1, 3, 4, 5, 6, 7, 8, 9 or 10, or 0.
 pub fn read(state: &mut [u64], tables: &mut [u8], image: &[u8]) -> u64
     ensures { λ r. ⌜ leaves (now (state .exit)) (now (tables .exit)) (r ∷ []) ≡ readCall (now (state .entry)) (now (tables .entry)) (now (image .entry)) ⌝ }
 {
-    let r = refusal(state, tables, image);
+    let r = refusals::reading::refusal(state, tables, image);
     if r != 0 {
         return r;
     }

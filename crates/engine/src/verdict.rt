@@ -2,10 +2,8 @@
 ghost use mathlib.Core.Path.{_≡_};
 ghost use mathlib.Core.Bool.{cond};
 ghost use mathlib.Core.List.{[], _∷_};
-ghost use Rattle.model.specs.Refusals.{verdictRefusal};
 ghost use Rattle.model.specs.Calls.{verdictCall};
 ghost use Rattle.engine.specs.Outcomes.{leaves};
-use crate::sentences;
 
 // The refusal; whether the network is K-consistent, and if not, node, level and digit of the first entry that falls short.
 pub struct Judged {
@@ -16,24 +14,11 @@ pub struct Judged {
     pub digit: u64,
 }
 
-fn refusal(state: &[u64], tables: &[u8]) -> u64
-    ensures { λ r. ⌜ r ≡ verdictRefusal (now (state .entry)) (now (tables .entry)) ⌝ }
-{
-    let r = sentences::state_refusal(state, tables);
-    if r != 0 {
-        return r;
-    }
-    if !sentences::all_in_system(state) {
-        return 15;
-    }
-    0
-}
-
 // Judges the tables. Refusals: 1, 2, 15.
 pub fn verdict(state: &[u64], tables: &[u8]) -> Judged
     ensures { λ r. ⌜ leaves (now (state .entry)) (now (tables .entry)) (r .refusal ∷ cond (r .consistent) 1 0 ∷ r .node ∷ r .level ∷ r .digit ∷ []) ≡ verdictCall (now (state .entry)) (now (tables .entry)) ⌝ }
 {
-    let r = refusal(state, tables);
+    let r = refusals::verdict::refusal(state, tables);
     if r != 0 {
         return Judged {
             refusal: r,

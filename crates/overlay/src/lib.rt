@@ -98,5 +98,5 @@ pub extern "C" fn overlay_write(state: &[u64], tables: &[u8], out: &mut [u8]) ->
 pub extern "C" fn overlay_sound(state: &[u64], tables: &[u8]) -> u64
     ensures { λ r. ⌜ r ≡ stateRefusal (now (state .entry)) (now (tables .entry)) 0 ⌝ }
 {
-    engine::sentences::state_refusal(state, tables)
+    sentences::state_refusal(state, tables)
 }

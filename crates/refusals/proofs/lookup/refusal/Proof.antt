@@ -1,0 +1,39 @@
+-- `refusal`: each return is a sentence of the chain. Assumes nothing.
+use borrow.Author.Needs.{needs}
+use Rattle.sentences.proofs.State.{state-long}
+use Rattle.refusals.proofs.LookupLaws.{lookup-state, lookup-from, lookup-to, lookup-none}
+use Rattle.refusals.proofs.lookup.refusal.Statement.{statement}
+use Rattle.refusals.proofs.lookup.refusal.Tie as tie
+
+state-refusal-requires : tie.Need-state-refusal-requires
+state-refusal-requires c κs = search needs
+
+returns : tie.Need-returns
+returns c = search lookup-state
+
+is-node-requires : tie.Need-is-node-requires
+is-node-requires c κs = state-long _ _ _ (c .before .state-refusal .ensures) (c .if1 .left)
+
+returns-2 : tie.Need-returns-2
+returns-2 c = search lookup-from
+
+is-node-requires-2 : tie.Need-is-node-requires-2
+is-node-requires-2 c κs = state-long _ _ _ (c .before .before .before .state-refusal .ensures) (c .before .before .if1 .left)
+
+returns-3 : tie.Need-returns-3
+returns-3 c = search lookup-to
+
+returns-4 : tie.Need-returns-4
+returns-4 c = search lookup-none
+
+pub refusal-spec : {M : Type 1} → statement M
+refusal-spec =
+    tie.close
+    (tie.spec
+    state-refusal-requires
+    returns
+    is-node-requires
+    returns-2
+    is-node-requires-2
+    returns-3
+    returns-4)

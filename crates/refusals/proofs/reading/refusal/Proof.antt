@@ -1,0 +1,20 @@
+-- `refusal`: 1, or what the image itself decides. Assumes nothing.
+use Rattle.refusals.proofs.ReadLaws.{read-1, read-image}
+use borrow.Author.Needs.{needs}
+use Rattle.refusals.proofs.reading.refusal.Statement.{statement}
+use Rattle.refusals.proofs.reading.refusal.Tie as tie
+
+short-requires : tie.Need-short-requires
+short-requires c κs = search needs
+
+returns : tie.Need-returns
+returns c = search read-1
+
+refusal-requires : tie.Need-refusal-requires
+refusal-requires c κs = search needs
+
+returns-2 : tie.Need-returns-2
+returns-2 c = search read-image
+
+pub refusal-spec : {M : Type 1} → statement M
+refusal-spec = tie.close (tie.spec short-requires returns refusal-requires returns-2)

@@ -1,0 +1,2 @@
+-- What the contracts of the refusals cite.
+pub mod Refused

@@ -1,0 +1,82 @@
+// The refusals of delivering.
+ghost use mathlib.Core.Path.{_≡_};
+ghost use mathlib.Core.Bool.{_&&_, _||_};
+ghost use lib.Dec.{eqb};
+ghost use Rattle.model.specs.Memory.{copying, waiting};
+ghost use Rattle.model.specs.Join as book;
+ghost use Rattle.model.specs.Refusals.{waitHeld, deliverRefusal};
+ghost use Rattle.records.specs.Loaded.{Placed};
+ghost use Rattle.refusals.specs.Refused.{deliverSentences};
+use records::record;
+use records::record::Node;
+use records::sets;
+use records::status::Status;
+
+// The node's own request, "one to the target of each copying or waiting member", goes to y.
+fn asks_target(node: Node, y: usize) -> bool
+    ensures { λ r. ⌜ r ≡ ((eqb (node .status) copying || eqb (node .status) waiting) && eqb (node .target) y) ⌝ }
+{
+    let status = Status {
+        number: node.status,
+    };
+    if !status.joining() {
+        return false;
+    }
+    node.target == y as u64
+}
+
+// "The outstanding requests are one to the target of each copying or waiting member and one to each member of each asked set."
+fn outstanding(state: &[u64], x: usize, y: usize) -> bool
+    requires { ⌜ Placed (now state) x ⌝ }
+    requires { ⌜ Placed (now state) y ⌝ }
+    ensures { λ r. ⌜ r ≡ book.outstanding (now (state .entry)) x y ⌝ }
+{
+    let node = record::load(state, x);
+    if asks_target(node, y) {
+        return true;
+    }
+    sets::has(node.pending, y)
+}
+
+// 14: "A wait request's receiver isn't settled".
+fn wait_held(state: &[u64], x: usize, y: usize) -> bool
+    requires { ⌜ Placed (now state) x ⌝ }
+    requires { ⌜ Placed (now state) y ⌝ }
+    ensures { λ r. ⌜ r ≡ waitHeld (now (state .entry)) x y ⌝ }
+{
+    if record::status(state, x) != Status::WAITING {
+        return false;
+    }
+    record::status(state, y) != Status::IN_SYSTEM
+}
+
+// 13, "No request from the first member to the second is outstanding", and 14.
+fn sentences_on(state: &[u64], x: usize, y: usize) -> u64
+    requires { ⌜ Placed (now state) x ⌝ }
+    requires { ⌜ Placed (now state) y ⌝ }
+    ensures { λ r. ⌜ r ≡ deliverSentences (now (state .entry)) x y ⌝ }
+{
+    if !outstanding(state, x, y) {
+        return 13;
+    }
+    if wait_held(state, x, y) {
+        return 14;
+    }
+    0
+}
+
+pub fn refusal(state: &[u64], tables: &[u8], sender: u64, receiver: u64) -> u64
+    ensures { λ r. ⌜ r ≡ deliverRefusal (now (state .entry)) (now (tables .entry)) sender receiver ⌝ }
+{
+    let r = sentences::state_refusal(state, tables);
+    if r != 0 {
+        return r;
+    }
+    if !sentences::is_node(state, sender) {
+        return 9;
+    }
+    if !sentences::is_node(state, receiver) {
+        return 9;
+    }
+    sentences_on(state, sender as usize, receiver as usize)
+}

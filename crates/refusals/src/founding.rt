@@ -1,0 +1,20 @@
+// The refusals of founding.
+ghost use mathlib.Core.Path.{_≡_};
+ghost use Rattle.model.specs.Refusals.{foundRefusal};
+use ident::settings_in_range;
+use ident::valid_id;
+
+pub fn refusal(state: &[u64], tables: &[u8], base: u64, digits: u64, depth: u64, id: u32) -> u64
+    ensures { λ r. ⌜ r ≡ foundRefusal (now (state .entry)) (now (tables .entry)) base digits depth id ⌝ }
+{
+    if lent::short(state, tables) {
+        return 1;
+    }
+    if !settings_in_range(base, digits, depth) {
+        return 5;
+    }
+    if !valid_id(base as usize, digits as usize, id) {
+        return 7;
+    }
+    0
+}

@@ -1,0 +1,19 @@
+// The refusals of lookup.
+ghost use mathlib.Core.Path.{_≡_};
+ghost use Rattle.model.specs.Refusals.{lookupRefusal};
+
+pub fn refusal(state: &[u64], tables: &[u8], from: u64, to: u64) -> u64
+    ensures { λ r. ⌜ r ≡ lookupRefusal (now (state .entry)) (now (tables .entry)) from to ⌝ }
+{
+    let r = sentences::state_refusal(state, tables);
+    if r != 0 {
+        return r;
+    }
+    if !sentences::is_node(state, from) {
+        return 9;
+    }
+    if !sentences::is_node(state, to) {
+        return 9;
+    }
+    0
+}

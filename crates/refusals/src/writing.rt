@@ -1,0 +1,19 @@
+// The refusals of writing an image.
+ghost use mathlib.Core.Path.{_≡_};
+ghost use Rattle.model.specs.Refusals.{writeRefusal};
+
+pub fn refusal(state: &[u64], tables: &[u8], out: &[u8]) -> u64
+    ensures { λ r. ⌜ r ≡ writeRefusal (now (state .entry)) (now (tables .entry)) (now (out .entry)) ⌝ }
+{
+    let r = sentences::state_refusal(state, tables);
+    if r != 0 {
+        return r;
+    }
+    if !sentences::all_in_system(state) {
+        return 15;
+    }
+    if out.len() < image::length(state, tables) {
+        return 16;
+    }
+    0
+}

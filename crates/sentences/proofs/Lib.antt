@@ -1,0 +1,2 @@
+-- The laws by which the sentences meet the book.
+pub mod State

@@ -1,0 +1,10 @@
+-- What the sentences ask.
+use Prim.Native.Nat.{ℕ, _≤_}
+use mathlib.Core.List.{List}
+use lib.ListN.{length}
+use Rattle.model.specs.Memory.{nodeCount}
+
+-- the records of the state's nodes stand in it
+pub record Counted (s : List ℕ) : Type 0 where
+  pub long : 520 ≤ length s
+  pub few : nodeCount s ≤ 64

@@ -1,0 +1,2 @@
+-- What the contracts of the sentences cite.
+pub mod Counted
