@@ -1,6 +1,4 @@
 -- Laws that join what the code has computed to the clauses of the book.
-pub mod Bytes
-pub mod NewIds
 pub mod Keys
 pub mod Runs
 pub mod Rules

@@ -1,5 +1,5 @@
 -- What the cursor over the records holds. im is the image.
-use Prim.Native.Nat.{ℕ, _+_, _-_, _*_, _≤_, _<_}
+use Prim.Native.Nat.{ℕ, _+_, _-_, _≤_, _<_}
 use mathlib.Core.Path.{_≡_}
 use mathlib.Core.Bool.{Bool, true, false, cond, _&&_}
 use mathlib.Core.List.{List}
@@ -8,19 +8,12 @@ use Rattle.model.specs.Loops.{allBelow, anyBelow, countBelow}
 use Rattle.model.specs.Memory.{hasNode, addNode}
 use Rattle.model.specs.Image.{recNode, recLevel, recDigit, recNeighbor, recOrdered, recAllowed, recOwnerFirst}
 use Rattle.judging.specs.Judged.{recGood}
-use Rattle.judging.specs.declared.header.Header.{Header}
-use Rattle.judging.specs.declared.record.Record.{Record}
+use Rattle.judging_parts.specs.declared.header.Header.{Header}
+use Rattle.judging_parts.specs.declared.record.Record.{Record}
 use Rattle.judging.specs.declared.cursor.Cursor.{Cursor}
 use Rattle.judging.specs.declared.cursor.Finding.{Finding}
 use Rattle.judging.specs.declared.cursor.Finding.the-variants.{Good, Disordered, Forbidden, OwnerNotFirst}
-
--- an entry as one number: it rises with node, level and digit, each a byte
-abbrev pub entryKey : ℕ → ℕ → ℕ → ℕ
-entryKey x i j = 65536 * x + 256 * i + j
-
--- the entry of a record that the code holds
-abbrev pub keyOf : Record → ℕ
-keyOf e = entryKey (e .node) (e .level) (e .digit)
+use Rattle.judging_parts.specs.Parts.{entryKey, keyOf}
 
 -- the entry of record r
 unfoldable pub recKey : List ℕ → ℕ → ℕ

@@ -4,13 +4,14 @@ ghost use mathlib.Core.Path.{_≡_};
 ghost use Prim.Native.Nat.{_<_};
 ghost use Rattle.model.specs.Image.{imRecords, recAllowed, recOwnerFirst};
 ghost use Rattle.records.specs.Loaded.{Numbered};
-ghost use Rattle.judging.specs.Judged.{Headed, Named, RecordOf, Small};
+ghost use Rattle.judging_parts.specs.Parts.{Headed, RecordOf, Small};
+ghost use Rattle.judging.specs.Judged.{Named};
 ghost use Rattle.judging.specs.Cursors.{Enters, Follows, Finds, started, entered, passed, keepsOrder};
-use crate::header::Header;
-use crate::ids::id;
-use crate::record;
-use crate::record::Record;
 use ident::qualified;
+use judging_parts::header::Header;
+use judging_parts::ids::id;
+use judging_parts::record;
+use judging_parts::record::Record;
 use records::sets;
 
 // The next record; the entry of the record before it, by its key, with how many records of this entry are read and whom they name.

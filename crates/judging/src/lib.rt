@@ -2,16 +2,16 @@
 // of their number; the time is in proportion to the number of records.
 ghost use mathlib.Core.Path.{_≡_};
 ghost use Rattle.model.specs.Refusals.{imageRefusal};
-ghost use Rattle.judging.specs.Judged.{Counted, laterRefusal};
-use crate::header::byte;
+ghost use Rattle.judging_parts.specs.Parts.{Counted};
+ghost use Rattle.judging.specs.Judged.{laterRefusal};
 use ident::settings_in_range;
+use judging_parts::header;
+use judging_parts::header::byte;
+use judging_parts::ids;
 
 mod cursor;
-pub mod header;
-pub mod ids;
 mod own;
 mod passes;
-pub mod record;
 
 // 7 to 10, once the counts are right.
 fn later_refusal(image: &[u8]) -> u64

@@ -4,7 +4,7 @@ ghost use Prim.Native.Nat.{_+_, _≤_};
 ghost use lib.ListN.{length};
 ghost use Rattle.replay_calls.specs.Coded.{halfAt, numberAt};
 ghost use Rattle.replay_calls.specs.Shown.{fieldsAt};
-use judging::header::byte;
+use judging_parts::header::byte;
 
 pub struct Coded {
     pub kind: u64,

@@ -1,0 +1,2 @@
+-- What the contracts of the parts cite.
+pub mod Parts
