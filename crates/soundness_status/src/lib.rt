@@ -14,9 +14,6 @@ use records::settings::Settings;
 use records::status::Status;
 
 mod joining;
-mod notified;
-mod notifying;
-mod pending;
 
 // "a settled member's attach level, target and sets are zero"
 fn in_system(r: Node) -> bool
@@ -47,7 +44,7 @@ fn status(state: &[u64], s: Settings, x: usize) -> bool
         Status::IN_SYSTEM => in_system(r),
         Status::COPYING => joining::copying(state, s, x, r),
         Status::WAITING => joining::waiting(state, s, x, r),
-        Status::NOTIFYING => notifying::sound(state, s, x, r),
+        Status::NOTIFYING => soundness_notifying::sound(state, s, x, r),
         _ => false,
     }
 }

@@ -1,9 +1,9 @@
 -- `notified::one`: the tests are the book's, in its order. Assumes nothing.
 use borrow.Author.Needs.{needs}
 use Rattle.model.proofs.Bools.{and-leaves, and-goes}
-use Rattle.soundness_status.proofs.StatusLaws.{has-leaves, has-goes, notified-of}
-use Rattle.soundness_status.proofs.notified.one.Statement.{statement}
-use Rattle.soundness_status.proofs.notified.one.Tie as tie
+use Rattle.soundness_notifying.proofs.NotifyingLaws.{has-leaves, has-goes, notified-of}
+use Rattle.soundness_notifying.proofs.notified.one.Statement.{statement}
+use Rattle.soundness_notifying.proofs.notified.one.Tie as tie
 
 has-requires : tie.Need-has-requires
 has-requires c κs = search needs

@@ -1,9 +1,9 @@
 -- `sets_sound`: the tests are the book's, in its order, of the record that was loaded. Assumes nothing.
 use borrow.Author.Needs.{needs}
 use Rattle.model.proofs.Bools.{and-leaves, and-goes}
-use Rattle.soundness_status.proofs.StatusLaws.{sets-of}
-use Rattle.soundness_status.proofs.notifying.sets_sound.Statement.{statement}
-use Rattle.soundness_status.proofs.notifying.sets_sound.Tie as tie
+use Rattle.soundness_notifying.proofs.NotifyingLaws.{sets-of}
+use Rattle.soundness_notifying.proofs.sets_sound.Statement.{statement}
+use Rattle.soundness_notifying.proofs.sets_sound.Tie as tie
 
 only-below-requires : tie.Need-only-below-requires
 only-below-requires c κs = search needs

@@ -1,9 +1,9 @@
 -- `sound`: the tests are the book's, in its order, of the record that was loaded. Assumes nothing.
 use borrow.Author.Needs.{needs}
 use Rattle.model.proofs.Early.{eq-goes, eq-leaves, lt-goes, lt-leaves}
-use Rattle.soundness_status.proofs.StatusLaws.{some-leaves, some-goes, notifying-of}
-use Rattle.soundness_status.proofs.notifying.sound.Statement.{statement}
-use Rattle.soundness_status.proofs.notifying.sound.Tie as tie
+use Rattle.soundness_notifying.proofs.NotifyingLaws.{some-leaves, some-goes, notifying-of}
+use Rattle.soundness_notifying.proofs.sound.Statement.{statement}
+use Rattle.soundness_notifying.proofs.sound.Tie as tie
 
 returns : tie.Need-returns
 returns c = search (notifying-of, eq-leaves)

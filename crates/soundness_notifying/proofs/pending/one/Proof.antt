@@ -3,9 +3,9 @@ use mathlib.Core.Path.{ap}
 use mathlib.Core.Bool.{not}
 use borrow.Author.Needs.{needs}
 use Rattle.model.proofs.Bools.{and-leaves, and-goes}
-use Rattle.soundness_status.proofs.StatusLaws.{has-leaves, has-goes, suffix-is, suffix-leaves, suffix-goes, other-leaves, other-goes, pending-of}
-use Rattle.soundness_status.proofs.pending.one.Statement.{statement}
-use Rattle.soundness_status.proofs.pending.one.Tie as tie
+use Rattle.soundness_notifying.proofs.NotifyingLaws.{has-leaves, has-goes, suffix-is, suffix-leaves, suffix-goes, other-leaves, other-goes, pending-of}
+use Rattle.soundness_notifying.proofs.pending.one.Statement.{statement}
+use Rattle.soundness_notifying.proofs.pending.one.Tie as tie
 
 has-requires : tie.Need-has-requires
 has-requires c κs = search needs

@@ -4,14 +4,15 @@ ghost use Rattle.model.specs.Sound.{notifyingSound};
 ghost use Rattle.records.specs.Loaded.{SettingsOf, NodeOf};
 ghost use Rattle.model.proofs.Status.{IsNode};
 ghost use Rattle.soundness_ids.specs.Checked.{Identified};
-ghost use Rattle.soundness_status.specs.StatusFacts.{setsSound};
-use crate::notified;
-use crate::pending;
+ghost use Rattle.soundness_notifying.specs.Sets.{setsSound};
 use records::record::Node;
 use records::sets;
 use records::settings::Settings;
 use soundness_ids::node;
 use soundness_ids::node::Owner;
+
+mod notified;
+mod pending;
 
 // Both sets name nodes alone, each of them one that may stand there.
 fn sets_sound(state: &[u64], s: Settings, x: usize, r: Node) -> bool

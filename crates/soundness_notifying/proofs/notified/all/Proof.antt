@@ -7,8 +7,8 @@ use borrow.Author.Needs.{needs}
 use Rattle.model.specs.Loops.{allBelow, node}
 use Rattle.model.specs.Sound.{notifiedSound}
 use Rattle.model.proofs.Nodes.{all-loop-to}
-use Rattle.soundness_status.proofs.notified.all.Statement.{statement}
-use Rattle.soundness_status.proofs.notified.all.Tie as tie
+use Rattle.soundness_notifying.proofs.notified.all.Statement.{statement}
+use Rattle.soundness_notifying.proofs.notified.all.Tie as tie
 
 abbrev Inv-loop : tie.InvT-loop
 Inv-loop state s x r k₀ k = (k ≤ s .nodes) × (allBelow k (node (notifiedSound state x)) ≡ true)
