@@ -1,6 +1,6 @@
--- What a load gives is the record of the book's accessors, so a fact of the one is a fact of the other (`subst`). Assumes nothing.
+-- What a load gives is the record of the book's accessors, so a fact of the one is a fact of the other. Assumes nothing.
 use Prim.Native.Nat.{ℕ}
-use mathlib.Core.Path.{_≡_}
+use mathlib.Core.Path.{_≡_, subst}
 use mathlib.Core.List.{List}
 use Rattle.model.specs.Memory.{base, digits, depth, nodeCount, idOf, statusOf, levelOf, targetOf, pendingOf, notifiedOf}
 use Rattle.records.specs.declared.record.Node.{Node}
@@ -33,3 +33,9 @@ node-is s x r w = λ i. record {
   pending = w .pending i;
   notified = w .notified i;
 }
+
+-- a fact of the loaded settings and record is one of the book's
+pub carried : (P : Settings → Node → Type 0) (s : List ℕ) (x : ℕ) (v : Settings) (r : Node) → SettingsOf s v → NodeOf s x r → P v r
+    → P (settingsAt s) (nodeAt s x)
+carried P s x v r w u e =
+    subst (λ (v : Settings). P v (nodeAt s x)) (settings-is s v w) (subst (λ (r : Node). P v r) (node-is s x r u) e)

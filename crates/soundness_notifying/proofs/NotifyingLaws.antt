@@ -5,7 +5,7 @@ use mathlib.Core.Bool.{Bool, true, false, not, _&&_, _||_}
 use mathlib.Core.List.{List}
 use native.Mathlib.Omega.{arith}
 use lib.Dec.{eqb, leb, ltb}
-use borrow.Author.Tests.{eq-eqb, ne-eqb}
+use borrow.Author.Tests.{eqb-true, eqb-false, eq-eqb, ne-eqb}
 use Rattle.model.specs.Loops.{allBelow, node}
 use Rattle.model.specs.Ids.{commonSuffix}
 use Rattle.model.specs.Memory.{digits, nodeCount, idOf, isAttached, hasNode}
@@ -14,14 +14,8 @@ use Rattle.model.proofs.Early.{true-goes, false-leaves, false-or-goes, true-or-
 use Rattle.records.specs.Loaded.{SettingsOf, NodeOf}
 use Rattle.records.specs.declared.record.Node.{Node}
 use Rattle.records.specs.declared.settings.Settings.{Settings}
-use Rattle.records.proofs.Loads.{settingsAt, settings-is, nodeAt, node-is}
+use Rattle.records.proofs.Loads.{node-is, carried}
 use Rattle.soundness_notifying.specs.Sets.{setsSound}
-
--- a fact of the loaded settings and record is one of the book's
-pub carried : (P : Settings → Node → Type 0) (s : List ℕ) (x : ℕ) (v : Settings) (r : Node) → SettingsOf s v → NodeOf s x r → P v r
-    → P (settingsAt s) (nodeAt s x)
-carried P s x v r w u e =
-    subst (λ (v : Settings). P v (nodeAt s x)) (settings-is s v w) (subst (λ (r : Node). P v r) (node-is s x r u) e)
 
 -- a node that is not in the set, and one that is
 pub has-leaves : (nodes u : ℕ) (h b : Bool) → h ≡ hasNode nodes u → not h ≡ true → true ≡ (not (hasNode nodes u) || b)
@@ -62,7 +56,6 @@ unfolding notifiedSound
 notified-of s x u r q w =
     subst (λ (r : Node). q ≡ (not (hasNode (r .notified) u) || (isAttached s u && not (eqb u x)))) (node-is s x r w)
 
--- a set that is not empty
 -- a set that is empty, and one that is not
 pub some-leaves : (nodes : ℕ) (h b : Bool) → h ≡ eqb nodes 0 → h ≡ true → false ≡ (ltb 0 nodes && b)
 some-leaves nodes h b e g =

@@ -13,10 +13,9 @@ use Rattle.model.proofs.Bools.{and-left, and-right}
 use Rattle.records.specs.Loaded.{SettingsOf, NodeOf}
 use Rattle.records.specs.declared.record.Node.{Node}
 use Rattle.records.specs.declared.settings.Settings.{Settings}
-use Rattle.records.proofs.Loads.{node-is}
+use Rattle.records.proofs.Loads.{node-is, carried}
 use Rattle.model.proofs.Status.{IsNode}
 use Rattle.soundness_status.specs.StatusFacts.{atRest, joiningAtRest}
-use Rattle.soundness_notifying.proofs.NotifyingLaws.{carried}
 
 pub rest-of : (s : List ℕ) (x : ℕ) (r : Node) (q : Bool) → NodeOf s x r → q ≡ atRest r → q ≡ inSystemSound s x
 unfolding inSystemSound

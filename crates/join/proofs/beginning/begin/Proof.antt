@@ -1,6 +1,5 @@
 -- `begin`: the count, the new record and the new table are those of `begun`. Assumes nothing.
 use Rattle.join.proofs.Laws.{begun-is}
-use native.Mathlib.Omega.{arith}
 use borrow.Author.Needs.{needs}
 use Rattle.join.proofs.beginning.begin.Statement.{statement}
 use Rattle.join.proofs.beginning.begin.Tie as tie

@@ -1,7 +1,5 @@
 -- `equal`: the two cases. Assumes nothing.
 use borrow.Author.Tests.{eq-eqb, ne-eqb}
-use native.Mathlib.Omega.{arith}
-use borrow.Author.Needs.{needs}
 use Rattle.soundness_ids.proofs.row.equal.Statement.{statement}
 use Rattle.soundness_ids.proofs.row.equal.Tie as tie
 
