@@ -8,13 +8,12 @@ use native.Mathlib.Nat.{pow-succ', div-div-eq-div-mul, zero-div}
 use lib.ListN.{getD}
 use Rattle.model.specs.Calls.{Outcome, beginCall, deliverCall, lookupCall, verdictCall}
 use Rattle.delivery_parts.specs.declared.answer.Answer.{Answer}
-use Rattle.delivery_parts.specs.declared.answer.Step.{Step}
-use Rattle.delivery_parts.specs.declared.answer.Step.the-variants.{Refused, Copied, SentOn, Attached, Notified}
-use Rattle.delivery_parts.specs.Answers.{outcome, stepFields, answerFields}
+use Rattle.delivery_parts.specs.Answers.{outcome, answerFields}
 use Rattle.engine.specs.Outcomes.{leaves}
-use Rattle.overlay.specs.declared.delivered.Numbers.{Numbers}
-use Rattle.overlay.specs.Numbers.{listed, takenFields}
-use Rattle.overlay.specs.Packed.{packed, packing, gives}
+use Rattle.packing.specs.declared.delivered.Numbers.{Numbers}
+use Rattle.packing.specs.Numbers.{listed}
+use Rattle.packing.specs.Packed.{packed}
+use Rattle.overlay.specs.Packed.{packing, gives}
 use Rattle.model.proofs.Fields.{Bytes, bit-below, begin-bytes, deliver-bytes, lookup-bytes, verdict-bytes}
 
 -- ---- shift and mask give a field back
@@ -35,27 +34,6 @@ unfolding packed Bytes
 unpacked [] k h = ap (λ (n : ℕ). n % 256) (zero-div (256 ^ k))
 unpacked (field ∷ fields) zero h = ap (λ (n : ℕ). n % 256) (omega arith) ∙ first-field field (packed fields) (h .0)
 unpacked (field ∷ fields) (suc k) h = ap (λ (n : ℕ). n % 256) (later-fields field (packed fields) k (h .0)) ∙ unpacked fields k (h .1)
-
--- ---- a delivery's answer as numbers, for each kind
-
-module _ (r : Answer) where
-  step-is : (step : Step) → r .step ≡ step → stepFields step (cond (r .settled) 1 0) ≡ answerFields r
-  step-is step e = ap (λ (step : Step). stepFields step (cond (r .settled) 1 0)) (sym e)
-
-  pub numbers-refused : (n : ℕ) → r .step ≡ Refused n → listed (record { refusal = n; kind = 0; level = 0; settled = 0 }) ≡ answerFields r
-  numbers-refused n e = step-is (Refused n) e
-
-  pub numbers-copied : (n : Numbers) → r .step ≡ Copied → listed n ≡ takenFields 1 0 (r .settled) → listed n ≡ answerFields r
-  numbers-copied n e f = f ∙ step-is Copied e
-
-  pub numbers-sent-on : (n : Numbers) → r .step ≡ SentOn → listed n ≡ takenFields 2 0 (r .settled) → listed n ≡ answerFields r
-  numbers-sent-on n e f = f ∙ step-is SentOn e
-
-  pub numbers-attached : (n : Numbers) (level : ℕ) → r .step ≡ Attached level → listed n ≡ takenFields 3 level (r .settled) → listed n ≡ answerFields r
-  numbers-attached n level e f = f ∙ step-is (Attached level) e
-
-  pub numbers-notified : (n : Numbers) → r .step ≡ Notified → listed n ≡ takenFields 4 0 (r .settled) → listed n ≡ answerFields r
-  numbers-notified n e f = f ∙ step-is Notified e
 
 -- ---- what the calls pack
 

@@ -12,7 +12,8 @@ use Rattle.model.proofs.Calls.{refused-is}
 use Rattle.model.proofs.Sections.{image-short}
 use Rattle.model.proofs.Taken.{write-taken}
 use Rattle.engine.specs.Outcomes.{writes}
-use Rattle.overlay.specs.Packed.{packed, packing, fills}
+use Rattle.packing.specs.Packed.{packed}
+use Rattle.overlay.specs.Packed.{packing, fills}
 
 -- the two fields of an answer are a refusal and a length of two bytes
 unfoldable Short : List ℕ → Type 0

@@ -1,3 +1,2 @@
 -- What the contracts of the C interface cite.
-pub mod Numbers
 pub mod Packed

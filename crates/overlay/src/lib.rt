@@ -1,18 +1,15 @@
 // The C interface: see include/overlay.h. Each function is one public call of the engine on lent memory, with its answer packed into 64
 // bits; bits 0 to 7 are the refusal.
-mod delivered;
-mod pack;
-
 ghost use mathlib.Core.Path.{_≡_};
 ghost use mathlib.Core.List.{[], _∷_};
 ghost use Rattle.model.specs.Refusals.{stateRefusal};
 ghost use Rattle.model.specs.Calls.{foundCall, readCall, beginCall, deliverCall, lookupCall, verdictCall, writeCall};
 ghost use Rattle.engine.specs.Outcomes.{leaves};
 ghost use Rattle.overlay.specs.Packed.{gives, fills, packing};
-use crate::delivered::as_numbers;
-use crate::pack::bit;
-use crate::pack::pack;
-use crate::pack::pack_length;
+use packing::delivered::as_numbers;
+use packing::pack::bit;
+use packing::pack::pack;
+use packing::pack::pack_length;
 
 // Founding: base, digits, depth and the id of node 1. Answers the refusal.
 #[no_mangle]

@@ -2,7 +2,7 @@
 ghost use mathlib.Core.Path.{_≡_};
 ghost use mathlib.Core.Bool.{cond};
 ghost use mathlib.Core.List.{[], _∷_};
-ghost use Rattle.overlay.specs.Packed.{packed, Fit, FitLength};
+ghost use Rattle.packing.specs.Packed.{packed, Fit, FitLength};
 
 // 1 for true.
 pub fn bit(b: bool) -> u64

@@ -1,9 +1,9 @@
 -- `pack_length`: no sum reaches 2^40. Assumes nothing.
 use native.Mathlib.Omega.{arith}
 use borrow.Author.Needs.{needs}
-use Rattle.overlay.specs.Packed.{packed}
-use Rattle.overlay.proofs.pack.pack_length.Statement.{statement}
-use Rattle.overlay.proofs.pack.pack_length.Tie as tie
+use Rattle.packing.specs.Packed.{packed}
+use Rattle.packing.proofs.pack.pack_length.Statement.{statement}
+use Rattle.packing.proofs.pack.pack_length.Tie as tie
 
 mul-result : tie.Need-mul-result
 mul-result c = search needs

@@ -1,8 +1,8 @@
 -- `as_numbers`: each arm is a kind of step. Assumes nothing.
 use borrow.Author.Needs.{needs}
-use Rattle.overlay.proofs.Fields.{numbers-refused, numbers-copied, numbers-sent-on, numbers-attached, numbers-notified}
-use Rattle.overlay.proofs.delivered.as_numbers.Statement.{statement}
-use Rattle.overlay.proofs.delivered.as_numbers.Tie as tie
+use Rattle.packing.proofs.NumbersLaws.{numbers-refused, numbers-copied, numbers-sent-on, numbers-attached, numbers-notified}
+use Rattle.packing.proofs.delivered.as_numbers.Statement.{statement}
+use Rattle.packing.proofs.delivered.as_numbers.Tie as tie
 
 enum-known-step : tie.Need-enum-known-step
 enum-known-step c = search needs

@@ -2,7 +2,7 @@
 // sender settled.
 ghost use mathlib.Core.Path.{_≡_};
 ghost use Rattle.delivery_parts.specs.Answers.{answerFields};
-ghost use Rattle.overlay.specs.Numbers.{listed, takenFields};
+ghost use Rattle.packing.specs.Numbers.{listed, takenFields};
 use crate::pack::bit;
 use delivery_parts::answer::Answer;
 use delivery_parts::answer::Step;

@@ -2,7 +2,7 @@
 use Prim.Native.Nat.{ℕ}
 use mathlib.Core.Bool.{Bool, cond}
 use mathlib.Core.List.{List, [], _∷_}
-use Rattle.overlay.specs.declared.delivered.Numbers.{Numbers}
+use Rattle.packing.specs.declared.delivered.Numbers.{Numbers}
 
 abbrev pub listed : Numbers → List ℕ
 listed n = n .refusal ∷ n .kind ∷ n .level ∷ n .settled ∷ []

@@ -1,0 +1,2 @@
+-- The laws by which the answers of a delivery are numbers.
+pub mod NumbersLaws

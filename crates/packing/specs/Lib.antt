@@ -1,0 +1,3 @@
+-- What the contracts of packing cite.
+pub mod Numbers
+pub mod Packed
