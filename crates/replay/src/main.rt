@@ -2,14 +2,14 @@
 ghost use mathlib.Core.Path.{_≡_};
 ghost use lib.ListN.{length};
 
-mod command;
 mod play;
 mod say;
 mod table;
-mod words;
 
-use command::Command;
 use libc::STDIN_FILENO;
+use script::command;
+use script::command::Command;
+use script::words;
 
 fn not_understood(number: u64) {
     say::text(b"line ");

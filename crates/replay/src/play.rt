@@ -125,7 +125,7 @@ pub fn save(state: &[u64], tables: &[u8], path: &[u8]) {
         return;
     }
     let n = r.length as usize;
-    keep(path, crate::words::part(&image, 0, n), r.length);
+    keep(path, script::words::part(&image, 0, n), r.length);
 }
 
 pub fn load(state: &mut [u64], tables: &mut [u8], path: &[u8]) {

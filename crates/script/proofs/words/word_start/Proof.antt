@@ -3,8 +3,8 @@ use Prim.Native.Nat.{_-_}
 use lib.ListN.{length}
 use native.Mathlib.Omega.{arith}
 use borrow.Author.Needs.{needs}
-use Rattle.replay.proofs.words.word_start.Statement.{statement}
-use Rattle.replay.proofs.words.word_start.Tie as tie
+use Rattle.script.proofs.words.word_start.Statement.{statement}
+use Rattle.script.proofs.words.word_start.Tie as tie
 
 abbrev Inv-loop : tie.InvT-loop
 Inv-loop line from at₀ at = Unit {0}

@@ -3,8 +3,8 @@ use Prim.Native.Nat.{_-_}
 use lib.ListN.{length}
 use native.Mathlib.Omega.{arith}
 use borrow.Author.Needs.{needs}
-use Rattle.replay.proofs.words.value.Statement.{statement}
-use Rattle.replay.proofs.words.value.Tie as tie
+use Rattle.script.proofs.words.value.Statement.{statement}
+use Rattle.script.proofs.words.value.Tie as tie
 
 abbrev Inv-loop : tie.InvT-loop
 Inv-loop text base n₀ i₀ n i = Unit {0}

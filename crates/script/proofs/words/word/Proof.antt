@@ -1,7 +1,7 @@
 -- `word`: the loop passes one word a turn. Assumes nothing.
 use native.Mathlib.Omega.{arith}
-use Rattle.replay.proofs.words.word.Statement.{statement}
-use Rattle.replay.proofs.words.word.Tie as tie
+use Rattle.script.proofs.words.word.Statement.{statement}
+use Rattle.script.proofs.words.word.Tie as tie
 
 abbrev Inv-loop : tie.InvT-loop
 Inv-loop line k at₀ left₀ at left = Unit {0}
