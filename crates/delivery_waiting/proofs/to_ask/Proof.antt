@@ -1,7 +1,15 @@
 -- `to_ask`: what is gathered from x's table goes on with y's. Assumes nothing.
+use Prim.Native.Nat.{ℕ}
+use mathlib.Core.Path.{_≡_}
+use mathlib.Core.List.{List}
+use Rattle.model.specs.Join.{gather}
 use Rattle.delivery_parts.proofs.Learned.{gathers-own, gathers-theirs}
 use Rattle.delivery_waiting.proofs.to_ask.Statement.{statement}
 use Rattle.delivery_waiting.proofs.to_ask.Tie as tie
+
+asked-is : (s T Y : List ℕ) (x k told a r : ℕ) → a ≡ gather s x k told T 0 → r ≡ gather s x k told Y a
+    → r ≡ gather s x k told Y (gather s x k told T 0)
+asked-is s T Y x k told a r e f = cc
 
 gather-from-requires : tie.Need-gather-from-requires
 gather-from-requires c κs = search gathers-own
@@ -10,7 +18,7 @@ gather-from-requires-2 : tie.Need-gather-from-requires-2
 gather-from-requires-2 c κs = search gathers-theirs
 
 returns : tie.Need-returns
-returns c = cc
+returns c = search asked-is
 
 pub to-ask-spec : {M : Type 1} → statement M
 to-ask-spec = tie.close (tie.spec gather-from-requires gather-from-requires-2 returns)
