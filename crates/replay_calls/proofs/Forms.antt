@@ -20,14 +20,15 @@ use Rattle.model.proofs.Bools.{le-or-lt}
 use Rattle.model.proofs.Sound.{Sound}
 use Rattle.model.proofs.Taken.{state-taken}
 use Rattle.model.proofs.Sections.{image-short}
-use Rattle.replay_calls.specs.Coded.{zeros, callOf, halfAt, numberAt, callAt, firstCalls, decoded, callBytes}
+use Rattle.image_parts.specs.Parts.{fourAt}
+use Rattle.replay_calls.specs.Coded.{zeros, callOf, numberAt, callAt, firstCalls, decoded, callBytes}
 use Rattle.replay_calls.specs.Answered.{playing}
 
 -- ---- the bytes of a call
 
 -- four bytes make the number that they are of
-half-back : (v : ℕ) → v < 4294967296 → v % 256 + 256 * (v / 256 % 256) + 65536 * (v / 65536 % 256 + 256 * (v / 16777216 % 256)) ≡ v
-half-back v l =
+four-back : (v : ℕ) → v < 4294967296 → v % 256 + 256 * (v / 256 % 256) + 65536 * (v / 65536 % 256 + 256 * (v / 16777216 % 256)) ≡ v
+four-back v l =
     let e : v / 65536 ≡ v / 256 / 256 = omega arith in
     let f : v / 16777216 ≡ v / 65536 / 256 = omega arith in
     let z : v / 16777216 % 256 ≡ v / 16777216 = omega arith in
@@ -50,7 +51,7 @@ number-back : (n : ℕ) → n < 2 ^ 64 → halves (n % 4294967296) (n / 42949672
 unfolding halves
 number-back n l =
     let g : n < 18446744073709551616 = l in
-    omega (arith, half-back (n % 4294967296) (omega arith), half-back (n / 4294967296) (omega arith))
+    omega (arith, four-back (n % 4294967296) (omega arith), four-back (n / 4294967296) (omega arith))
 
 same-fields : (images : List ℕ) (kind a b c id a₁ b₁ c₁ id₁ : ℕ) → a ≡ a₁ → b ≡ b₁ → c ≡ c₁ → id ≡ id₁
     → callOf images kind a b c id ∷ [] ≡ callOf images kind a₁ b₁ c₁ id₁ ∷ []
@@ -58,27 +59,27 @@ same-fields images kind a b c id a₁ b₁ c₁ id₁ ea eb ec ei = cc
 
 call-at-start : (images : List ℕ) (kind a b c id : ℕ) → a < 2 ^ 64 → b < 2 ^ 64 → c < 2 ^ 64 → id < 2 ^ 32
     → callAt images (callBytes kind a b c id) 0 ∷ [] ≡ callOf images kind a b c id ∷ []
-unfolding callAt numberAt halfAt halves
+unfolding callAt numberAt fourAt halves
 call-at-start images kind a b c id ha hb hc hi =
-    same-fields images kind _ _ _ _ a b c id (number-back a ha) (number-back b hb) (number-back c hc) (half-back id hi)
+    same-fields images kind _ _ _ _ a b c id (number-back a ha) (number-back b hb) (number-back c hc) (four-back id hi)
 
 module _ (bs x : List ℕ) where
   byte-before : (at : ℕ) → at < length bs → getD (bs ++ x) at 0 ≡ getD bs at 0
   byte-before at h = List·getD-append bs x 0 at h
 
-  half-before : (at : ℕ) → at + 4 ≤ length bs → halfAt (bs ++ x) at ≡ halfAt bs at
-  unfolding halfAt
-  half-before at h =
+  four-before : (at : ℕ) → at + 4 ≤ length bs → fourAt (bs ++ x) at ≡ fourAt bs at
+  unfolding fourAt
+  four-before at h =
       rw (byte-before at (omega arith), byte-before (at + 1) (omega arith), byte-before (at + 2) (omega arith), byte-before (at + 3) (omega arith)) refl
 
   number-before : (at : ℕ) → at + 8 ≤ length bs → numberAt (bs ++ x) at ≡ numberAt bs at
   unfolding numberAt
-  number-before at h = rw (half-before at (omega arith), half-before (at + 4) (omega arith)) refl
+  number-before at h = rw (four-before at (omega arith), four-before (at + 4) (omega arith)) refl
 
   call-before : (images : List ℕ) (at : ℕ) → at + 32 ≤ length bs → callAt images (bs ++ x) at ≡ callAt images bs at
   unfolding callAt
   call-before images at h =
-      rw (byte-before (at + 28) (omega arith), number-before at (omega arith), number-before (at + 8) (omega arith), number-before (at + 16) (omega arith), half-before (at + 24) (omega arith)) refl
+      rw (byte-before (at + 28) (omega arith), number-before at (omega arith), number-before (at + 8) (omega arith), number-before (at + 16) (omega arith), four-before (at + 24) (omega arith)) refl
 
   calls-before : (images : List ℕ) (k : ℕ) → 32 * k ≤ length bs → firstCalls k images (bs ++ x) ≡ firstCalls k images bs
   unfolding firstCalls
@@ -89,19 +90,19 @@ module _ (bs x : List ℕ) where
   byte-behind : (at i : ℕ) → at ≡ length bs + i → getD (bs ++ x) at 0 ≡ getD x i 0
   byte-behind at i e = ap (λ (n : ℕ). getD (bs ++ x) n 0) e ∙ getD-append-add bs x i 0
 
-  half-behind : (at i : ℕ) → at ≡ length bs + i → halfAt (bs ++ x) at ≡ halfAt x i
-  unfolding halfAt
-  half-behind at i e =
+  four-behind : (at i : ℕ) → at ≡ length bs + i → fourAt (bs ++ x) at ≡ fourAt x i
+  unfolding fourAt
+  four-behind at i e =
       rw (byte-behind at i e, byte-behind (at + 1) (i + 1) (omega arith), byte-behind (at + 2) (i + 2) (omega arith), byte-behind (at + 3) (i + 3) (omega arith)) refl
 
   number-behind : (at i : ℕ) → at ≡ length bs + i → numberAt (bs ++ x) at ≡ numberAt x i
   unfolding numberAt
-  number-behind at i e = rw (half-behind at i e, half-behind (at + 4) (i + 4) (omega arith)) refl
+  number-behind at i e = rw (four-behind at i e, four-behind (at + 4) (i + 4) (omega arith)) refl
 
   call-behind : (images : List ℕ) (at : ℕ) → at ≡ length bs → callAt images (bs ++ x) at ≡ callAt images x 0
   unfolding callAt
   call-behind images at e =
-      rw (byte-behind (at + 28) 28 (omega arith), number-behind at 0 (omega arith), number-behind (at + 8) 8 (omega arith), number-behind (at + 16) 16 (omega arith), half-behind (at + 24) 24 (omega arith)) refl
+      rw (byte-behind (at + 28) 28 (omega arith), number-behind at 0 (omega arith), number-behind (at + 8) 8 (omega arith), number-behind (at + 16) 16 (omega arith), four-behind (at + 24) 24 (omega arith)) refl
 
   last-call : (images : List ℕ) → length bs % 32 ≡ 0 → length x ≡ 32 → decoded images (bs ++ x) ≡ decoded images bs ++ (callAt images x 0 ∷ [])
   unfolding decoded firstCalls

@@ -15,7 +15,8 @@ use Rattle.delivery_parts.specs.declared.answer.Step.{Step}
 use Rattle.delivery_parts.specs.declared.answer.Step.the-variants.{Refused, Copied, SentOn, Attached, Notified}
 use Rattle.delivery_parts.specs.Answers.{outcome, stepFields, answerFields}
 use Rattle.engine.specs.Outcomes.{leaves, writes}
-use Rattle.replay_calls.specs.Coded.{imageAt, zeros, callOf, halfAt, numberAt}
+use Rattle.image_parts.specs.Parts.{fourAt}
+use Rattle.replay_calls.specs.Coded.{imageAt, zeros, callOf, numberAt}
 use Rattle.records.specs.Lent.{memory}
 use Rattle.replay_calls.specs.Answered.{padded, takenWords, Played, playing}
 use Rattle.replay_calls.specs.Shown.{fieldsAt, listed, shown}
@@ -24,7 +25,7 @@ use Rattle.replay_calls.specs.declared.answer.Words.{Words}
 -- ---- the bytes of a call
 
 pub call-loads : (bs : List ℕ) (at kind a b c id : ℕ) → kind ≡ getD bs (at + 28) 0 → a ≡ numberAt bs at → b ≡ numberAt bs (at + 8)
-    → c ≡ numberAt bs (at + 16) → id ≡ halfAt bs (at + 24)
+    → c ≡ numberAt bs (at + 16) → id ≡ fourAt bs (at + 24)
     → record { kind = kind; a = a; b = b; c = c; id = id } ≡ fieldsAt bs at
 call-loads bs at kind a b c id e₀ e₁ e₂ e₃ e₄ = cc
 

@@ -7,6 +7,7 @@ use mathlib.Core.List.{List, [], _∷_, _++_}
 use lib.Dec.{eqb}
 use lib.ListN.{length, getD, take, drop, replicate}
 use Rattle.model.specs.Image.{fourBytes}
+use Rattle.image_parts.specs.Parts.{fourAt}
 use Rattle.model.specs.Run.{Call, found, read, begin, deliver, lookup, verdict, write}
 
 -- the image of b bytes from byte a on, as far as the bytes reach
@@ -27,18 +28,14 @@ callOf images kind a b c id =
     (cond (eqb kind 3) (lookup a b)
     (cond (eqb kind 4) verdict (cond (eqb kind 5) (read (imageAt images a b)) (cond (eqb kind 6) (write (zeros a)) (lookup 0 0)))))))
 
--- four bytes, low byte first
-unfoldable pub halfAt : List ℕ → ℕ → ℕ
-halfAt bs at = getD bs at 0 + 256 * getD bs (at + 1) 0 + 65536 * (getD bs (at + 2) 0 + 256 * getD bs (at + 3) 0)
-
 -- eight bytes, low byte first
 unfoldable pub numberAt : List ℕ → ℕ → ℕ
-numberAt bs at = halfAt bs at + 4294967296 * halfAt bs (at + 4)
+numberAt bs at = fourAt bs at + 4294967296 * fourAt bs (at + 4)
 
 -- the call whose 32 bytes start at a place
 unfoldable pub callAt : List ℕ → List ℕ → ℕ → Call
 callAt images bs at =
-    callOf images (getD bs (at + 28) 0) (numberAt bs at) (numberAt bs (at + 8)) (numberAt bs (at + 16)) (halfAt bs (at + 24))
+    callOf images (getD bs (at + 28) 0) (numberAt bs at) (numberAt bs (at + 8)) (numberAt bs (at + 16)) (fourAt bs (at + 24))
 
 -- the first k calls
 unfoldable pub firstCalls : ℕ → List ℕ → List ℕ → List Call

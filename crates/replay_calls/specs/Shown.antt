@@ -3,7 +3,8 @@ use Prim.Native.Nat.{ℕ, _+_}
 use mathlib.Core.List.{List, [], _∷_}
 use lib.ListN.{getD}
 use Rattle.model.specs.Run.{Call}
-use Rattle.replay_calls.specs.Coded.{callOf, halfAt, numberAt}
+use Rattle.image_parts.specs.Parts.{fourAt}
+use Rattle.replay_calls.specs.Coded.{callOf, numberAt}
 use Rattle.replay_calls.specs.Answered.{Played}
 use Rattle.replay_calls.specs.declared.call.Coded.{Coded}
 use Rattle.replay_calls.specs.declared.answer.Words.{Words}
@@ -16,7 +17,7 @@ fieldsAt bs at =
       a = numberAt bs at;
       b = numberAt bs (at + 8);
       c = numberAt bs (at + 16);
-      id = halfAt bs (at + 24);
+      id = fourAt bs (at + 24);
     }
 
 abbrev pub called : List ℕ → Coded → Call

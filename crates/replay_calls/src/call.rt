@@ -2,9 +2,10 @@
 ghost use mathlib.Core.Path.{_≡_};
 ghost use Prim.Native.Nat.{_+_, _≤_};
 ghost use lib.ListN.{length};
-ghost use Rattle.replay_calls.specs.Coded.{halfAt, numberAt};
+ghost use Rattle.replay_calls.specs.Coded.{numberAt};
 ghost use Rattle.replay_calls.specs.Shown.{fieldsAt};
-use judging_parts::header::byte;
+use image_parts::header::byte;
+use image_parts::header::four;
 
 pub struct Coded {
     pub kind: u64,
@@ -14,23 +15,13 @@ pub struct Coded {
     pub id: u32,
 }
 
-// Four bytes, low byte first.
-fn half(calls: &[u8], at: usize) -> u32
-    requires { ⌜ at + 4 ≤ length (now calls) ⌝ }
-    ensures { λ r. ⌜ r ≡ halfAt (now (calls .entry)) at ⌝ }
-{
-    let low = byte(calls, at) + 256 * byte(calls, at + 1);
-    let high = byte(calls, at + 2) + 256 * byte(calls, at + 3);
-    (low + 65536 * high) as u32
-}
-
 // Eight bytes, low byte first.
 fn number(calls: &[u8], at: usize) -> u64
     requires { ⌜ at + 8 ≤ length (now calls) ⌝ }
     ensures { λ r. ⌜ r ≡ numberAt (now (calls .entry)) at ⌝ }
 {
-    let low = half(calls, at);
-    let high = half(calls, at + 4);
+    let low = four(calls, at);
+    let high = four(calls, at + 4);
     low as u64 + 4294967296 * (high as u64)
 }
 
@@ -44,6 +35,6 @@ pub fn load(calls: &[u8], at: usize) -> Coded
         a: number(calls, at),
         b: number(calls, at + 8),
         c: number(calls, at + 16),
-        id: half(calls, at + 24),
+        id: four(calls, at + 24),
     }
 }

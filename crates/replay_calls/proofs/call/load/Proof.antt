@@ -25,11 +25,11 @@ add-number-2 c = search needs
 number-requires-3 : tie.Need-number-requires-3
 number-requires-3 c κs = search needs
 
-add-half : tie.Need-add-half
-add-half c = search needs
+add-four : tie.Need-add-four
+add-four c = search needs
 
-half-requires : tie.Need-half-requires
-half-requires c κs = search needs
+four-requires : tie.Need-four-requires
+four-requires c κs = search needs
 
 returns : tie.Need-returns
 returns c = search call-loads
@@ -45,6 +45,6 @@ load-spec =
     number-requires-2
     add-number-2
     number-requires-3
-    add-half
-    half-requires
+    add-four
+    four-requires
     returns)

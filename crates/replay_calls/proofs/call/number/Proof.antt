@@ -6,14 +6,14 @@ use borrow.Author.Needs.{needs}
 use Rattle.replay_calls.proofs.call.number.Statement.{statement}
 use Rattle.replay_calls.proofs.call.number.Tie as tie
 
-half-requires : tie.Need-half-requires
-half-requires c κs = search needs
+four-requires : tie.Need-four-requires
+four-requires c κs = search needs
 
-add-half : tie.Need-add-half
-add-half c = search needs
+add-four : tie.Need-add-four
+add-four c = search needs
 
-half-requires-2 : tie.Need-half-requires-2
-half-requires-2 c κs = search needs
+four-requires-2 : tie.Need-four-requires-2
+four-requires-2 c κs = search needs
 
 cast-result : tie.Need-cast-result
 cast-result c = search needs
@@ -35,9 +35,9 @@ pub number-spec : {M : Type 1} → statement M
 number-spec =
     tie.close
     (tie.spec
-    half-requires
-    add-half
-    half-requires-2
+    four-requires
+    add-four
+    four-requires-2
     cast-result
     cast-result-2
     mul-result
