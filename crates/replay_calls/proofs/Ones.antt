@@ -11,16 +11,15 @@ use borrow.Author.Tests.{ne-eqb}
 use Rattle.model.specs.Calls.{foundCall, readCall, beginCall, deliverCall, lookupCall, verdictCall, writeCall}
 use Rattle.model.specs.Run.{step}
 use Rattle.delivery_parts.specs.declared.answer.Answer.{Answer}
-use Rattle.delivery_parts.specs.declared.answer.Step.{Step}
-use Rattle.delivery_parts.specs.declared.answer.Step.the-variants.{Refused, Copied, SentOn, Attached, Notified}
-use Rattle.delivery_parts.specs.Answers.{outcome, stepFields, answerFields}
+use Rattle.delivery_parts.specs.Answers.{outcome, answerFields}
+use Rattle.packing.specs.declared.delivered.Numbers.{Numbers}
+use Rattle.packing.specs.Numbers as numbers
 use Rattle.engine.specs.Outcomes.{leaves, writes}
 use Rattle.image_parts.specs.Parts.{fourAt}
 use Rattle.replay_calls.specs.Coded.{imageAt, zeros, callOf, numberAt}
 use Rattle.records.specs.Lent.{memory}
-use Rattle.replay_calls.specs.Answered.{padded, takenWords, Played, playing}
+use Rattle.replay_calls.specs.Answered.{padded, Played, playing}
 use Rattle.replay_calls.specs.Shown.{fieldsAt, listed, shown}
-use Rattle.replay_calls.specs.declared.answer.Words.{Words}
 
 -- ---- the bytes of a call
 
@@ -87,10 +86,11 @@ module _ (s t s₁ t₁ : List ℕ) where
   unfolding playing
   begin-words id g r x e = ap playing e
 
-  pub deliver-words : (x y : ℕ) (a : Answer) (w : Words) → outcome s₁ t₁ a ≡ deliverCall s t x y → listed w ≡ padded (answerFields a)
-      → shown s₁ t₁ w ≡ playing (deliverCall s t x y)
+  pub deliver-words : (x y : ℕ) (a : Answer) (n : Numbers) → outcome s₁ t₁ a ≡ deliverCall s t x y → numbers.listed n ≡ answerFields a
+      → shown s₁ t₁ (record { refusal = n .refusal; first = n .kind; second = n .level; third = n .settled; fourth = 0 })
+      ≡ playing (deliverCall s t x y)
   unfolding playing
-  deliver-words x y a w e f = ap (λ (l : List ℕ). record { state = s₁; tables = t₁; words = l }) f ∙ ap playing e
+  deliver-words x y a n e f = ap (λ (l : List ℕ). record { state = s₁; tables = t₁; words = padded l }) f ∙ ap playing e
 
 module _ (s t : List ℕ) where
   pub lookup-words : (u z r h l b : ℕ) (a : Bool) → leaves s t (r ∷ cond a 1 0 ∷ h ∷ l ∷ []) ≡ lookupCall s t u z → b ≡ cond a 1 0
@@ -112,29 +112,6 @@ module _ (s t : List ℕ) where
   unfolding playing zeros
   write-words out room end r n h e =
       ap playing (e ∙ ap (writeCall s t) (ap (λ (k : ℕ). take k (replicate 65536 0)) h ∙ take-replicate (min room 65536) 65536 (min-le-right room 65536)))
-
--- ---- a delivery's answer in words, for each kind
-
-module _ (r : Answer) where
-  step-is : (step : Step) → r .step ≡ step → padded (stepFields step (cond (r .settled) 1 0)) ≡ padded (answerFields r)
-  step-is step e = ap (λ (step : Step). padded (stepFields step (cond (r .settled) 1 0))) (sym e)
-
-  pub words-refused : (n : ℕ) → r .step ≡ Refused n
-      → listed (record { refusal = n; first = 0; second = 0; third = 0; fourth = 0 }) ≡ padded (answerFields r)
-  words-refused n e = step-is (Refused n) e
-
-  pub words-copied : (w : Words) → r .step ≡ Copied → listed w ≡ takenWords 1 0 (r .settled) → listed w ≡ padded (answerFields r)
-  words-copied w e f = f ∙ step-is Copied e
-
-  pub words-sent-on : (w : Words) → r .step ≡ SentOn → listed w ≡ takenWords 2 0 (r .settled) → listed w ≡ padded (answerFields r)
-  words-sent-on w e f = f ∙ step-is SentOn e
-
-  pub words-attached : (w : Words) (level : ℕ) → r .step ≡ Attached level → listed w ≡ takenWords 3 level (r .settled)
-      → listed w ≡ padded (answerFields r)
-  words-attached w level e f = f ∙ step-is (Attached level) e
-
-  pub words-notified : (w : Words) → r .step ≡ Notified → listed w ≡ takenWords 4 0 (r .settled) → listed w ≡ padded (answerFields r)
-  words-notified w e f = f ∙ step-is Notified e
 
 -- ---- the kind decides
 

@@ -1,6 +1,5 @@
 -- Answers as words: five for each call, the answer's fields and zeros behind them.
 use Prim.Native.Nat.{ℕ}
-use mathlib.Core.Bool.{Bool, cond}
 use mathlib.Core.List.{List, [], _∷_, _++_}
 use lib.ListN.{getD}
 use Rattle.model.specs.Memory.{Memory}
@@ -9,10 +8,6 @@ use Rattle.model.specs.Run.{Call, Event, history}
 
 abbrev pub padded : List ℕ → List ℕ
 padded fields = getD fields 0 0 ∷ getD fields 1 0 ∷ getD fields 2 0 ∷ getD fields 3 0 ∷ getD fields 4 0 ∷ []
-
--- the words of a delivery that was taken
-abbrev pub takenWords : ℕ → ℕ → Bool → List ℕ
-takenWords kind level settled = 0 ∷ kind ∷ level ∷ cond settled 1 0 ∷ 0 ∷ []
 
 -- what a call leaves, its answer as five words
 pub record Played : Type 0 where

@@ -1,6 +1,5 @@
 // An answer in five words.
 ghost use mathlib.Core.Path.{_≡_};
-ghost use mathlib.Core.Bool.{cond};
 ghost use mathlib.Core.List.{[], _∷_, _++_};
 ghost use Prim.Native.Nat.{_+_, _<_, _≤_};
 ghost use lib.ListN.{length, take};
@@ -13,16 +12,6 @@ pub struct Words {
     pub second: u64,
     pub third: u64,
     pub fourth: u64,
-}
-
-// 1 for true.
-pub fn bit(b: bool) -> u64
-    ensures { λ r. ⌜ r ≡ cond b 1 0 ⌝ }
-{
-    if b {
-        return 1;
-    }
-    0
 }
 
 fn put_word(out: &mut [u64], at: usize, word: u64) -> usize

@@ -3,21 +3,19 @@ ghost use mathlib.Core.Path.{_≡_};
 ghost use Prim.Native.Nat.{min};
 ghost use Rattle.model.specs.Calls.{foundCall, readCall, beginCall, deliverCall, lookupCall, verdictCall, writeCall};
 ghost use Rattle.model.specs.Run.{step};
-ghost use Rattle.delivery_parts.specs.Answers.{answerFields};
 ghost use Rattle.replay_calls.specs.Coded.{imageAt, zeros};
 ghost use Rattle.records.specs.Lent.{memory};
-ghost use Rattle.replay_calls.specs.Answered.{padded, takenWords, playing};
-ghost use Rattle.replay_calls.specs.Shown.{called, listed, shown};
+ghost use Rattle.replay_calls.specs.Answered.{playing};
+ghost use Rattle.replay_calls.specs.Shown.{called, shown};
 use crate::answer::Words;
-use crate::answer::bit;
 use crate::call::Coded;
-use delivery_parts::answer::Answer;
-use delivery_parts::answer::Step;
 use engine::beginning;
 use engine::delivering;
 use engine::founding;
 use engine::reading;
 use engine::writing;
+use packing::delivered::as_numbers;
+use packing::pack::bit;
 
 fn found(state: &mut [u64], tables: &mut [u8], base: u64, digits: u64, depth: u64, id: u32) -> Words
     ensures { λ r. ⌜ shown (now (state .exit)) (now (tables .exit)) r ≡ playing (foundCall (now (state .entry)) (now (tables .entry)) base digits depth id) ⌝ }
@@ -45,43 +43,17 @@ fn begin(state: &mut [u64], tables: &mut [u8], id: u32, gateway: u64) -> Words
     }
 }
 
-// A delivery that was taken.
-fn taken(kind: u64, level: u64, settled: bool) -> Words
-    ensures { λ r. ⌜ listed r ≡ takenWords kind level settled ⌝ }
-{
-    Words {
-        refusal: 0,
-        first: kind,
-        second: level,
-        third: bit(settled),
-        fourth: 0,
-    }
-}
-
-fn delivery_words(answer: Answer) -> Words
-    ensures { λ r. ⌜ listed r ≡ padded (answerFields answer) ⌝ }
-{
-    let settled = answer.settled;
-    let step = answer.step;
-    match step {
-        Step::Refused(number) => Words {
-            refusal: number,
-            first: 0,
-            second: 0,
-            third: 0,
-            fourth: 0,
-        },
-        Step::Copied => taken(1, 0, settled),
-        Step::SentOn => taken(2, 0, settled),
-        Step::Attached(level) => taken(3, level, settled),
-        Step::Notified => taken(4, 0, settled),
-    }
-}
-
 fn deliver(state: &mut [u64], tables: &mut [u8], sender: u64, receiver: u64) -> Words
     ensures { λ r. ⌜ shown (now (state .exit)) (now (tables .exit)) r ≡ playing (deliverCall (now (state .entry)) (now (tables .entry)) sender receiver) ⌝ }
 {
-    delivery_words(delivering::deliver(state, tables, sender, receiver))
+    let n = as_numbers(delivering::deliver(state, tables, sender, receiver));
+    Words {
+        refusal: n.refusal,
+        first: n.kind,
+        second: n.level,
+        third: n.settled,
+        fourth: 0,
+    }
 }
 
 fn lookup(state: &[u64], tables: &[u8], from: u64, to: u64) -> Words

@@ -7,8 +7,8 @@ use Rattle.replay_calls.proofs.one.deliver.Tie as tie
 deliver-requires : tie.Need-deliver-requires
 deliver-requires c κs = search needs
 
-delivery-words-requires : tie.Need-delivery-words-requires
-delivery-words-requires c κs = search needs
+as-numbers-requires : tie.Need-as-numbers-requires
+as-numbers-requires c κs = search needs
 
 same-length : tie.Need-same-length
 same-length c = search needs
@@ -21,4 +21,4 @@ returns c = search deliver-words
 
 pub deliver-spec : {M : Type 1} → statement M
 deliver-spec =
-    tie.close (tie.spec deliver-requires delivery-words-requires same-length same-length-2 returns)
+    tie.close (tie.spec deliver-requires as-numbers-requires same-length same-length-2 returns)
