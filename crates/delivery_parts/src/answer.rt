@@ -1,5 +1,5 @@
-// A delivery's answer: "A taken delivery answers what it was (copied, sent on, attached with its level, or notified) and whether x
-// settled."
+// A delivery's answer: "A taken delivery answers what it was: copied (any copying sender), sent on (a waiting sender, E full), attached with
+// its level, or notified; and whether x settled."
 pub enum Step {
     // the call was refused, with this number
     Refused(u64),

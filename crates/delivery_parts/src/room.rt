@@ -10,7 +10,7 @@ use learning::owner::Owner;
 use tables::entry;
 use tables::part;
 
-// "y's entry (i, digit i of x) .. holds fewer than K"
+// "y entry (i, digit i of x) .. holds fewer than K"
 fn has_room(sender: Owner, theirs: &[u8], i: usize) -> bool
     requires { ⌜ Level (now theirs) (sender .depth) i ⌝ }
     ensures { λ r. ⌜ r ≡ roomAt (sender .depth) (now (theirs .entry)) (sender .id) i ⌝ }

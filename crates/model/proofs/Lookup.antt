@@ -141,7 +141,7 @@ module _ (s t : List ℕ) (S : Sound s t) where
         hop-whole (λ n u. veryHopsWithin n s t u z) (λ u. u ∷ []) (λ u. u ∷ []) (λ u. _∷_ u) (λ n u. arrives-path n s t u z)
         (λ n u. loses-path n s t u z) (λ n u. hops-path n s t u z)
 
-    -- "at most d hops less the digits already matched"
+    -- at most d hops less "the digits already matched"
     pub hops-bound : (u : ℕ) → IsNode s u → lookup s t u z .hops ≤ digits s - suffixOf s u z
     hops-bound =
         walk (λ (u : ℕ). lookup s t u z .hops ≤ digits s - suffixOf s u z) (λ u nu e. rw (arrives-is (digits s) s t u z e) (omega arith))

@@ -40,7 +40,7 @@ module _ (s t s′ t′ : List ℕ) (S : Sound s t) (S′ : Sound s′ t′) (on
     some′ : (u : ℕ) → IsNode s u → u ≢ z → nextHop s′ t′ u z ≢ 0
     some′ u nu e q = not-lost s t S whole z nz u nu e (sym (same u nu e) ∙ q)
 
-    -- "lookups between nodes of that time take the very same hops ever after", and their answers are the same
+    -- lookups between nodes of that time have the same answer ever after
     pub same-lookup : (u : ℕ) → IsNode s u → lookup s′ t′ u z ≡ lookup s t u z
     same-lookup =
         walk s t S z nz (λ (u : ℕ). lookup s′ t′ u z ≡ lookup s t u z)

@@ -1,4 +1,4 @@
-// "there are 1 to 64 members with valid, different ids"
+// "valid, different ids", and what the other checks share.
 ghost use mathlib.Core.Path.{_≡_};
 ghost use Rattle.model.specs.Loops.{allBelow, node};
 ghost use Rattle.model.specs.Memory.{nodeCount};
