@@ -10,7 +10,7 @@ use lib.Dec.{eqb, leb, ltb}
 use borrow.Author.Tests.{eqb-true, eq-eqb, leb-true, le-leb, ltb-true, lt-ltb}
 use Rattle.model.specs.Image.{byteAt, sameEntry, risesFrom}
 use Rattle.model.proofs.Bools.{same-test, and-left, and-right, and-intro, or-cases, or-intro-left, or-intro-right}
-use Rattle.image_parts.specs.Parts.{entryKey}
+use Rattle.image_fields.specs.Parts.{entryKey}
 use Rattle.judging.specs.Cursors.{recKey, ofEntry}
 
 module _ (x i j y k l : ℕ) (hi : i < 256) (hj : j < 256) (hk : k < 256) (hl : l < 256) where

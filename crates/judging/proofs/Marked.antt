@@ -14,11 +14,11 @@ use Rattle.model.specs.Ids.{digitOf}
 use Rattle.model.specs.Image.{imDigits, imNodes, imRecords, imId, recNode, recLevel, recOrdered, recOwn, recOfOwn, ownHasRecord, ownHaveRecords}
 use Rattle.model.proofs.Bools.{and-left, and-intro}
 use Rattle.model.proofs.Loops.{all-at, all-same, any-zero, any-step}
-use Rattle.image_parts.specs.Parts.{Counted, Headed, IsNode, RecordOf}
+use Rattle.image_fields.specs.Parts.{Counted, Headed, IsNode, RecordOf}
 use Rattle.judging.specs.Judged.{Named, recGood}
 use Rattle.judging.specs.Marks.{ownPlace, isMarked, levelsMarked, markedBy, Streamed, Marks}
-use Rattle.image_parts.specs.declared.header.Header.{Header}
-use Rattle.image_parts.specs.declared.record.Record.{Record}
+use Rattle.image_fields.specs.declared.header.Header.{Header}
+use Rattle.image_fields.specs.declared.record.Record.{Record}
 use Rattle.judging.proofs.Rules.{owner-node, owner-held}
 
 -- the level of a record that keeps its order

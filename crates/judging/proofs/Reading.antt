@@ -9,11 +9,11 @@ use Rattle.model.specs.Loops.{allBelow}
 use Rattle.model.specs.Image.{imRecords, recOrdered, recAllowed, recOwnerFirst}
 use Rattle.model.proofs.Bools.{and-intro}
 use Rattle.model.proofs.Loops.{all-false, all-ends}
-use Rattle.image_parts.specs.Parts.{Headed, RecordOf, keyOf}
+use Rattle.image_fields.specs.Parts.{Headed, RecordOf, keyOf}
 use Rattle.judging.specs.Judged.{Named, recGood}
 use Rattle.judging.specs.Cursors.{Follows, Enters, keepsOrder, started, entered, passed, Finds}
-use Rattle.image_parts.specs.declared.header.Header.{Header}
-use Rattle.image_parts.specs.declared.record.Record.{Record}
+use Rattle.image_fields.specs.declared.header.Header.{Header}
+use Rattle.image_fields.specs.declared.record.Record.{Record}
 use Rattle.judging.specs.declared.cursor.Cursor.{Cursor}
 use Rattle.judging.specs.declared.cursor.Finding.{Finding}
 use Rattle.judging.specs.declared.cursor.Finding.the-variants.{Good, Disordered, Forbidden, OwnerNotFirst}

@@ -18,11 +18,11 @@ use Rattle.model.proofs.Bools.{and-left, and-right, and-leaves, and-goes, true-
 use Rattle.model.proofs.Early.{true-or-leaves, false-or-goes}
 use Rattle.model.proofs.Loops.{all-at, any-at, any-same, any-found, count-same, count-some, count-none, count-le}
 use Rattle.records.specs.Loaded.{Numbered}
-use Rattle.image_parts.specs.Parts.{Counted, Headed, IsNode, RecordOf, keyOf}
+use Rattle.image_fields.specs.Parts.{Counted, Headed, IsNode, RecordOf, keyOf}
 use Rattle.judging.specs.Judged.{Named}
 use Rattle.judging.specs.Cursors.{recKey, ofEntry, namesIn, Follows, Enters, keepsOrder}
-use Rattle.image_parts.specs.declared.header.Header.{Header}
-use Rattle.image_parts.specs.declared.record.Record.{Record}
+use Rattle.image_fields.specs.declared.header.Header.{Header}
+use Rattle.image_fields.specs.declared.record.Record.{Record}
 use Rattle.judging.specs.declared.cursor.Cursor.{Cursor}
 use Rattle.judging.proofs.Keys.{same-key, rises-key}
 

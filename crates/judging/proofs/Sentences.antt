@@ -15,7 +15,7 @@ use Rattle.model.proofs.Bools.{same-test, and-left, and-right, and-intro, and-l
 use Rattle.model.proofs.Ids.{settings-range}
 use Rattle.model.proofs.Loops.{all-at, all-of}
 use Rattle.model.proofs.Refusals.{refuse-leaves, refuse-goes, refuse-not-leaves, refuse-not-goes, passed}
-use Rattle.image_parts.specs.Parts.{Counted}
+use Rattle.image_fields.specs.Parts.{Counted}
 use Rattle.judging.specs.Judged.{Named, recGood, laterRefusal}
 use Rattle.judging.specs.Marks.{Streamed}
 

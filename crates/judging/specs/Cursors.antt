@@ -8,12 +8,12 @@ use Rattle.model.specs.Loops.{allBelow, anyBelow, countBelow}
 use Rattle.model.specs.Memory.{hasNode, addNode}
 use Rattle.model.specs.Image.{recNode, recLevel, recDigit, recNeighbor, recOrdered, recAllowed, recOwnerFirst}
 use Rattle.judging.specs.Judged.{recGood}
-use Rattle.image_parts.specs.declared.header.Header.{Header}
-use Rattle.image_parts.specs.declared.record.Record.{Record}
+use Rattle.image_fields.specs.declared.header.Header.{Header}
+use Rattle.image_fields.specs.declared.record.Record.{Record}
 use Rattle.judging.specs.declared.cursor.Cursor.{Cursor}
 use Rattle.judging.specs.declared.cursor.Finding.{Finding}
 use Rattle.judging.specs.declared.cursor.Finding.the-variants.{Good, Disordered, Forbidden, OwnerNotFirst}
-use Rattle.image_parts.specs.Parts.{entryKey, keyOf}
+use Rattle.image_fields.specs.Parts.{entryKey, keyOf}
 
 -- the entry of record r
 unfoldable pub recKey : List ℕ → ℕ → ℕ

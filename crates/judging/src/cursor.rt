@@ -4,14 +4,14 @@ ghost use mathlib.Core.Path.{_≡_};
 ghost use Prim.Native.Nat.{_<_};
 ghost use Rattle.model.specs.Image.{imRecords, recAllowed, recOwnerFirst};
 ghost use Rattle.records.specs.Loaded.{Numbered};
-ghost use Rattle.image_parts.specs.Parts.{Headed, RecordOf, Small};
+ghost use Rattle.image_fields.specs.Parts.{Headed, RecordOf, Small};
 ghost use Rattle.judging.specs.Judged.{Named};
 ghost use Rattle.judging.specs.Cursors.{Enters, Follows, Finds, started, entered, passed, keepsOrder};
 use ident::qualified;
-use image_parts::header::Header;
-use image_parts::ids::id;
-use image_parts::record;
-use image_parts::record::Record;
+use image_fields::header::Header;
+use image_fields::ids::id;
+use image_fields::record;
+use image_fields::record::Record;
 use records::sets;
 
 // The next record; the entry of the record before it, by its key, with how many records of this entry are read and whom they name.

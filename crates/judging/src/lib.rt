@@ -2,12 +2,12 @@
 // of their number; the time is in proportion to the number of records.
 ghost use mathlib.Core.Path.{_≡_};
 ghost use Rattle.model.specs.Refusals.{imageRefusal};
-ghost use Rattle.image_parts.specs.Parts.{Counted};
+ghost use Rattle.image_fields.specs.Parts.{Counted};
 ghost use Rattle.judging.specs.Judged.{laterRefusal};
 use ident::settings_in_range;
-use image_parts::header;
-use image_parts::header::byte;
-use image_parts::ids;
+use image_fields::header;
+use image_fields::header::byte;
+use image_fields::ids;
 
 mod cursor;
 mod own;

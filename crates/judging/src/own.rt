@@ -5,11 +5,11 @@ ghost use lib.ListN.{length};
 ghost use Rattle.model.specs.Loops.{allBelow, node};
 ghost use Rattle.model.specs.Image.{imNodes, imRecords, ownHaveRecords};
 ghost use Rattle.records.specs.Loaded.{Numbered};
-ghost use Rattle.image_parts.specs.Parts.{Headed};
+ghost use Rattle.image_fields.specs.Parts.{Headed};
 ghost use Rattle.judging.specs.Judged.{Named};
 ghost use Rattle.judging.specs.Marks.{Streamed, Marks, isMarked, levelsMarked, markedBy};
-use image_parts::header::Header;
-use image_parts::record;
+use image_fields::header::Header;
+use image_fields::record;
 
 // Marks the entry of record r, if it is an own entry.
 fn mark(image: &[u8], h: Header, own: &mut [u8], r: usize)

@@ -2,13 +2,13 @@
 ghost use mathlib.Core.Path.{_≡_};
 ghost use Rattle.model.specs.Loops.{allBelow};
 ghost use Rattle.model.specs.Image.{imRecords, recNodesGood, recordsGood};
-ghost use Rattle.image_parts.specs.Parts.{Headed};
+ghost use Rattle.image_fields.specs.Parts.{Headed};
 ghost use Rattle.judging.specs.Judged.{Named, recGood};
 use crate::cursor::Cursor;
 use crate::cursor::Finding;
 use crate::own;
-use image_parts::header::Header;
-use image_parts::record;
+use image_fields::header::Header;
+use image_fields::record;
 
 // Not 9: "A member number, in a call or a record, is 0 or above the member count."
 pub fn named(image: &[u8], h: Header) -> bool

@@ -12,9 +12,9 @@ use Rattle.model.specs.Join.{withSettings}
 use Rattle.model.specs.Image.{imBase, imDigits, imDepth, imNodes, imId, imRecords, loadId, loadRecord, loaded}
 use Rattle.model.proofs.Memory.{zeroed-length, table-set}
 use Rattle.model.proofs.Loading.{Readable, Words, words-loaded, record-ok, record-room}
-use Rattle.image_parts.specs.declared.header.Header.{Header}
-use Rattle.image_parts.specs.declared.record.Record.{Record}
-use Rattle.image_parts.specs.Parts.{Headed, RecordOf, Small}
+use Rattle.image_fields.specs.declared.header.Header.{Header}
+use Rattle.image_fields.specs.declared.record.Record.{Record}
+use Rattle.image_fields.specs.Parts.{Headed, RecordOf, Small}
 use Rattle.records.specs.Lent.{memory}
 use Rattle.loading.specs.Loads.{Loads, Fills, Appends}
 

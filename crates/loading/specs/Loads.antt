@@ -6,7 +6,7 @@ use lib.ListN.{length}
 use Rattle.model.specs.Memory.{zeroed, tableOf}
 use Rattle.model.specs.Tables.{entrySize}
 use Rattle.model.proofs.Loading.{Readable}
-use Rattle.image_parts.specs.Parts.{Counted}
+use Rattle.image_fields.specs.Parts.{Counted}
 
 -- the image is one that reading takes, and the memory is long enough
 pub record Loads (s t im : List ℕ) : Type 0 where

@@ -20,7 +20,7 @@ use Rattle.model.proofs.Bools.{le-or-lt}
 use Rattle.model.proofs.Sound.{Sound}
 use Rattle.model.proofs.Taken.{state-taken}
 use Rattle.model.proofs.Sections.{image-short}
-use Rattle.image_parts.specs.Parts.{fourAt}
+use Rattle.image_fields.specs.Parts.{fourAt}
 use Rattle.replay_calls.specs.Coded.{zeros, callOf, numberAt, callAt, firstCalls, decoded, callBytes}
 use Rattle.replay_calls.specs.Answered.{playing}
 

@@ -15,7 +15,7 @@ use Rattle.delivery_parts.specs.Answers.{outcome, answerFields}
 use Rattle.packing.specs.declared.delivered.Numbers.{Numbers}
 use Rattle.packing.specs.Numbers as numbers
 use Rattle.engine.specs.Outcomes.{leaves, writes}
-use Rattle.image_parts.specs.Parts.{fourAt}
+use Rattle.image_fields.specs.Parts.{fourAt}
 use Rattle.replay_calls.specs.Coded.{imageAt, zeros, callOf, numberAt}
 use Rattle.records.specs.Lent.{memory}
 use Rattle.replay_calls.specs.Answered.{padded, Played, playing}

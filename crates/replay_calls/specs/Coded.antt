@@ -7,7 +7,7 @@ use mathlib.Core.List.{List, [], _∷_, _++_}
 use lib.Dec.{eqb}
 use lib.ListN.{length, getD, take, drop, replicate}
 use Rattle.model.specs.Image.{fourBytes}
-use Rattle.image_parts.specs.Parts.{fourAt}
+use Rattle.image_fields.specs.Parts.{fourAt}
 use Rattle.model.specs.Run.{Call, found, read, begin, deliver, lookup, verdict, write}
 
 -- the image of b bytes from byte a on, as far as the bytes reach

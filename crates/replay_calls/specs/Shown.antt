@@ -3,7 +3,7 @@ use Prim.Native.Nat.{ℕ, _+_}
 use mathlib.Core.List.{List, [], _∷_}
 use lib.ListN.{getD}
 use Rattle.model.specs.Run.{Call}
-use Rattle.image_parts.specs.Parts.{fourAt}
+use Rattle.image_fields.specs.Parts.{fourAt}
 use Rattle.replay_calls.specs.Coded.{callOf, numberAt}
 use Rattle.replay_calls.specs.Answered.{Played}
 use Rattle.replay_calls.specs.declared.call.Coded.{Coded}

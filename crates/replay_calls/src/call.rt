@@ -4,8 +4,8 @@ ghost use Prim.Native.Nat.{_+_, _≤_};
 ghost use lib.ListN.{length};
 ghost use Rattle.replay_calls.specs.Coded.{numberAt};
 ghost use Rattle.replay_calls.specs.Shown.{fieldsAt};
-use image_parts::header::byte;
-use image_parts::header::four;
+use image_fields::header::byte;
+use image_fields::header::four;
 
 pub struct Coded {
     pub kind: u64,

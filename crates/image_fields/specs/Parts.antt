@@ -1,0 +1,60 @@
+-- What is known of the parts of an image. im is the image, h its head as the code holds it.
+use Prim.Native.Nat.{ℕ, _+_, _*_, _≤_, _<_}
+use mathlib.Core.Path.{_≡_}
+use mathlib.Core.List.{List}
+use lib.ListN.{length}
+use Rattle.model.specs.Image.{byteAt, imBase, imDigits, imDepth, imNodes, imRecords}
+use Rattle.model.specs.Image.{recNode, recLevel, recDigit, recNeighbor}
+use Rattle.image_fields.specs.declared.header.Header.{Header}
+use Rattle.image_fields.specs.declared.record.Record.{Record}
+
+-- four bytes, low byte first
+unfoldable pub fourAt : List ℕ → ℕ → ℕ
+fourAt im a = byteAt im a + 256 * byteAt im (a + 1) + 65536 * (byteAt im (a + 2) + 256 * byteAt im (a + 3))
+
+-- after 3 to 6: the settings are in range and the length is what the counts give
+pub record Counted (im : List ℕ) : Type 0 where
+  pub bytes : (a : ℕ) → byteAt im a < 256
+  pub base : imBase im ≤ 16
+  pub digits : imDigits im ≤ 8
+  pub depth : imDepth im ≤ 4
+  pub some : 1 ≤ imNodes im
+  pub few : imNodes im ≤ 64
+  pub whole : length im ≡ 8 + 4 * imNodes im + 4 * imRecords im
+  pub short : length im ≤ 65535
+
+-- and the code holds the settings and the counts
+pub record Headed (im : List ℕ) (h : Header) : Type 0 where
+  pub counted : Counted im
+  pub base : h .base ≡ imBase im
+  pub digits : h .digits ≡ imDigits im
+  pub depth : h .depth ≡ imDepth im
+  pub nodes : h .nodes ≡ imNodes im
+  pub records : h .records ≡ imRecords im
+
+-- x is the number of a node
+pub record IsNode (im : List ℕ) (x : ℕ) : Type 0 where
+  pub first : 1 ≤ x
+  pub last : x ≤ imNodes im
+
+-- record r as the code holds it
+pub record RecordOf (im : List ℕ) (r : ℕ) (e : Record) : Type 0 where
+  pub node : e .node ≡ recNode im r
+  pub level : e .level ≡ recLevel im r
+  pub digit : e .digit ≡ recDigit im r
+  pub neighbor : e .neighbor ≡ recNeighbor im r
+
+-- its fields are bytes
+pub record Small (e : Record) : Type 0 where
+  pub node : e .node < 256
+  pub level : e .level < 256
+  pub digit : e .digit < 256
+  pub neighbor : e .neighbor < 256
+
+-- an entry as one number: it rises with node, level and digit, each a byte
+abbrev pub entryKey : ℕ → ℕ → ℕ → ℕ
+entryKey x i j = 65536 * x + 256 * i + j
+
+-- the entry of a record that the code holds
+abbrev pub keyOf : Record → ℕ
+keyOf e = entryKey (e .node) (e .level) (e .digit)

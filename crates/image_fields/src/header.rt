@@ -1,0 +1,110 @@
+// The head of an image: "Settings: count byte 4, then version 1, b, d, K. Members: count byte, then each id in four bytes, low byte
+// first. Records: count in two bytes, low first".
+ghost use mathlib.Core.Path.{_≡_};
+ghost use mathlib.Core.Bool.{not};
+ghost use Prim.Native.Nat.{_+_, _*_, _≤_, _<_};
+ghost use lib.ListN.{length};
+ghost use Rattle.model.specs.Image.{byteAt, imNodes, imRecords, lengthRight};
+ghost use Rattle.model.specs.Refusals.{noSettings, countsWrong};
+ghost use Rattle.image_fields.specs.Parts.{fourAt, Counted, Headed};
+
+// "its length .. passes 65,535"
+const LONGEST: usize = 65535;
+
+// The settings and the counts.
+pub struct Header {
+    pub base: usize,
+    pub digits: usize,
+    pub depth: usize,
+    pub nodes: usize,
+    pub records: usize,
+}
+
+// The byte at a, as a number.
+pub fn byte(image: &[u8], a: usize) -> usize
+    requires { ⌜ a < length (now image) ⌝ }
+    ensures { λ r. ⌜ (r ≡ byteAt (now (image .entry)) a) × (r < 256) ⌝ }
+{
+    image[a] as usize
+}
+
+// The four bytes from a on, low byte first.
+pub fn four(image: &[u8], a: usize) -> u32
+    requires { ⌜ a + 4 ≤ length (now image) ⌝ }
+    ensures { λ r. ⌜ r ≡ fourAt (now (image .entry)) a ⌝ }
+{
+    let low = byte(image, a) + 256 * byte(image, a + 1);
+    let high = byte(image, a + 2) + 256 * byte(image, a + 3);
+    (low + 65536 * high) as u32
+}
+
+// 3: "An image has fewer than 5 bytes or its first byte isn't 4."
+pub fn no_settings(image: &[u8]) -> bool
+    ensures { λ r. ⌜ r ≡ noSettings (now (image .entry)) ⌝ }
+{
+    if image.len() < 5 {
+        return true;
+    }
+    image[0] != 4
+}
+
+// The number of records: the two bytes after the ids.
+fn record_count(image: &[u8], nodes: usize) -> usize
+    requires { ⌜ nodes ≤ 64 ⌝ }
+    requires { ⌜ nodes ≡ imNodes (now image) ⌝ }
+    requires { ⌜ 8 + 4 * nodes ≤ length (now image) ⌝ }
+    ensures { λ r. ⌜ (r ≡ imRecords (now (image .entry))) × (r ≤ 65535) ⌝ }
+{
+    let at = 6 + 4 * nodes;
+    byte(image, at) + 256 * byte(image, at + 1)
+}
+
+// "its length differs from its counts or passes 65,535"
+fn length_wrong(image: &[u8], nodes: usize) -> bool
+    requires { ⌜ nodes ≤ 64 ⌝ }
+    requires { ⌜ nodes ≡ imNodes (now image) ⌝ }
+    ensures { λ r. ⌜ r ≡ not (lengthRight (now (image .entry))) ⌝ }
+{
+    let start = 8 + 4 * nodes;
+    if image.len() < start {
+        return true;
+    }
+    let records = record_count(image, nodes);
+    if image.len() != start + 4 * records {
+        return true;
+    }
+    LONGEST < image.len()
+}
+
+// 6: "An image's member count is missing, 0 or above 64, or its length differs from its counts or passes 65,535."
+pub fn counts_wrong(image: &[u8]) -> bool
+    ensures { λ r. ⌜ r ≡ countsWrong (now (image .entry)) ⌝ }
+{
+    if image.len() < 6 {
+        return true;
+    }
+    let nodes = byte(image, 5);
+    if nodes == 0 {
+        return true;
+    }
+    if 64 < nodes {
+        return true;
+    }
+    length_wrong(image, nodes)
+}
+
+// Settings and counts of an image whose counts are right.
+pub fn load(image: &[u8]) -> Header
+    requires { ⌜ Counted (now image) ⌝ }
+    ensures { λ r. ⌜ Headed (now (image .entry)) r ⌝ }
+{
+    let nodes = byte(image, 5);
+    let records = record_count(image, nodes);
+    Header {
+        base: byte(image, 2),
+        digits: byte(image, 3),
+        depth: byte(image, 4),
+        nodes,
+        records,
+    }
+}

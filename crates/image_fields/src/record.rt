@@ -1,0 +1,75 @@
+// A record of an image: "four bytes each: member, level, digit, neighbour".
+ghost use mathlib.Core.Path.{_≡_};
+ghost use mathlib.Core.Bool.{_&&_};
+ghost use Prim.Native.Nat.{_<_};
+ghost use lib.Dec.{eqb, leb};
+ghost use Rattle.model.specs.Ids.{digitOf};
+ghost use Rattle.model.specs.Image.{imRecords, imId, recNodesGood};
+ghost use Rattle.image_fields.specs.Parts.{Counted, Headed, IsNode, RecordOf, Small, keyOf};
+use crate::header::Header;
+use crate::header::byte;
+use crate::ids::id;
+use ident::digit;
+
+// The four bytes as numbers.
+pub struct Record {
+    pub node: usize,
+    pub level: usize,
+    pub digit: usize,
+    pub neighbor: usize,
+}
+
+// Record r, which counts from 0.
+pub fn load(image: &[u8], h: Header, r: usize) -> Record
+    requires { ⌜ Headed (now image) h ⌝ }
+    requires { ⌜ r < imRecords (now image) ⌝ }
+    ensures { λ e. ⌜ RecordOf (now (image .entry)) r e × Small e ⌝ }
+{
+    let at = 8 + 4 * h.nodes + 4 * r;
+    Record {
+        node: byte(image, at),
+        level: byte(image, at + 1),
+        digit: byte(image, at + 2),
+        neighbor: byte(image, at + 3),
+    }
+}
+
+// x is the number of a node.
+fn is_node(h: Header, x: usize) -> bool
+    ensures { λ r. ⌜ r ≡ (leb 1 x && leb x (h .nodes)) ⌝ }
+{
+    if x < 1 {
+        return false;
+    }
+    x <= h.nodes
+}
+
+// Not 9, of record r: "A member number, in a call or a record, is 0 or above the member count."
+pub fn nodes_good(image: &[u8], h: Header, r: usize) -> bool
+    requires { ⌜ Headed (now image) h ⌝ }
+    requires { ⌜ r < imRecords (now image) ⌝ }
+    ensures { λ b. ⌜ b ≡ recNodesGood (now (image .entry)) r ⌝ }
+{
+    let e = load(image, h, r);
+    if !is_node(h, e.node) {
+        return false;
+    }
+    is_node(h, e.neighbor)
+}
+
+// The record's entry as one number, which rises as the entries do.
+pub fn key(e: Record) -> usize
+    requires { ⌜ Small e ⌝ }
+    ensures { λ r. ⌜ r ≡ keyOf e ⌝ }
+{
+    65536 * e.node + 256 * e.level + e.digit
+}
+
+// The record is of an own entry of its node: "its own entries (i, x's digit i)".
+pub fn is_own(image: &[u8], e: Record) -> bool
+    requires { ⌜ Counted (now image) ⌝ }
+    requires { ⌜ IsNode (now image) (e .node) ⌝ }
+    ensures { λ r. ⌜ r ≡ eqb (e .digit) (digitOf (imId (now (image .entry)) (e .node)) (e .level)) ⌝ }
+{
+    e.digit == digit(id(image, e.node), e.level)
+}
