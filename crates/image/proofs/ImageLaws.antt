@@ -9,8 +9,8 @@ use Rattle.model.specs.Loops.{joinBelow, node}
 use Rattle.model.specs.Memory.{base, digits, depth, nodeCount}
 use Rattle.model.specs.Image.{twoBytes, idBytes, recordsBytes, allRecords, imageOf}
 use Rattle.model.proofs.Sections.{ids-length, image-length}
-use Rattle.image.specs.Put.{put, Put}
-use Rattle.image.proofs.Putting.{put-same-length, put-then, put-before}
+use Rattle.image_parts.specs.Put.{put, Put}
+use Rattle.image_parts.proofs.Putting.{put-same-length, put-then, put-before}
 
 -- the sections: the header, the ids, the records
 abbrev header : List ℕ → List ℕ

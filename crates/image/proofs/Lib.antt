@@ -1,6 +1,2 @@
--- Laws of putting bytes and of counting them, for the functions that write.
-pub mod Putting
-pub mod Measuring
-pub mod SlotLaws
-pub mod IdLaws
+-- Laws of the whole image.
 pub mod ImageLaws

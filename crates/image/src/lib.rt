@@ -1,8 +1,5 @@
 // The image of a sound state in lent memory: document 01, "Sections in a fixed order, each after its count." How long it is, and its bytes.
-mod ids;
 mod measure;
-mod put;
-mod slots;
 
 ghost use mathlib.Core.Path.{_≡_};
 ghost use mathlib.Core.List.{_++_};
@@ -10,6 +7,9 @@ ghost use Prim.Native.Nat.{_≤_};
 ghost use lib.ListN.{length, drop};
 ghost use Rattle.model.specs.Image.{imageOf};
 ghost use Rattle.model.proofs.Sound.{Sound};
+use image_parts::ids;
+use image_parts::put;
+use image_parts::slots;
 use records::settings;
 
 // How many bytes the image takes.

@@ -7,7 +7,7 @@ ghost use lib.ListN.{length};
 ghost use Rattle.model.specs.Image.{allRecords};
 ghost use Rattle.model.proofs.Sound.{Sound};
 ghost use Rattle.tables.specs.Places.{Entry};
-ghost use Rattle.image.specs.Records.{entryOf, levelOf, tableRecords, Shape};
+ghost use Rattle.image_parts.specs.Records.{entryOf, levelOf, tableRecords, Shape};
 use records::settings;
 use tables::part;
 

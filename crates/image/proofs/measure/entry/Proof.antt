@@ -6,8 +6,8 @@ use lib.ListN.{length}
 use borrow.Author.Needs.{needs}
 use Rattle.model.specs.Loops.{joinBelow}
 use Rattle.model.specs.Image.{slotRecord}
-use Rattle.image.specs.Records.{entryOf}
-use Rattle.image.proofs.Measuring.{total-none, total-goes, total-ends, slot-length}
+use Rattle.image_parts.specs.Records.{entryOf}
+use Rattle.image_parts.proofs.Measuring.{total-none, total-goes, total-ends, slot-length}
 use Rattle.image.proofs.measure.entry.Statement.{statement}
 use Rattle.image.proofs.measure.entry.Tie as tie
 

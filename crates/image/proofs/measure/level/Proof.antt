@@ -5,8 +5,8 @@ use native.Mathlib.Omega.{arith}
 use lib.ListN.{length}
 use borrow.Author.Needs.{needs}
 use Rattle.model.specs.Loops.{joinBelow}
-use Rattle.image.specs.Records.{entryOf, levelOf}
-use Rattle.image.proofs.Measuring.{total-none, total-goes, total-ends}
+use Rattle.image_parts.specs.Records.{entryOf, levelOf}
+use Rattle.image_parts.proofs.Measuring.{total-none, total-goes, total-ends}
 use Rattle.image.proofs.measure.level.Statement.{statement}
 use Rattle.image.proofs.measure.level.Tie as tie
 

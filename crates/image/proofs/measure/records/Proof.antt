@@ -6,8 +6,8 @@ use lib.ListN.{length}
 use borrow.Author.Needs.{needs}
 use Rattle.model.specs.Loops.{joinBelow, node}
 use Rattle.model.specs.Image.{nodeRecords}
-use Rattle.image.proofs.Measuring.{total-none}
-use Rattle.image.proofs.SlotLaws.{nodes-total, nodes-length, nodes-whole}
+use Rattle.image_parts.proofs.Measuring.{total-none}
+use Rattle.image_parts.proofs.SlotLaws.{nodes-total, nodes-length, nodes-whole}
 use Rattle.image.proofs.measure.records.Statement.{statement}
 use Rattle.image.proofs.measure.records.Tie as tie
 

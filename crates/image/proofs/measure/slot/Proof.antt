@@ -1,6 +1,6 @@
 -- `measure::slot`: 4 bytes, or none. Assumes nothing.
 use native.Mathlib.Omega.{arith}
-use Rattle.image.proofs.Measuring.{slot-empty, slot-filled}
+use Rattle.image_parts.proofs.Measuring.{slot-empty, slot-filled}
 use Rattle.image.proofs.measure.slot.Statement.{statement}
 use Rattle.image.proofs.measure.slot.Tie as tie
 

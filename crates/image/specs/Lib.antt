@@ -1,3 +1,0 @@
--- What the contracts of writing cite.
-pub mod Put
-pub mod Records

@@ -1,0 +1,5 @@
+-- Laws of putting bytes and of counting them, for the functions that write.
+pub mod Putting
+pub mod Measuring
+pub mod SlotLaws
+pub mod IdLaws

@@ -1,0 +1,3 @@
+-- What the contracts of writing and measuring cite.
+pub mod Put
+pub mod Records
