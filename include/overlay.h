@@ -5,7 +5,8 @@
  * Lengths count elements. What is past the fixed lengths is neither read nor changed. Two lent memories never overlap: not state and
  * tables, and neither of them an image or the memory for one.
  * An answer is one number: bits 0 to 7 are the refusal, 0 for none. On a refusal every other bit is zero and no byte has changed.
- * Where several refusals hold, the smallest number is answered. */
+ * Where several refusals hold, the smallest number is answered.
+ * C99 or later, or C++. The archive calls memcpy and memset, and nothing else from outside. */
 #ifndef OVERLAY_H
 #define OVERLAY_H
 
