@@ -18,6 +18,7 @@ pub readable : (s t : List ℕ) → Sound s t → Readable s
 readable s t S = record {
   long = S .long .state;
   few = S .few;
+  some = S .settings .digits-least;
   digits = S .settings .digits-most;
   ids = id-fits s t S;
 }

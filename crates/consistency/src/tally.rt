@@ -1,10 +1,11 @@
-// How many nodes qualify for each entry of one node, counted in one pass over the nodes: place 16i + j counts for entry (i, j).
+// How many nodes qualify for each entry of one node: place 16i + j counts for entry (i, j). At level 0 every owner has the same counts, so they
+// are counted once for all; the other levels in one pass over the nodes for each owner.
 ghost use mathlib.Core.Path.{_≡_};
 ghost use Prim.Native.Nat.{_+_, min};
 ghost use Rattle.model.specs.Loops.{eachBelow};
 ghost use Rattle.model.specs.Ids.{commonSuffix};
 ghost use Rattle.model.proofs.Status.{IsNode};
-ghost use Rattle.consistency.specs.Counted.{Readable, Room, countAt, Tallied};
+ghost use Rattle.consistency.specs.Counted.{Readable, Room, countAbove, Level0, Tallied};
 use ident::common_suffix;
 use ident::digit;
 use records::record;
@@ -18,12 +19,12 @@ fn levels(digits: usize, x: u32, y: u32) -> usize
     if m < digits { m + 1 } else { digits }
 }
 
-// y counts, at each of these levels, for the entry of its own digit.
+// y counts, at each of these levels but 0, for the entry of its own digit.
 fn count_node(counts: &mut [u8; 128], levels: usize, y: u32)
     requires { ⌜ Room levels (now counts) ⌝ }
-    ensures { λ r. ⌜ now (counts .exit) ≡ eachBelow levels (countAt y) (now (counts .entry)) ⌝ }
+    ensures { λ r. ⌜ now (counts .exit) ≡ eachBelow levels (countAbove y) (now (counts .entry)) ⌝ }
 {
-    let mut i = 0;
+    let mut i = 1;
     while i < levels {
         let at = 16 * i + digit(y, i);
         counts[at] += 1;
@@ -31,15 +32,32 @@ fn count_node(counts: &mut [u8; 128], levels: usize, y: u32)
     }
 }
 
-// "H being how many members qualify, the owner included", for each entry of x.
-pub fn tally(state: &[u64], x: usize) -> [u8; 128]
+// Level 0, for every owner: how many nodes have each digit there. The other places are zero.
+pub fn level_0(state: &[u64]) -> [u8; 128]
     requires { ⌜ Readable (now state) ⌝ }
+    ensures { λ r. ⌜ Level0 (now (state .entry)) r ⌝ }
+{
+    let nodes = settings::load(state).nodes;
+    let mut counts = [0u8; 128];
+    let mut k = 0;
+    while k < nodes {
+        let j = digit(record::id(state, k + 1) as u32, 0);
+        counts[j] += 1;
+        k += 1;
+    }
+    counts
+}
+
+// "H being how many members qualify, the owner included", for each entry of x.
+pub fn tally(state: &[u64], level_0: [u8; 128], x: usize) -> [u8; 128]
+    requires { ⌜ Readable (now state) ⌝ }
+    requires { ⌜ Level0 (now state) level_0 ⌝ }
     requires { ⌜ IsNode (now state) x ⌝ }
     ensures { λ r. ⌜ Tallied (now (state .entry)) x r ⌝ }
 {
     let s = settings::load(state);
     let owner = record::id(state, x) as u32;
-    let mut counts = [0u8; 128];
+    let mut counts = level_0;
     let mut k = 0;
     while k < s.nodes {
         let id = record::id(state, k + 1) as u32;

@@ -14,7 +14,7 @@ lent-requires c κs = search needs
 tally-requires : tie.Need-tally-requires
 tally-requires c κs =
     let p = c .before .before .before .before .pre in
-    (readable _ _ (p .0), p .1 .0)
+    (readable _ _ (p .0), (p .1 .0, p .1 .1 .0))
 
 digit-requires : tie.Need-digit-requires
 digit-requires c κs = search needs
@@ -24,7 +24,7 @@ returns c =
     let p = c .before .before .before .before .before .before .before in
     let s = c .before .before .before .before .load .ensures in
     judged-digit _ _ (p .pre .0) (p .args .x) _ _ _ _ (s .depth) (s .base) (c .before .before .before .lent .ensures .0)
-    (c .before .before .tally .ensures) _ _ (p .pre .1 .1) (c .digit .ensures)
+    (c .before .before .tally .ensures) _ _ (p .pre .1 .1 .1) (c .digit .ensures)
 
 pub short-digit-spec : {M : Type 1} → statement M
 short-digit-spec =

@@ -14,7 +14,7 @@ lent-requires c κs = search needs
 tally-requires : tie.Need-tally-requires
 tally-requires c κs =
     let p = c .before .before .before .before .pre in
-    (readable _ _ (p .0), p .1)
+    (readable _ _ (p .0), (p .1 .0, p .1 .1))
 
 level-requires : tie.Need-level-requires
 level-requires c κs = search needs

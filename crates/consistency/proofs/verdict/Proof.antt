@@ -1,10 +1,14 @@
 -- `consistency::verdict` meets its contract: yes where no node has a short entry, else the first such node, its first such level and
 -- digit. Assumes nothing.
-use native.Mathlib.Omega.{arith}
-use borrow.Author.Needs.{needs}
 use Rattle.model.proofs.Consistency.{verdict-yes, level-found, verdict-no}
+use native.Mathlib.Omega.{arith}
+use Rattle.consistency.proofs.Judged.{readable}
+use borrow.Author.Needs.{needs}
 use Rattle.consistency.proofs.verdict.Statement.{statement}
 use Rattle.consistency.proofs.verdict.Tie as tie
+
+level-0-requires : tie.Need-level-0-requires
+level-0-requires c κs = readable _ _ (c .before .before .pre)
 
 whole-nodes-requires : tie.Need-whole-nodes-requires
 whole-nodes-requires c κs = search needs
@@ -16,16 +20,23 @@ returns : tie.Need-returns
 returns c = verdict-yes _ _ _ (c .before .before .before .whole-nodes .ensures) (omega arith)
 
 add-x : tie.Need-add-x
-add-x c = omega arith
+add-x c = search needs
 
 short-level-requires : tie.Need-short-level-requires
-short-level-requires c κs = search needs
+short-level-requires c κs =
+    (c .before .before .before .before .before .before .before .pre, (c .before .before .before .before .level-0 .ensures, record { low = omega arith; high = omega arith }))
 
 short-digit-requires : tie.Need-short-digit-requires
 short-digit-requires c κs =
-    let p = c .before .before .before .before .before .before .before in (
+    let p = c .before .before .before .before .before .before .before .before in (
       p .pre,
-      (search needs, level-found (p .args .state .now) (p .args .tables .now) _ (c .before .before .before .before .whole-nodes .ensures) (omega arith) _ (c .short-level .ensures)),
+      (
+        c .before .before .before .before .before .level-0 .ensures,
+        (
+          record { low = omega arith; high = omega arith },
+          level-found (p .args .state .now) (p .args .tables .now) _ (c .before .before .before .before .whole-nodes .ensures) (omega arith) _ (c .short-level .ensures),
+        ),
+      ),
     )
 
 returns-2 : tie.Need-returns-2
@@ -37,6 +48,7 @@ pub verdict-spec : {M : Type 1} → statement M
 verdict-spec =
     tie.close
     (tie.spec
+    level-0-requires
     whole-nodes-requires
     load-requires
     returns

@@ -11,11 +11,11 @@ use Rattle.consistency.proofs.whole_nodes.Statement.{statement}
 use Rattle.consistency.proofs.whole_nodes.Tie as tie
 
 abbrev Inv-loop : tie.InvT-loop
-Inv-loop state tables s k₀ k =
+Inv-loop state tables level-0 s k₀ k =
     (k ≤ nodeCount state) × (k ≤ firstBelow (nodeCount state) (node (nodeShort state tables)))
 
 abbrev μ-loop : tie.MeasureT-loop
-μ-loop state tables s k₀ k = nodeCount state - k
+μ-loop state tables level-0 s k₀ k = nodeCount state - k
 
 load-requires : tie.Need-load-requires Inv-loop μ-loop
 load-requires c κs = search needs
@@ -27,7 +27,8 @@ add-short-level : tie.Need-add-short-level Inv-loop μ-loop
 add-short-level c = omega arith
 
 short-level-requires : tie.Need-short-level-requires Inv-loop μ-loop
-short-level-requires c κs = search needs
+short-level-requires c κs =
+    let p = c .before .before .before .before .before .before .pre in (p .0, (p .1, record { low = omega arith; high = omega arith }))
 
 returns : tie.Need-returns Inv-loop μ-loop
 unfolding nodeWhole

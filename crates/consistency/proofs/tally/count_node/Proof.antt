@@ -1,24 +1,25 @@
--- `tally::count_node` meets its contract: a turn is the definition's step; no level was counted twice, so every count still has room.
+-- `tally::count_node` meets its contract: a turn is the definition's step, which does nothing at level 0; no level was counted twice, so
+-- every count still has room.
 -- Assumes nothing.
 use native.Mathlib.Omega.{arith}
 use borrow.Author.Needs.{needs}
 use Prim.Native.Nat.{_≤_, _-_}
 use mathlib.Core.Path.{_≡_}
 use Rattle.model.specs.Loops.{eachBelow}
-use Rattle.model.proofs.Loops.{each-zero, each-loop}
-use Rattle.consistency.specs.Counted.{countAt}
-use Rattle.consistency.proofs.Passed.{room-left, level-goes}
+use Rattle.model.proofs.Loops.{each-loop}
+use Rattle.consistency.specs.Counted.{countAbove}
+use Rattle.consistency.proofs.Passed.{room-left, level-starts, level-goes}
 use Rattle.consistency.proofs.tally.count_node.Statement.{statement}
 use Rattle.consistency.proofs.tally.count_node.Tie as tie
 
 abbrev Inv-loop : tie.InvT-loop
-Inv-loop counts₀ levels y i₀ counts i = (i ≤ levels) × (counts ≡ eachBelow i (countAt y) counts₀)
+Inv-loop counts₀ levels y i₀ counts i = (1 ≤ i) × (i ≤ levels) × (counts ≡ eachBelow i (countAbove y) counts₀)
 
 abbrev μ-loop : tie.MeasureT-loop
 μ-loop counts₀ levels y i₀ counts i = levels - i
 
 loop-holds : tie.Need-loop-holds Inv-loop μ-loop
-loop-holds c = (omega arith, each-zero _ _)
+loop-holds c = (omega arith, c .pre .some, level-starts (c .args .y) (c .args .counts .now) (c .pre .long))
 
 mul-at : tie.Need-mul-at Inv-loop μ-loop
 mul-at c = omega arith
@@ -37,7 +38,7 @@ add-counts c =
     let p = c .before .before .before .before in
     let l = c .before .before .before .loop in
     let d = c .before .digit .ensures in
-    omega (arith, room-left (p .args .y) (p .args .counts .now) (p .pre .long) (p .args .levels) (l .i) (c .before .digit .result) (l .counts) (l .inv .1) (d .0) (p .pre) (c .before .before .loop-test .taken) (d .1))
+    omega (arith, room-left (p .args .y) (p .args .counts .now) (p .pre .long) (p .args .levels) (l .i) (c .before .digit .result) (l .counts) (l .inv .2) (d .0) (p .pre) (c .before .before .loop-test .taken) (d .1))
 
 element-write-counts : tie.Need-element-write-counts Inv-loop μ-loop
 element-write-counts c = omega arith
@@ -52,7 +53,7 @@ loop-again : tie.Need-loop-again Inv-loop μ-loop
 loop-again c =
     let p = c .before .before .before .before in
     let l = c .before .before .before .loop in
-    (omega arith, level-goes (p .args .y) (p .args .counts .now) (p .pre .long) (p .args .levels) (l .i) (c .before .digit .result) (l .counts) (l .inv .1) (c .before .digit .ensures .0))
+    (omega arith, omega arith, level-goes (p .args .y) (p .args .counts .now) (p .pre .long) (p .args .levels) (l .i) (c .before .digit .result) (l .counts) (l .inv .2) (c .before .digit .ensures .0) (l .inv .0))
 
 returns : tie.Need-returns Inv-loop μ-loop
 returns c = search each-loop

@@ -19,10 +19,11 @@ id-requires : tie.Need-id-requires Inv-loop μ-loop
 id-requires c κs = search needs
 
 cast-owner : tie.Need-cast-owner Inv-loop μ-loop
-cast-owner c = let p = c .before .before .before in omega (arith, p .pre .0 .ids (p .args .x) (p .pre .1))
+cast-owner c = let p = c .before .before .before in omega (arith, p .pre .0 .ids (p .args .x) (p .pre .1 .1))
 
 loop-holds : tie.Need-loop-holds Inv-loop μ-loop
-loop-holds c = (omega arith, counts-start _ _ (c .before .before .before .pre .0 .digits))
+loop-holds c =
+    let p = c .before .before .before in (omega arith, counts-start _ _ (p .pre .0 .digits) (p .args .level-0) (p .pre .1 .0))
 
 add-id : tie.Need-add-id Inv-loop μ-loop
 add-id c = omega arith
@@ -43,7 +44,7 @@ count-node-requires : tie.Need-count-node-requires Inv-loop μ-loop
 count-node-requires c κs =
     let p = c .before .before .before .before .before .before .before .before .before in
     let l = c .before .before .before .before .before .loop in
-    counts-room _ _ (p .pre .0 .digits) (l .k) _ (l .counts) (l .inv .1) (omega arith) (omega arith)
+    counts-room _ _ (p .pre .0 .digits) (l .k) _ (l .counts) (l .inv .1) (p .pre .0 .few) (omega arith) (omega (arith, p .pre .0 .some)) (omega arith)
 
 add-k : tie.Need-add-k Inv-loop μ-loop
 add-k c = omega arith
@@ -57,7 +58,7 @@ loop-again c =
     let l = c .before .before .before .before .before .before .loop in (
       omega arith,
       counts-goes _ (p .args .x) (p .pre .0 .digits) (l .k) _ _ _ _ (l .counts) _ (l .inv .1)
-          (c .before .before .before .before .before .before .before .before .load .ensures .digits)
+          (c .before .before .before .before .before .before .before .before .load .ensures .digits) (omega (arith, p .pre .0 .some))
           (c .before .before .before .before .before .before .before .id .ensures) (c .before .before .before .id2 .ensures)
           (c .before .levels .ensures) (c .count-node .ensures),
     )
