@@ -6,6 +6,7 @@
 //! - `script`: calls as lines of text, for failure reports and for running a case again.
 //! - `lent`: the memory that a caller lends, with guard space around what is lent.
 //! - `compare`: runs one script on two engines and finds the first difference.
+//! - `paper`: the images of document 01.
 //! - `random`: seeded settings, ids, runs, states and images, good and bad.
 //!
 //! `TRIALS_COUNT=50 TRIALS_SEED=1000000 cargo test --release` plays 50 times as many cases, with other seeds.
@@ -14,6 +15,7 @@ pub mod archive;
 pub mod compare;
 pub mod engine;
 pub mod lent;
+pub mod paper;
 pub mod random;
 pub mod script;
 pub mod second;

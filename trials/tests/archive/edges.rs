@@ -1,16 +1,10 @@
-//! The edges that document 01 lists. Answers are packed: the refusal lowest, then a byte for each field.
+//! The edges that document 01 lists, on both engines. Answers are packed: the refusal lowest, then a byte for each field.
 
+use trials::paper::{e1_short, E1};
 use trials::script::Call;
 use trials::second::Settings;
 
 use crate::support::Both;
-
-/// Image E1 of document 01.
-const E1: [u8; 40] = [
-    4, 1, 2, 2, 1, // settings
-    2, 0, 0, 0, 0, 1, 0, 0, 0, // nodes
-    6, 0, 1, 0, 0, 1, 1, 0, 1, 2, 1, 1, 0, 1, 2, 0, 0, 1, 2, 0, 1, 2, 2, 1, 0, 2, // records
-];
 
 const CONSISTENT: u64 = 0x100;
 const COPIED: u64 = 0x100;
@@ -28,21 +22,36 @@ fn joining_one_node_makes_e1() {
     assert_eq!(both.image(), E1);
 }
 
-/// P6, P7; then E1 without record 1 0 1 2 and with count 5: P8, P9, P10.
+/// P6 and P7.
 #[test]
-fn verdicts_and_lookups_of_e1() {
+fn one_founded_node_and_e1_are_consistent() {
     let verdict = |mut both: Both| both.call(Call::Verdict);
     assert_eq!(verdict(Both::founded([2, 2, 1], 0)), CONSISTENT);
+    assert_eq!(verdict(Both::founded([16, 8, 4], u32::MAX)), CONSISTENT);
     assert_eq!(verdict(Both::read_in(&E1)), CONSISTENT);
-    let mut short = E1.to_vec();
-    short.drain(20..24);
-    short[14] = 5;
-    let mut both = Both::read_in(&short);
+}
+
+/// P8, P9 and P10.
+#[test]
+fn verdict_and_lookups_of_short_e1() {
+    let mut both = Both::read_in(&e1_short());
     assert_eq!(both.call(Call::Verdict), 1 << 16 | 1 << 32);
     let lost = both.call(Call::Lookup { from: 1, to: 2 });
     assert_eq!(lost, 1 << 24);
     let arrived = both.call(Call::Lookup { from: 2, to: 1 });
     assert_eq!(arrived, 0x100 | 1 << 16 | 1 << 24);
+    let at_once = both.call(Call::Lookup { from: 2, to: 2 });
+    assert_eq!(at_once, 0x100 | 2 << 24);
+}
+
+/// P11 and P12.
+#[test]
+fn bad_ids() {
+    for id in [2, 0x100] {
+        let settings = [2, 2, 1];
+        assert_eq!(Both::new().call(Call::Found { settings, id }), 7);
+        assert_eq!(Both::founded(settings, 0).begin(id, 1), 7);
+    }
 }
 
 /// 10261 joins alone the network of 11261, 13061, 31701 and 10353, in any order of these and by any gateway.

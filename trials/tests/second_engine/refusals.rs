@@ -1,9 +1,10 @@
 //! The first true sentence wins, and a refused call changes nothing.
 
 use trials::lent::Lent;
+use trials::paper::E1;
 use trials::second;
 
-use crate::support::{Trial, E1};
+use crate::support::Trial;
 
 /// A network of 64 nodes, all in the system.
 fn full() -> Trial {

@@ -4,13 +4,6 @@ use trials::lent::Lent;
 use trials::second::network::Network;
 use trials::second::{self, Begun, Consistency, Delivered, Found, Looked, Written};
 
-/// Image E1 of document 01.
-pub const E1: [u8; 40] = [
-    4, 1, 2, 2, 1, // settings
-    2, 0, 0, 0, 0, 1, 0, 0, 0, // nodes
-    6, 0, 1, 0, 0, 1, 1, 0, 1, 2, 1, 1, 0, 1, 2, 0, 0, 1, 2, 0, 1, 2, 2, 1, 0, 2, // records
-];
-
 pub struct Trial {
     pub memory: Lent,
 }

@@ -1,0 +1,16 @@
+//! The images of document 01.
+
+/// Image E1: two nodes.
+pub const E1: [u8; 40] = [
+    4, 1, 2, 2, 1, // settings
+    2, 0, 0, 0, 0, 1, 0, 0, 0, // nodes
+    6, 0, 1, 0, 0, 1, 1, 0, 1, 2, 1, 1, 0, 1, 2, 0, 0, 1, 2, 0, 1, 2, 2, 1, 0, 2, // records
+];
+
+/// E1 without record 1 0 1 2 and with count 5: P8 to P10.
+pub fn e1_short() -> Vec<u8> {
+    let mut image = E1.to_vec();
+    image.drain(20..24);
+    image[14] = 5;
+    image
+}
