@@ -9,6 +9,7 @@ ghost use Rattle.model.proofs.Sound.{Sound};
 ghost use Rattle.tables.specs.Places.{Entry};
 ghost use Rattle.image_parts.specs.Records.{entryOf, levelOf, tableRecords, Shape};
 use records::settings;
+use tables::entry;
 use tables::part;
 
 fn slot(u: u8) -> usize
@@ -20,11 +21,14 @@ fn slot(u: u8) -> usize
     4
 }
 
-// These do not depend on whose table it is: 0 stands for any node.
-fn entry(table: &[u8], depth: usize, i: usize, j: usize) -> usize
+// These do not depend on whose table it is: 0 stands for any node. Most entries are empty.
+fn filled(table: &[u8], depth: usize, i: usize, j: usize) -> usize
     requires { ⌜ Entry (now table) depth i j ⌝ }
     ensures { λ r. ⌜ (r ≡ length (entryOf depth (now (table .entry)) 0 i j)) × (r ≤ 16) ⌝ }
 {
+    if entry::empty(table, i, j) {
+        return 0;
+    }
     let mut total = 0;
     let mut k = 0;
     while k < depth {
@@ -42,7 +46,7 @@ fn level(table: &[u8], base: usize, depth: usize, i: usize) -> usize
     let mut total = 0;
     let mut j = 0;
     while j < base {
-        total += entry(table, depth, i, j);
+        total += filled(table, depth, i, j);
         j += 1;
     }
     total

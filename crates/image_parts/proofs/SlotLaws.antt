@@ -1,15 +1,17 @@
 -- Laws of putting records: of one slot, and of the next slot, entry, level and node behind the others. Assumes nothing.
-use Prim.Native.Nat.{ℕ, _+_, _≤_, _<_}
-use mathlib.Core.Path.{_≡_, sym, ap, ap₂, subst, _∙_}
-use mathlib.Core.Bool.{Bool, cond}
+use Prim.Native.Nat.{ℕ, zero, suc, _+_, _≤_, _<_}
+use mathlib.Core.Path.{_≡_, refl, sym, ap, ap₂, subst, _∙_}
+use mathlib.Core.Bool.{Bool, true, cond}
 use mathlib.Core.List.{List, [], _∷_}
+use native.Mathlib.Nat.{le-step, lt-suc-self}
 use native.Mathlib.Omega.{arith}
 use lib.ListN.{length}
 use borrow.Author.Tests.{eq-eqb, ne-eqb}
-use Rattle.model.specs.Loops.{joinBelow, node}
-use Rattle.model.specs.Tables.{slotAt}
+use Rattle.model.specs.Loops.{allBelow, joinBelow, node}
+use Rattle.model.specs.Tables.{slotAt, slotIs}
 use Rattle.model.specs.Memory.{base, digits, depth, nodeCount, tableOf}
 use Rattle.model.specs.Image.{slotRecord, entryRecords, levelRecords, nodeRecords, allRecords}
+use Rattle.model.proofs.Loops.{all-at}
 use Rattle.image_parts.specs.Put.{Put}
 use Rattle.image_parts.specs.Records.{slotOf, entryOf, levelOf, tableRecords}
 use Rattle.image_parts.proofs.Putting.{put-none, pieces-none, pieces-room, pieces-goes, pieces-ends}
@@ -94,3 +96,23 @@ module _ (s t : List ℕ) where
       → total ≡ length (allRecords s t)
   unfolding allRecords
   nodes-whole n k total e en l g = total-ends (node (nodeRecords s t)) (nodeCount s) k total e (omega arith) (omega arith)
+
+-- ---- an entry of four empty slots, as the code finds it: r is what it asked
+
+no-pieces : (n : ℕ) (f : ℕ → List ℕ) → ((k : ℕ) → k < n → f k ≡ []) → joinBelow n f ≡ []
+unfolding joinBelow
+no-pieces zero f h = refl
+no-pieces (suc n) f h = rw (h n (lt-suc-self n), no-pieces n f (λ k l. h k (le-step l))) refl
+
+module _ (T : List ℕ) (K x i j : ℕ) (r : Bool) (few : K ≤ 4) (e : r ≡ allBelow 4 (slotIs T i j 0)) (h : r ≡ true) where
+  no-records : entryOf K T x i j ≡ []
+  unfolding entryOf slotRecord
+  no-records =
+      no-pieces K (slotRecord T x i j)
+      (λ k l. ap (λ (b : Bool). cond b [] (x ∷ i ∷ j ∷ slotAt T i j k ∷ [])) (all-at 4 (slotIs T i j 0) (sym e ∙ h) k (omega arith)))
+
+  pub entry-skipped : (o : List ℕ) (a : ℕ) → a + length (entryOf K T x i j) ≤ length o → Put o a (entryOf K T x i j) o a
+  entry-skipped o a l = rw no-records (put-none o a (omega arith))
+
+  pub entry-long : 0 ≡ length (entryOf K T x i j)
+  entry-long = sym (ap length no-records)

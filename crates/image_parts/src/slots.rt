@@ -8,6 +8,7 @@ ghost use Rattle.image_parts.specs.Put.{Put};
 ghost use Rattle.image_parts.specs.Records.{slotOf, entryOf, levelOf, tableRecords, Shape};
 use crate::put;
 use records::settings;
+use tables::entry;
 use tables::part;
 
 // "four bytes each: member, level, digit, neighbour"; nothing for an empty slot.
@@ -24,8 +25,8 @@ fn slot(x: usize, i: usize, j: usize, u: u8, out: &mut [u8], at: usize) -> usize
     put::four(out, at, x as u8, i as u8, j as u8, u)
 }
 
-// "within an entry stand in slot order"
-fn entry(
+// "within an entry stand in slot order"; most entries are empty.
+fn filled(
     table: &[u8],
     depth: usize,
     x: usize,
@@ -39,6 +40,9 @@ fn entry(
     requires { ⌜ at + length (entryOf depth (now table) x i j) ≤ length (now out) ⌝ }
     ensures { λ r. ⌜ Put (now (out .entry)) at (entryOf depth (now (table .entry)) x i j) (now (out .exit)) r ⌝ }
 {
+    if entry::empty(table, i, j) {
+        return at;
+    }
     let mut end = at;
     let mut k = 0;
     while k < depth {
@@ -65,7 +69,7 @@ fn level(
     let mut end = at;
     let mut j = 0;
     while j < base {
-        end = entry(table, depth, x, i, j, out, end);
+        end = filled(table, depth, x, i, j, out, end);
         j += 1;
     }
     end

@@ -1,29 +1,17 @@
 -- Laws of slots as the code reads them. Assumes nothing.
 use Prim.Native.Nat.{ℕ, _≤_, _<_}
 use mathlib.Core.Path.{_≡_, refl, sym, ap, subst, _∙_}
-use mathlib.Core.Bool.{Bool, true, false, _&&_, _||_, or-false}
+use mathlib.Core.Bool.{Bool, true, false, _||_, or-false}
 use mathlib.Core.List.{List}
 use native.Mathlib.Omega.{arith}
-use lib.Bits.{bitOr}
-use lib.Dec.{eqb}
 use borrow.Author.Tests.{eqb-true}
 use Rattle.model.specs.Loops.{allBelow}
 use Rattle.model.specs.Memory.{depth, nodeCount}
 use Rattle.model.specs.Tables.{slotAt, slotIs}
 use Rattle.model.proofs.Bools.{or-intro-right}
-use Rattle.model.proofs.Loops.{all-zero, all-step, all-of, all-at}
-use Rattle.model.proofs.Zero.{gather-goes}
+use Rattle.model.proofs.Loops.{all-of, all-at}
 use Rattle.model.proofs.Early.{eq-or-goes, eq-or-leaves, le-goes, le-leaves, lt-goes, lt-leaves}
 use Rattle.soundness_tables.specs.TableFacts.{filledSound, slotExact, entryExact}
-
--- four places gathered by `or` are zero exactly when each is
-pub four-zero : (f : ℕ → Bool) (a b c d : ℕ) → eqb a 0 ≡ f 0 → eqb b 0 ≡ f 1 → eqb c 0 ≡ f 2 → eqb d 0 ≡ f 3
-    → eqb (bitOr (bitOr (bitOr a b) c) d) 0 ≡ allBelow 4 f
-four-zero f a b c d p q r s =
-    gather-goes 3 f (bitOr (bitOr a b) c) d (gather-goes 2 f (bitOr a b) c (gather-goes 1 f a b one q) r) s
-  where
-    one : eqb a 0 ≡ allBelow 1 f
-    one = p ∙ ap (λ (t : Bool). t && f 0) (sym (all-zero f)) ∙ sym (all-step 0 f)
 
 -- `if r { return true; } q` for `a || b`, where r is the second of the two
 pub other-leaves : (a b r : Bool) → r ≡ b → r ≡ true → true ≡ (a || b)

@@ -67,7 +67,7 @@ fn entry(state: &[u64], table: &[u8], s: Settings, r: Row, j: usize) -> bool
     requires { ⌜ EntryIn (now table) (r .level) j ⌝ }
     ensures { λ b. ⌜ b ≡ entryExact (now (state .entry)) (r .owner) (now (table .entry)) (r .level) j ⌝ }
 {
-    if slots::empty(table, r.level, j) {
+    if tables::entry::empty(table, r.level, j) {
         return true;
     }
     let mut k = 0;

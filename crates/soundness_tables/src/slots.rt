@@ -4,7 +4,7 @@ ghost use mathlib.Core.Bool.{cond};
 ghost use Prim.Native.Nat.{_<_, _≤_};
 ghost use lib.ListN.{length};
 ghost use Rattle.model.specs.Loops.{allBelow, countBelow};
-ghost use Rattle.model.specs.Tables.{slotAt, slotIs};
+ghost use Rattle.model.specs.Tables.{slotAt};
 ghost use Rattle.model.specs.Sound.{slotDiffers, noGapBefore};
 ghost use Rattle.soundness_tables.specs.TableFacts.{EntryIn, filledByte, filledAt};
 
@@ -15,15 +15,6 @@ pub fn at(table: &[u8], i: usize, j: usize, k: usize) -> usize
     ensures { λ r. ⌜ r ≡ slotAt (now (table .entry)) i j k ⌝ }
 {
     table[64 * i + 4 * j + k] as usize
-}
-
-// All four slots are empty.
-pub fn empty(table: &[u8], i: usize, j: usize) -> bool
-    requires { ⌜ EntryIn (now table) i j ⌝ }
-    ensures { λ r. ⌜ r ≡ allBelow 4 (slotIs (now (table .entry)) i j 0) ⌝ }
-{
-    let a = 64 * i + 4 * j;
-    table[a] | table[a + 1] | table[a + 2] | table[a + 3] == 0
 }
 
 // "without a gap": the slot before k is filled.

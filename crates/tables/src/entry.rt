@@ -1,7 +1,8 @@
 // An entry (i, j), level i and digit j, of one node's table: "slot s (0 to 3) of entry (i, j) at 64i + 4j + s within it; 0 means
-// empty". Only the slots below the depth are read.
+// empty". Only the slots below the depth are read, but where it says otherwise.
 ghost use mathlib.Core.Path.{_≡_};
 ghost use Prim.Native.Nat.{_≤_, _<_};
+ghost use Rattle.model.specs.Loops.{allBelow};
 ghost use Rattle.model.specs.Tables as tables;
 ghost use Rattle.tables.specs.Places.{Entry};
 
@@ -43,6 +44,15 @@ pub fn first(table: &[u8], i: usize, j: usize) -> usize
     ensures { λ r. ⌜ r ≡ tables.firstOf (now (table .entry)) i j ⌝ }
 {
     table[64 * i + 4 * j] as usize
+}
+
+// All four slots are empty, those from the depth on too: asked at once, since most entries of a table are.
+pub fn empty(table: &[u8], i: usize, j: usize) -> bool
+    requires { ⌜ Entry (now table) 4 i j ⌝ }
+    ensures { λ r. ⌜ r ≡ allBelow 4 (tables.slotIs (now (table .entry)) i j 0) ⌝ }
+{
+    let a = 64 * i + 4 * j;
+    table[a] | table[a + 1] | table[a + 2] | table[a + 3] == 0
 }
 
 // u behind the nodes of the entry, which has room.

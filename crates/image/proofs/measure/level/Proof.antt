@@ -19,8 +19,8 @@ abbrev μ-loop : tie.MeasureT-loop
 loop-holds : tie.Need-loop-holds Inv-loop μ-loop
 loop-holds c = (omega arith, omega arith, search total-none)
 
-entry-requires : tie.Need-entry-requires Inv-loop μ-loop
-entry-requires c κs = search needs
+filled-requires : tie.Need-filled-requires Inv-loop μ-loop
+filled-requires c κs = search needs
 
 add-total : tie.Need-add-total Inv-loop μ-loop
 add-total c = omega arith
@@ -45,7 +45,7 @@ level-spec =
     Inv-loop
     μ-loop
     loop-holds
-    entry-requires
+    filled-requires
     add-total
     add-j
     loop-less

@@ -21,8 +21,8 @@ abbrev μ-loop : tie.MeasureT-loop
 loop-holds : tie.Need-loop-holds Inv-loop μ-loop
 loop-holds c = (omega arith, refl, pieces-none _ _ _ (omega arith))
 
-entry-requires : tie.Need-entry-requires Inv-loop μ-loop
-entry-requires c κs = (search needs, (omega arith, search level-room))
+filled-requires : tie.Need-filled-requires Inv-loop μ-loop
+filled-requires c κs = (search needs, (omega arith, search level-room))
 
 add-j : tie.Need-add-j Inv-loop μ-loop
 add-j c = omega arith
@@ -47,7 +47,7 @@ level-spec =
     Inv-loop
     μ-loop
     loop-holds
-    entry-requires
+    filled-requires
     add-j
     loop-less
     loop-again

@@ -18,7 +18,8 @@ abbrev μ-loop : tie.MeasureT-loop
 μ-loop state table s r j k₀ k = 4 - k
 
 empty-requires : tie.Need-empty-requires Inv-loop μ-loop
-empty-requires c κs = search needs
+empty-requires c κs =
+    let e = c .before .before .pre .1 .1 .1 in record { long = omega (arith, e .whole); depth = omega arith; level = e .level; digit = e .digit }
 
 returns : tie.Need-returns Inv-loop μ-loop
 returns c = search entry-empty

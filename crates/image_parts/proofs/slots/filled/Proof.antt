@@ -1,4 +1,4 @@
--- `slots::entry`: each turn puts the next slot's record behind the others. Assumes nothing.
+-- `slots::filled`: four empty slots have no records; each turn puts the next slot's record behind the others. Assumes nothing.
 use Prim.Native.Nat.{_≤_, _-_}
 use mathlib.Core.Path.{_≡_, refl}
 use native.Mathlib.Omega.{arith}
@@ -8,15 +8,22 @@ use Rattle.model.specs.Image.{slotRecord}
 use Rattle.image_parts.specs.Records.{slotOf, entryOf}
 use Rattle.image_parts.specs.Put.{Put}
 use Rattle.image_parts.proofs.Putting.{pieces-none, pieces-goes, pieces-ends}
-use Rattle.image_parts.proofs.SlotLaws.{entry-room}
-use Rattle.image_parts.proofs.slots.entry.Statement.{statement}
-use Rattle.image_parts.proofs.slots.entry.Tie as tie
+use Rattle.image_parts.proofs.SlotLaws.{entry-room, entry-skipped}
+use Rattle.image_parts.proofs.slots.filled.Statement.{statement}
+use Rattle.image_parts.proofs.slots.filled.Tie as tie
 
 abbrev Inv-loop : tie.InvT-loop
 Inv-loop table depth x i j out₀ at end₀ k₀ out end k = (k ≤ depth) × (length out ≡ length out₀) × Put out₀ at (joinBelow k (slotRecord table x i j)) out end
 
 abbrev μ-loop : tie.MeasureT-loop
 μ-loop table depth x i j out₀ at end₀ k₀ out end k = depth - k
+
+empty-requires : tie.Need-empty-requires Inv-loop μ-loop
+empty-requires c κs =
+    let e = c .before .before .pre .0 in record { long = e .long; depth = omega arith; level = e .level; digit = e .digit }
+
+returns : tie.Need-returns Inv-loop μ-loop
+returns c = search entry-skipped
 
 loop-holds : tie.Need-loop-holds Inv-loop μ-loop
 loop-holds c = (omega arith, refl, pieces-none _ _ _ (omega arith))
@@ -52,16 +59,18 @@ loop-again c = (omega arith, omega arith, search pieces-goes)
 same-length : tie.Need-same-length Inv-loop μ-loop
 same-length c = omega arith
 
-returns : tie.Need-returns Inv-loop μ-loop
+returns-2 : tie.Need-returns-2 Inv-loop μ-loop
 unfolding entryOf
-returns c = search pieces-ends
+returns-2 c = search pieces-ends
 
-pub entry-spec : {M : Type 1} → statement M
-entry-spec =
+pub filled-spec : {M : Type 1} → statement M
+filled-spec =
     tie.close
     (tie.spec
     Inv-loop
     μ-loop
+    empty-requires
+    returns
     loop-holds
     mul-slot
     mul-slot-2
@@ -73,4 +82,4 @@ entry-spec =
     loop-less
     loop-again
     same-length
-    returns)
+    returns-2)

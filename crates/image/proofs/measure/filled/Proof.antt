@@ -1,4 +1,4 @@
--- `measure::entry`: each turn adds the length of the next slot's record. Assumes nothing.
+-- `measure::filled`: four empty slots have no records; each turn adds the length of the next slot's record. Assumes nothing.
 use Prim.Native.Nat.{_≤_, _-_, _*_}
 use mathlib.Core.Path.{_≡_}
 use native.Mathlib.Omega.{arith}
@@ -8,14 +8,22 @@ use Rattle.model.specs.Loops.{joinBelow}
 use Rattle.model.specs.Image.{slotRecord}
 use Rattle.image_parts.specs.Records.{entryOf}
 use Rattle.image_parts.proofs.Measuring.{total-none, total-goes, total-ends, slot-length}
-use Rattle.image.proofs.measure.entry.Statement.{statement}
-use Rattle.image.proofs.measure.entry.Tie as tie
+use Rattle.image_parts.proofs.SlotLaws.{entry-long}
+use Rattle.image.proofs.measure.filled.Statement.{statement}
+use Rattle.image.proofs.measure.filled.Tie as tie
 
 abbrev Inv-loop : tie.InvT-loop
 Inv-loop table depth i j total₀ k₀ total k = (k ≤ depth) × (total ≤ 4 * k) × (total ≡ length (joinBelow k (slotRecord table 0 i j)))
 
 abbrev μ-loop : tie.MeasureT-loop
 μ-loop table depth i j total₀ k₀ total k = depth - k
+
+empty-requires : tie.Need-empty-requires Inv-loop μ-loop
+empty-requires c κs =
+    let e = c .before .pre in record { long = e .long; depth = omega arith; level = e .level; digit = e .digit }
+
+returns : tie.Need-returns Inv-loop μ-loop
+returns c = (search entry-long, omega arith)
 
 loop-holds : tie.Need-loop-holds Inv-loop μ-loop
 loop-holds c = (omega arith, omega arith, search total-none)
@@ -50,16 +58,18 @@ loop-less c = omega arith
 loop-again : tie.Need-loop-again Inv-loop μ-loop
 loop-again c = (omega arith, omega arith, search (total-goes, slot-length))
 
-returns : tie.Need-returns Inv-loop μ-loop
+returns-2 : tie.Need-returns-2 Inv-loop μ-loop
 unfolding entryOf
-returns c = (search total-ends, omega arith)
+returns-2 c = (search total-ends, omega arith)
 
-pub entry-spec : {M : Type 1} → statement M
-entry-spec =
+pub filled-spec : {M : Type 1} → statement M
+filled-spec =
     tie.close
     (tie.spec
     Inv-loop
     μ-loop
+    empty-requires
+    returns
     loop-holds
     mul-slot
     mul-slot-2
@@ -71,4 +81,4 @@ entry-spec =
     add-k
     loop-less
     loop-again
-    returns)
+    returns-2)

@@ -6,9 +6,9 @@ use denote.Ref.{now}
 use lib.ListN.{getD}
 use lib.Dec.{eqb}
 use borrow.Author.Needs.{needs}
-use Rattle.soundness_tables.proofs.SlotLaws.{four-zero}
-use Rattle.soundness_tables.proofs.slots.empty.Statement.{statement}
-use Rattle.soundness_tables.proofs.slots.empty.Tie as tie
+use Rattle.tables.proofs.Gathered.{four-zero}
+use Rattle.tables.proofs.entry.empty.Statement.{statement}
+use Rattle.tables.proofs.entry.empty.Tie as tie
 
 mul-a : tie.Need-mul-a
 mul-a c = search needs

@@ -1,0 +1,2 @@
+-- Laws of what the code over one table computes.
+pub mod Gathered
