@@ -162,7 +162,10 @@ fn print(calls: &[Call], proved: &Clock, second: &Clock) {
     let pass = plain_pass(&proved.memory);
     let passes = [proved, second].map(|clock| clock.mean(&places(calls, "sound")) / pass);
     println!("{:<12} {pass:>10.0}", "plain pass");
-    println!("{:<12} {:>10.1} {:>10.1}", "sound/pass", passes[0], passes[1]);
+    println!(
+        "{:<12} {:>10.1} {:>10.1}",
+        "sound/pass", passes[0], passes[1]
+    );
 }
 
 fn main() {
