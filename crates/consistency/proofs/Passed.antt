@@ -17,7 +17,7 @@ use Rattle.model.specs.Loops.{countBelow, eachBelow, node}
 use Rattle.model.specs.Ids.{digitOf, commonSuffix}
 use Rattle.model.specs.Memory.{digits, nodeCount, idOf}
 use Rattle.model.specs.Tables.{qualified}
-use Rattle.model.specs.Sound.{qualifies}
+use Rattle.model.specs.Nodes.{qualifies, countNodes}
 use Rattle.model.specs.Consistency.{howMany}
 use Rattle.model.proofs.Bools.{true-or-false, same-test, is-false, le-or-lt}
 use Rattle.model.proofs.Loops.{count-zero, count-step, count-le, count-ends, count-same, each-zero, each-step, each-leads}
@@ -202,7 +202,7 @@ ends-all s k n C w e l g = record {
 -- at level 0 all nodes are counted, at the others k
 pub record Counts (s : List ℕ) (x k : ℕ) (C : List ℕ) : Type 0 where
   pub long : length C ≡ 128
-  pub first : (j : ℕ) → j < 16 → getD C (place 0 j) 0 ≡ countBelow (nodeCount s) (node (qualifies s x 0 j))
+  pub first : (j : ℕ) → j < 16 → getD C (place 0 j) 0 ≡ countNodes s (qualifies s x 0 j)
   pub at : (i j : ℕ) → 1 ≤ i → i < digits s → j < 16 → getD C (place i j) 0 ≡ countBelow k (node (qualifies s x i j))
 
 module _ (s : List ℕ) (x : ℕ) (few : digits s ≤ 8) where
@@ -258,8 +258,8 @@ module _ (s : List ℕ) (x : ℕ) (few : digits s ≤ 8) where
   unfolding howMany
   counts-ends k n C w e l g = record { counted = λ i j hi hj. all i j hi hj (ℕ-discrete i 0) }
     where
-      all : (i j : ℕ) → i < digits s → j < 16 → Dec (i ≡ 0) → getD C (place i j) 0 ≡ countBelow (nodeCount s) (node (qualifies s x i j))
+      all : (i j : ℕ) → i < digits s → j < 16 → Dec (i ≡ 0) → getD C (place i j) 0 ≡ countNodes s (qualifies s x i j)
       all i j hi hj (yes z) =
-          subst (λ (i : ℕ). getD C (place i j) 0 ≡ countBelow (nodeCount s) (node (qualifies s x i j))) (sym z) (w .first j hj)
+          subst (λ (i : ℕ). getD C (place i j) 0 ≡ countNodes s (qualifies s x i j)) (sym z) (w .first j hj)
       all i j hi hj (no z) =
           count-ends (nodeCount s) (node (qualifies s x i j)) k _ (w .at i j (omega arith) hi hj) (omega arith) (omega arith)

@@ -6,19 +6,20 @@ use mathlib.Core.Bool.{Bool, cond, not}
 use mathlib.Core.List.{List}
 use lib.Dec.{eqb}
 use lib.ListN.{length, getD, set}
-use Rattle.model.specs.Loops.{allBelow, countBelow, node}
+use Rattle.model.specs.Loops.{allBelow}
 use Rattle.model.specs.Ids.{digitOf}
-use Rattle.model.specs.Memory.{digits, nodeCount, idOf}
+use Rattle.model.specs.Memory.{digits, nodeCount, idOf, stateLength}
 use Rattle.model.specs.Tables.{entrySize}
 use Rattle.model.specs.Consistency.{howMany}
 use Rattle.model.proofs.Status.{IsNode}
+use Rattle.model.specs.Nodes.{countNodes}
 
 abbrev pub place : ℕ → ℕ → ℕ
 place i j = 16 * i + j
 
 -- the ids can be read
 pub record Readable (s : List ℕ) : Type 0 where
-  pub long : 520 ≤ length s
+  pub long : stateLength ≤ length s
   pub few : nodeCount s ≤ 64
   pub some : 1 ≤ digits s
   pub digits : digits s ≤ 8
@@ -46,7 +47,7 @@ endsIn s j y = eqb (digitOf (idOf s y) 0) j
 -- level 0 of every node has its counts, and no other level has any
 pub record Level0 (s C : List ℕ) : Type 0 where
   pub long : length C ≡ 128
-  pub counted : (j : ℕ) → j < 16 → getD C (place 0 j) 0 ≡ countBelow (nodeCount s) (node (endsIn s j))
+  pub counted : (j : ℕ) → j < 16 → getD C (place 0 j) 0 ≡ countNodes s (endsIn s j)
   pub none : (i j : ℕ) → 1 ≤ i → i < 8 → j < 16 → getD C (place i j) 0 ≡ 0
 
 -- every entry of x has its count

@@ -15,7 +15,7 @@ ghost use Rattle.consistency.specs.Counted.{Level0};
 use crate::answer::Verdict;
 use crate::tally::level_0;
 use crate::tally::tally;
-use records::settings;
+use state::settings;
 use tables::part;
 
 // The first level of x that has a short entry; the number of digits if there is none.

@@ -8,8 +8,8 @@ ghost use Rattle.model.proofs.Status.{IsNode};
 ghost use Rattle.consistency.specs.Counted.{Readable, Room, countAbove, Level0, Tallied};
 use ident::common_suffix;
 use ident::digit;
-use records::record;
-use records::settings;
+use state::record;
+use state::settings;
 
 // A node y qualifies for one entry of x at each level up to their common suffix m: levels 0 to m, below d.
 fn levels(digits: usize, x: u32, y: u32) -> usize

@@ -3,7 +3,7 @@
 ghost use mathlib.Core.Path.{_≡_};
 ghost use Rattle.model.specs.Memory.{tableOf};
 ghost use Rattle.model.specs.Join.{deliverCopying};
-ghost use Rattle.records.specs.Loaded.{bookNode};
+ghost use Rattle.state.specs.Loaded.{bookNode};
 ghost use Rattle.delivery_parts.specs.Answers.{outcome, tookDelivery};
 ghost use Rattle.delivery_parts.specs.Delivers.{Delivers};
 use delivery_parts::answer::Answer;
@@ -11,9 +11,9 @@ use delivery_parts::answer::Step;
 use delivery_parts::meeting::learn_from;
 use delivery_parts::nodes::joining_node;
 use delivery_parts::room::suffix_entry;
-use records::record;
-use records::record::Node;
-use records::status::Status;
+use state::record;
+use state::record::Node;
+use state::status::Status;
 
 // x's record with its next request.
 fn next_request(state: &[u64], tables: &[u8], x: usize, y: usize) -> Node

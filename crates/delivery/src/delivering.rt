@@ -9,7 +9,7 @@ use crate::notifying::deliver_notifying;
 use delivery_parts::answer::Answer;
 use delivery_parts::answer::Step;
 use delivery_waiting::deliver_waiting;
-use records::record;
+use state::record;
 
 // The delivery of an outstanding request from x to y. A settled node has none, and no other number is a status.
 pub fn deliver(state: &mut [u64], tables: &mut [u8], x: usize, y: usize) -> Answer

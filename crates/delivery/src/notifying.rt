@@ -11,8 +11,8 @@ use delivery_parts::meeting::gather_from;
 use delivery_parts::meeting::learn_from;
 use delivery_parts::meeting::teach;
 use delivery_parts::nodes::store_notifying;
-use records::record;
-use records::sets;
+use state::record;
+use state::sets;
 
 // "y learns x, x learns y's table"
 fn notify(state: &[u64], tables: &mut [u8], x: usize, y: usize)

@@ -9,7 +9,7 @@ use lib.ListN.{length}
 use borrow.Author.Tests.{eq-eqb, ne-eqb}
 use Rattle.model.specs.Memory as memory
 use Rattle.model.specs.Memory.{idOf, statusOf, levelOf, pendingOf, notifiedOf, withNode, inSystem, copying, waiting, notifying, isInSystem, addNode, removeNode, tableStart, tableOf, withTable}
-use Rattle.model.specs.Sound.{suffixOf}
+use Rattle.model.specs.Nodes.{suffixOf}
 use Rattle.model.specs.Learning.{learn, learnTable}
 use Rattle.model.specs.Join.{Delivery, joiningNode, inSystemNode, notifyingNode, settle, roomAtSuffix, firstAtSuffix, attachLevel, gather, delivered, delivery}
 use Rattle.model.specs.Join.{deliverCopying, deliverSentOn, deliverAttached, deliverWaiting, deliverNotifying}
@@ -18,8 +18,8 @@ use Rattle.model.proofs.Sound.{Sound}
 use Rattle.model.proofs.Sender.{Sending, copies, waits, notifies, sending, receiver}
 use Rattle.model.proofs.Delivered.{CanDeliver}
 use Rattle.model.proofs.Memory.{node-stored}
-use Rattle.records.specs.declared.record.Node.{Node}
-use Rattle.records.specs.Loaded.{NodeOf, bookNode}
+use Rattle.state.specs.declared.record.Node.{Node}
+use Rattle.state.specs.Loaded.{NodeOf, bookNode}
 use Rattle.delivery_parts.specs.declared.answer.Step.the-variants.{Copied, SentOn, Attached, Notified}
 use Rattle.delivery_parts.specs.declared.room.SuffixEntry.{SuffixEntry}
 use Rattle.delivery_parts.specs.Answers.{outcome, tookDelivery}

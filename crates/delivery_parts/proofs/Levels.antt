@@ -11,14 +11,14 @@ use borrow.Author.Tests.{lt-ltb, le-ltb, ltb-false, not-true, not-false}
 use Rattle.model.specs.Ids.{digitOf}
 use Rattle.model.specs.Memory.{digits, depth, idOf, tableOf}
 use Rattle.model.specs.Tables.{slotPlace, entrySize, firstOf}
-use Rattle.model.specs.Sound.{suffixOf}
+use Rattle.model.specs.Nodes.{suffixOf}
 use Rattle.model.specs.Join.{hasRoom, roomAtSuffix, belowOrRoom, roomFrom, attachLevel}
 use Rattle.model.proofs.Bools.{or-intro-left, or-intro-right, or-right}
 use Rattle.model.proofs.Ids.{digit-lt}
 use Rattle.model.proofs.Loops.{all-of, all-at, all-false, first-unique}
 use Rattle.model.proofs.Tables.{size-filled}
 use Rattle.model.proofs.Delivering.{suffix-below}
-use Rattle.records.specs.Loaded.{Placed}
+use Rattle.state.specs.Loaded.{Placed}
 use Rattle.learning.specs.declared.owner.Owner.{Owner}
 use Rattle.tables.specs.Places.{Entry}
 use Rattle.learning.specs.Learners.{OwnerOf}

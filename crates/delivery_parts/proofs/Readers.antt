@@ -10,7 +10,7 @@ use lib.ListN.{length, getD}
 use Rattle.model.specs.Ids.{commonSuffix}
 use Rattle.model.specs.Memory.{digits, depth, nodeCount, Node, idOf, withNode, tableOf}
 use Rattle.model.specs.Tables.{slotPlace, entrySize, append}
-use Rattle.model.specs.Sound.{suffixOf}
+use Rattle.model.specs.Nodes.{suffixOf}
 use Rattle.model.specs.Learning.{learnAt, learn, learnPlace, learnTable}
 use Rattle.model.proofs.Loops.{each-keeps}
 use Rattle.model.proofs.Tables.{append-length, append-here, append-away}
@@ -20,7 +20,7 @@ use Rattle.model.proofs.Sound.{standing, Sound, id-fits}
 use Rattle.model.proofs.Delivering.{own, suffix-below}
 use Rattle.model.proofs.Replaced.{Agree, agree-node, agree-id, agree-count}
 use Rattle.model.proofs.Memory.{node-length}
-use Rattle.records.specs.Loaded.{Placed}
+use Rattle.state.specs.Loaded.{Placed}
 use Rattle.learning.specs.declared.owner.Owner.{Owner}
 use Rattle.learning.specs.Learners.{Readable, OwnerOf, ReadableTable, Learns, LearnsTable}
 use Rattle.delivery_parts.specs.Delivers.{Delivers, Network, NodesIn, Meets, attaching}

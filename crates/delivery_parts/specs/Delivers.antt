@@ -7,9 +7,9 @@ use mathlib.Core.List.{List}
 use lib.Dec.{ltb}
 use lib.ListN.{length, getD}
 use Rattle.model.specs.Ids.{digitOf}
-use Rattle.model.specs.Memory.{depth, nodeCount, Node, idOf, notifying, tableOf, withTable}
+use Rattle.model.specs.Memory.{depth, nodeCount, Node, idOf, notifying, tableOf, withTable, stateLength, tablesLength}
 use Rattle.model.specs.Tables.{entrySize}
-use Rattle.model.specs.Sound.{suffixOf}
+use Rattle.model.specs.Nodes.{suffixOf}
 use Rattle.model.specs.Learning.{learn, learnTable}
 use Rattle.model.specs.Join.{roomAtSuffix, firstAtSuffix}
 use Rattle.model.proofs.Status.{IsNode}
@@ -25,7 +25,7 @@ pub record Delivers (s t : List ℕ) (x y : ℕ) : Type 0 where
 
 -- a state whose nodes can be read and have different ids
 pub record Network (s : List ℕ) : Type 0 where
-  pub long : 520 ≤ length s
+  pub long : stateLength ≤ length s
   pub few : nodeCount s ≤ 64
   pub deep : depth s ≤ 4
   pub ids : (u : ℕ) → IsNode s u → idOf s u < 2 ^ 32
@@ -39,7 +39,7 @@ pub record NodesIn (s T : List ℕ) : Type 0 where
 -- x and y can learn from each other, also while the step goes on and the state is not yet sound again
 pub record Meets (s t : List ℕ) (x y : ℕ) : Type 0 where
   pub network : Network s
-  pub tables : 32768 ≤ length t
+  pub tables : tablesLength ≤ length t
   pub sender : IsNode s x
   pub receiver : IsNode s y
   pub other : y ≢ x
@@ -49,7 +49,7 @@ pub record Meets (s t : List ℕ) (x y : ℕ) : Type 0 where
 -- x can gather from z's table
 pub record Gathers (s t : List ℕ) (x z : ℕ) : Type 0 where
   pub network : Network s
-  pub tables : 32768 ≤ length t
+  pub tables : tablesLength ≤ length t
   pub sender : IsNode s x
   pub owner : IsNode s z
   pub nodes : NodesIn s (tableOf t z)

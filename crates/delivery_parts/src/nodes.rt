@@ -3,11 +3,11 @@ ghost use mathlib.Core.Path.{_≡_};
 ghost use lib.Dec.{eqb};
 ghost use Rattle.model.specs.Memory.{idOf, withNode};
 ghost use Rattle.model.specs.Join.{joiningNode, notifyingNode};
-ghost use Rattle.records.specs.Loaded.{Placed, bookNode};
-use records::record;
-use records::record::Node;
-use records::sets;
-use records::status::Status;
+ghost use Rattle.state.specs.Loaded.{Placed, bookNode};
+use state::record;
+use state::record::Node;
+use state::sets;
+use state::status::Status;
 
 // A node that copies or waits, by its status and target.
 pub fn joining_node(id: u64, status: u64, target: usize) -> Node

@@ -2,7 +2,7 @@
 ghost use mathlib.Core.Path.{_≡_};
 ghost use mathlib.Core.Bool.{true};
 ghost use Rattle.model.specs.Memory.{tableOf};
-ghost use Rattle.model.specs.Sound.{suffixOf};
+ghost use Rattle.model.specs.Nodes.{suffixOf};
 ghost use Rattle.model.specs.Join.{roomAtSuffix, attachLevel};
 ghost use Rattle.delivery_parts.specs.Delivers.{Delivers, Level, roomAt, EntryOf};
 use ident::digit;

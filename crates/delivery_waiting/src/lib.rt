@@ -2,7 +2,7 @@
 ghost use mathlib.Core.Path.{_≡_};
 ghost use mathlib.Core.Bool.{true};
 ghost use Rattle.model.specs.Memory.{idOf, withNode, addNode, tableOf};
-ghost use Rattle.model.specs.Sound.{suffixOf};
+ghost use Rattle.model.specs.Nodes.{suffixOf};
 ghost use Rattle.model.specs.Join.{gather, roomAtSuffix, firstAtSuffix, attachLevel, deliverSentOn, deliverAttached, deliverWaiting};
 ghost use Rattle.delivery_parts.specs.Answers.{outcome, tookDelivery};
 ghost use Rattle.delivery_parts.specs.Delivers.{Delivers, Meets, exchanged, attaching};
@@ -16,10 +16,10 @@ use delivery_parts::nodes::joining_node;
 use delivery_parts::nodes::store_notifying;
 use delivery_parts::room::attach_level;
 use delivery_parts::room::suffix_entry;
-use records::record;
-use records::record::Node;
-use records::sets;
-use records::status::Status;
+use state::record;
+use state::record::Node;
+use state::sets;
+use state::status::Status;
 use tables::part;
 
 fn send_on(state: &mut [u64], tables: &mut [u8], x: usize, y: usize, first: usize) -> Answer

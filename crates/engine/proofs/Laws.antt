@@ -3,7 +3,7 @@ use Prim.Native.Nat.{ℕ, _+_, _≤_}
 use mathlib.Core.Path.{_≡_, sym, ap, ap₂, _∙_}
 use mathlib.Core.List.{List, [], _∷_}
 use lib.ListN.{length}
-use Rattle.model.specs.Memory.{Memory, digits, nodeCount}
+use Rattle.model.specs.Memory.{Memory, digits, nodeCount, stateLength, tablesLength}
 use Rattle.model.specs.Join.{founded, begun}
 use Rattle.model.specs.Lookup as book
 use Rattle.model.specs.Refusals.{foundRefusal, beginRefusal, lookupRefusal}
@@ -16,7 +16,7 @@ use Rattle.join.specs.Begins.{Begins}
 use Rattle.engine.specs.Outcomes.{leaves}
 
 -- what founding asks
-pub founds : (s t : List ℕ) (b d K id r : ℕ) → r ≡ foundRefusal s t b d K id → r ≡ 0 → (520 ≤ length s) × ((32768 ≤ length t) × (d ≤ 8))
+pub founds : (s t : List ℕ) (b d K id r : ℕ) → r ≡ foundRefusal s t b d K id → r ≡ 0 → (stateLength ≤ length s) × ((tablesLength ≤ length t) × (d ≤ 8))
 founds s t b d K id r e z =
     let k = found-taken s t b d K id (sym e ∙ z) in
     (k .long .state, (k .long .tables, k .range .digits-most))

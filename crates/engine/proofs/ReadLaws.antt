@@ -9,8 +9,8 @@ use Rattle.model.specs.Calls.{refused, taken, readCall}
 use Rattle.model.proofs.Calls.{taken-is, refused-is}
 use Rattle.model.proofs.Refusals.{passed}
 use Rattle.model.proofs.Taken.{read-taken}
-use Rattle.judging.proofs.Sentences.{counted-taken}
-use Rattle.loading.specs.Loads.{Loads}
+use Rattle.image_judging.proofs.Sentences.{counted-taken}
+use Rattle.image_loading.specs.Loads.{Loads}
 use Rattle.engine.specs.Outcomes.{leaves}
 
 image-taken : (s t im : List ℕ) → readRefusal s t im ≡ 0 → imageRefusal im ≡ 0

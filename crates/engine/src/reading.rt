@@ -13,6 +13,6 @@ pub fn read(state: &mut [u64], tables: &mut [u8], image: &[u8]) -> u64
     if r != 0 {
         return r;
     }
-    loading::load(state, tables, image);
+    image_loading::load(state, tables, image);
     0
 }

@@ -21,7 +21,7 @@ pub fn write(state: &[u64], tables: &[u8], out: &mut [u8]) -> Written
             length: 0,
         };
     }
-    let length = image::write(state, tables, out);
+    let length = image_writing::write(state, tables, out);
     Written {
         refusal: 0,
         length: length as u64,

@@ -3,12 +3,12 @@ use Prim.Native.Nat.{ℕ, _+_}
 use mathlib.Core.Path.{_≡_, ap, ap₂, _∙_}
 use mathlib.Core.List.{List}
 use lib.ListN.{set}
-use Rattle.model.specs.Memory.{digits, nodeCount, copying, zeroed, withNode, withTable}
+use Rattle.model.specs.Memory.{digits, nodeCount, copying, zeroed, withNode, withTable, stateLength, tablesLength}
 use Rattle.model.specs.Tables.{ownTable}
 use Rattle.model.specs.Join.{withSettings, inSystemNode, joiningNode, founded, begun}
-use Rattle.records.specs.Lent.{memory}
+use Rattle.state.specs.Lent.{memory}
 
-pub founded-is : (s t s₁ t₁ s₂ s₃ t₂ : List ℕ) (b d K id : ℕ) → s₁ ≡ zeroed 520 s → t₁ ≡ zeroed 32768 t → s₂ ≡ withSettings s₁ b d K 1
+pub founded-is : (s t s₁ t₁ s₂ s₃ t₂ : List ℕ) (b d K id : ℕ) → s₁ ≡ zeroed stateLength s → t₁ ≡ zeroed tablesLength t → s₂ ≡ withSettings s₁ b d K 1
     → s₃ ≡ withNode s₂ 1 (inSystemNode id) → t₂ ≡ withTable t₁ 1 (ownTable d id 1) → memory s₃ t₂ ≡ founded s t b d K id
 unfolding founded
 founded-is s t s₁ t₁ s₂ s₃ t₂ b d K id e₁ f₁ e₂ e₃ f₂ =

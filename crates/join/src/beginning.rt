@@ -3,13 +3,13 @@ ghost use mathlib.Core.Path.{_≡_};
 ghost use Prim.Native.Nat.{_+_};
 ghost use Rattle.model.specs.Memory.{nodeCount};
 ghost use Rattle.model.specs.Join.{begun};
-ghost use Rattle.records.specs.Lent.{memory};
+ghost use Rattle.state.specs.Lent.{memory};
 ghost use Rattle.join.specs.Begins.{Begins};
-use records::record;
-use records::record::Node;
-use records::sets;
-use records::settings;
-use records::status::Status;
+use state::record;
+use state::record::Node;
+use state::sets;
+use state::settings;
+use state::status::Status;
 use tables::own;
 
 // Answers the new node's number.

@@ -3,13 +3,14 @@ ghost use mathlib.Core.Path.{_≡_};
 ghost use Prim.Native.Nat.{_≤_};
 ghost use lib.ListN.{length};
 ghost use Rattle.model.specs.Join.{founded};
-ghost use Rattle.records.specs.Lent.{memory};
-use records::record;
-use records::record::Node;
-use records::sets;
-use records::settings;
-use records::settings::Settings;
-use records::status::Status;
+ghost use Rattle.model.specs.Memory.{stateLength, tablesLength};
+ghost use Rattle.state.specs.Lent.{memory};
+use state::record;
+use state::record::Node;
+use state::sets;
+use state::settings;
+use state::settings::Settings;
+use state::status::Status;
 use tables::own;
 
 pub fn found(
@@ -20,12 +21,12 @@ pub fn found(
     depth: usize,
     id: u32,
 )
-    requires { ⌜ 520 ≤ length (now state) ⌝ }
-    requires { ⌜ 32768 ≤ length (now tables) ⌝ }
+    requires { ⌜ stateLength ≤ length (now state) ⌝ }
+    requires { ⌜ tablesLength ≤ length (now tables) ⌝ }
     requires { ⌜ digits ≤ 8 ⌝ }
     ensures { λ r. ⌜ memory (now (state .exit)) (now (tables .exit)) ≡ founded (now (state .entry)) (now (tables .entry)) base digits depth id ⌝ }
 {
-    records::clear::clear(state);
+    state::clear::clear(state);
     tables::clear::clear(tables);
     settings::store(
         state,

@@ -5,14 +5,14 @@ use mathlib.Core.Path.{_≡_}
 use mathlib.Core.Logic.{_≢_}
 use mathlib.Core.List.{List}
 use lib.ListN.{length, getD}
-use Rattle.model.specs.Memory.{digits, depth, idOf}
-use Rattle.model.specs.Sound.{suffixOf}
+use Rattle.model.specs.Memory.{digits, depth, idOf, stateLength}
+use Rattle.model.specs.Nodes.{suffixOf}
 use Rattle.model.specs.Learning.{floorOf}
 use Rattle.learning.specs.declared.owner.Owner.{Owner}
 
 -- x's record stands in s, and its id has 32 bits
 pub record Readable (s : List ℕ) (x : ℕ) : Type 0 where
-  pub long : 520 ≤ length s
+  pub long : stateLength ≤ length s
   pub first : 1 ≤ x
   pub last : x ≤ 64
   pub short : idOf s x < 2 ^ 32

@@ -4,7 +4,7 @@ ghost use Prim.Native.Nat.{_<_};
 ghost use Rattle.model.specs.Join as join;
 ghost use Rattle.learning.specs.Learners.{OwnerOf, ReadableTable};
 use crate::owner::Owner;
-use records::sets;
+use state::sets;
 
 // The set with the node at place p, if it is one of them.
 fn gather_place(

@@ -7,8 +7,8 @@ ghost use Rattle.model.specs.Learning.{floorOf};
 ghost use Rattle.learning.specs.Learners.{Readable, LearnsAt, Learns, LearnsTable};
 use crate::owner::Owner;
 use ident::digit;
-use records::record;
-use records::status::Status;
+use state::record;
+use state::status::Status;
 use tables::entry;
 
 // "The floor of a settled member is 0, of a notifying one its attach level."

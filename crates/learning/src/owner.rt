@@ -1,10 +1,10 @@
 // The node whose table it is, and what it compares other nodes by, loaded once.
 ghost use mathlib.Core.Path.{_≡_};
-ghost use Rattle.model.specs.Sound.{suffixOf};
+ghost use Rattle.model.specs.Nodes.{suffixOf};
 ghost use Rattle.learning.specs.Learners.{Readable, OwnerOf};
 use ident::common_suffix;
-use records::record;
-use records::settings;
+use state::record;
+use state::settings;
 
 pub struct Owner {
     pub number: usize,

@@ -7,11 +7,11 @@ use mathlib.Core.List.{List, [], _∷_}
 use lib.ListN.{length, getD}
 use native.Mathlib.Omega.{arith}
 use borrow.Author.Tests.{eqb-true, eq-eqb, not-true}
-use Rattle.model.specs.Loops.{anyBelow, firstBelow, node}
+use Rattle.model.specs.Loops.{firstBelow, node}
 use Rattle.model.specs.Ids.{digitOf}
 use Rattle.model.specs.Memory.{base, digits, depth, nodeCount, idOf, tableOf}
 use Rattle.model.specs.Tables.{slotPlace, entrySize}
-use Rattle.model.specs.Sound.{suffixOf, qualifies}
+use Rattle.model.specs.Nodes.{suffixOf, qualifies, anyNode}
 use Rattle.model.specs.Lookup.{nextHop, lookup}
 use Rattle.model.specs.Consistency.{howMany, neighbors, HasSuffix, EntryConsistent, KConsistent, entryWhole, levelWhole, nodeWhole, consistent, nodeShort, levelShort, entryShort, firstShort, verdict}
 use Rattle.model.proofs.Bools.{true-or-false, not-both}
@@ -66,9 +66,9 @@ module _ (s t : List ℕ) where
   module _ (x i j : ℕ) where
     -- V_{j·x[i−1]…x[0]} has a node, or none
     some-or-none : ((y : ℕ) × HasSuffix s x i j y) ⊎ ((y : ℕ) → HasSuffix s x i j y → ⊥)
-    some-or-none = go (true-or-false (anyBelow (nodeCount s) (node (qualifies s x i j))))
+    some-or-none = go (true-or-false (anyNode s (qualifies s x i j)))
       where
-        go : (anyBelow (nodeCount s) (node (qualifies s x i j)) ≡ true) ⊎ (anyBelow (nodeCount s) (node (qualifies s x i j)) ≡ false)
+        go : (anyNode s (qualifies s x i j) ≡ true) ⊎ (anyNode s (qualifies s x i j) ≡ false)
             → ((y : ℕ) × HasSuffix s x i j y) ⊎ ((y : ℕ) → HasSuffix s x i j y → ⊥)
         go (inl e) =
             let f = any-found (nodeCount s) (node (qualifies s x i j)) e in

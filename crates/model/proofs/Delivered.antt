@@ -5,7 +5,7 @@ use mathlib.Core.Bool.{Bool, true, false, cond}
 use mathlib.Core.List.{List}
 use lib.Dec.{eqb}
 use Rattle.model.specs.Memory.{idOf, statusOf, copying, waiting, notifying, isInSystem, isAttached, withNode, tableOf, withTable}
-use Rattle.model.specs.Sound.{suffixOf}
+use Rattle.model.specs.Nodes.{suffixOf}
 use Rattle.model.specs.Join.{Delivery, joiningNode, roomAtSuffix, firstAtSuffix, outstanding, deliverCopying, deliverSentOn, deliverAttached, deliverWaiting, deliverNotifying, delivery, delivered}
 use Rattle.model.specs.Learning.{learnTable}
 use Rattle.model.specs.Refusals.{waitHeld}

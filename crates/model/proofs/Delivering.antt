@@ -12,7 +12,7 @@ use borrow.Author.Tests.{eqb-true, ltb-false}
 use Rattle.model.specs.Ids.{validId, digitOf, commonSuffix}
 use Rattle.model.specs.Memory.{base, digits, depth, Node, idOf, withNode, copying, waiting, isInSystem, isAttached, tableOf, withTable}
 use Rattle.model.specs.Tables.{qualified, slotPlace, entrySize}
-use Rattle.model.specs.Sound.{suffixOf}
+use Rattle.model.specs.Nodes.{suffixOf}
 use Rattle.model.specs.Learning.{learnTable}
 use Rattle.model.specs.Join.{joiningNode, roomAtSuffix, firstAtSuffix}
 use Rattle.model.proofs.Bools.{or-cases, or-intro-right, not-both}

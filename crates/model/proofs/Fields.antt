@@ -8,7 +8,7 @@ use lib.Dec.{eqb}
 use lib.ListN.{replicate}
 use Rattle.model.specs.Loops.{firstBelow, node}
 use Rattle.model.specs.Memory.{base, digits, nodeCount, statusOf, inSystem, copying, waiting, tableOf}
-use Rattle.model.specs.Sound.{suffixOf}
+use Rattle.model.specs.Nodes.{suffixOf}
 use Rattle.model.specs.Join.{Delivery, roomAtSuffix, attachLevel, deliverCopying, deliverSentOn, deliverAttached, deliverWaiting, deliverNotifying, delivery}
 use Rattle.model.specs.Lookup.{lookup}
 use Rattle.model.specs.Consistency.{consistent, nodeShort, levelShort, entryShort, firstShort, verdict}

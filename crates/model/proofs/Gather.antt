@@ -8,7 +8,7 @@ use native.Mathlib.Omega.{arith}
 use lib.ListN.{getD}
 use borrow.Author.Tests.{eqb-false, leb-true, not-true}
 use Rattle.model.specs.Memory.{hasNode, addNode}
-use Rattle.model.specs.Sound.{suffixOf}
+use Rattle.model.specs.Nodes.{suffixOf}
 use Rattle.model.specs.Join.{toNotify, gatherPlace, gather}
 use Rattle.model.proofs.Bools.{and-left, and-right, true-or-false}
 use Rattle.model.proofs.Loops.{each-keeps}

@@ -12,7 +12,8 @@ use lib.Pow.{pow-mono}
 use Rattle.model.specs.Ids.{commonSuffix, digitOf}
 use Rattle.model.specs.Memory.{base, digits, depth, nodeCount, idOf, statusOf, levelOf, targetOf, pendingOf, notifiedOf, hasNode, isAttached, isInSystem}
 use Rattle.model.specs.Tables.{qualified, slotAt, firstOf}
-use Rattle.model.specs.Sound.{mayStand, suffixOf, placeUsed}
+use Rattle.model.specs.Nodes.{suffixOf}
+use Rattle.model.specs.Sound.{mayStand, placeUsed}
 use Rattle.model.proofs.Bools.{or-cases, or-intro-left, or-intro-right}
 use Rattle.model.proofs.Sets.{has-within}
 use Rattle.model.proofs.Status.{IsNode, JoiningOk, PendingOk, NotifiedOk, NotifyingOk, StatusOk, is-in-system, is-copying, is-waiting, is-notifying}

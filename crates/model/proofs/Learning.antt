@@ -10,7 +10,7 @@ use borrow.Author.Tests.{leb-true, ltb-true, eqb-false, not-true}
 use Rattle.model.specs.Ids.{digitOf}
 use Rattle.model.specs.Memory.{depth, idOf}
 use Rattle.model.specs.Tables.{entrySize, holds, append}
-use Rattle.model.specs.Sound.{suffixOf}
+use Rattle.model.specs.Nodes.{suffixOf}
 use Rattle.model.specs.Learning.{floorOf, roomFor, learnAt, learn, learnPlace, learnTable}
 use Rattle.model.proofs.Bools.{and-left, and-right, true-or-false}
 use Rattle.model.proofs.Loops.{each-keeps}

@@ -11,7 +11,7 @@ use lib.ListN.{length}
 use borrow.Author.Tests.{eqb-true, eqb-false, eq-eqb, ne-eqb}
 use Rattle.model.specs.Ids.{digitOf}
 use Rattle.model.specs.Memory.{base, digits, idOf, tableOf}
-use Rattle.model.specs.Sound.{suffixOf}
+use Rattle.model.specs.Nodes.{suffixOf}
 use Rattle.model.specs.Lookup.{arrivedAt, lostAt, oneHopMore, nextHop, lookupWithin, lookup, veryHopsWithin, veryHops}
 use Rattle.model.proofs.Bools.{true-or-false}
 use Rattle.model.proofs.Ids.{next-hop, valid-digit}

@@ -12,7 +12,7 @@ use lib.ListN.{length, getD}
 use lib.Pow.{pow-pos}
 use borrow.Author.Tests.{eqb-true, eqb-false, lt-ltb}
 use Rattle.model.specs.Memory.{base, digits, depth, nodeCount, Node, idOf, statusOf, levelOf, pendingOf, notifiedOf, withNode, inSystem, notifying, isInSystem, isAttached, hasNode, addNode, removeNode, tableOf, withTable}
-use Rattle.model.specs.Sound.{suffixOf}
+use Rattle.model.specs.Nodes.{suffixOf}
 use Rattle.model.specs.Learning.{learn, learnTable}
 use Rattle.model.specs.Join.{inSystemNode, notifyingNode, settle, hasRoom, roomAtSuffix, belowOrRoom, roomFrom, attachLevel, gather}
 use Rattle.model.proofs.Bools.{back-false, or-cases, or-intro-left, or-intro-right, not-both, true-or-false}

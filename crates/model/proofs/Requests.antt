@@ -9,7 +9,7 @@ use native.Mathlib.Omega.{arith}
 use lib.Dec.{eqb}
 use lib.ListN.{length}
 use Rattle.model.specs.Memory.{digits, Node, idOf, statusOf, targetOf, inSystem, copying, waiting, notifying, isAttached, isInSystem, withNode, tableOf}
-use Rattle.model.specs.Sound.{suffixOf}
+use Rattle.model.specs.Nodes.{suffixOf}
 use Rattle.model.specs.Join.{Delivery, inSystemNode, joiningNode, notifyingNode, settle, roomAtSuffix, firstAtSuffix, deliverCopying, deliverSentOn, deliverAttached, deliverWaiting, deliverNotifying, delivery}
 use Rattle.model.specs.Run.{keepsAsking}
 use Rattle.model.proofs.Bools.{not-both}

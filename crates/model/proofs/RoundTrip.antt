@@ -11,7 +11,7 @@ use lib.Dec.{ltb}
 use lib.ListN.{length, getD, take, drop, length-append}
 use lib.Seq.{ext-getD}
 use borrow.Author.Tests.{eq-eqb, le-ltb}
-use Rattle.model.specs.Loops.{allBelow, joinBelow, node}
+use Rattle.model.specs.Loops.{joinBelow}
 use Rattle.model.specs.Memory.{Memory, stateLength, tablesLength, nodeCount, isInSystem}
 use Rattle.model.specs.Image.{fourBytes, allRecords, imageOf, byteAt, imNodes, imId, imRecords, recordByte, loaded}
 use Rattle.model.specs.Refusals.{refuse, readRefusal, writeRefusal}
@@ -29,6 +29,7 @@ use Rattle.model.proofs.Frame.{Framed, read-free, read-framed}
 use Rattle.model.proofs.Written.{written-readable}
 use Rattle.model.proofs.Reloaded.{reloaded}
 use Rattle.model.proofs.Reread.{recordBytes, records-back}
+use Rattle.model.specs.Nodes.{allNodes}
 
 -- ---- written, then read
 
@@ -213,7 +214,7 @@ module _ (s t im : List ℕ) (byte : (a : ℕ) → byteAt im a < 256) (e : readR
   pub read-can-write : (out : List ℕ) → length im ≤ length out → writeRefusal (loaded s t im .state) (loaded s t im .tables) out ≡ 0
   unfolding s₂ t₂ writeRefusal refuse
   read-can-write out room =
-      let settled : allBelow (nodeCount s₂) (node (isInSystem s₂)) ≡ true =
+      let settled : allNodes s₂ (isInSystem s₂) ≡ true =
       nodes-of (nodeCount s₂) (isInSystem s₂) (λ x l h. read-in-system x (record { low = l; high = h })) in
       let fits : ltb (length out) (length (imageOf s₂ t₂)) ≡ false = le-ltb (length out) (length (imageOf s₂ t₂)) (omega (arith, same-length)) in
       state-free s₂ t₂ _ S ∙ rw (settled, fits)

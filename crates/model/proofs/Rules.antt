@@ -11,7 +11,8 @@ use lib.ListN.{length, getD}
 use Rattle.model.specs.Ids.{validId, digitOf}
 use Rattle.model.specs.Memory.{base, digits, depth, nodeCount, idOf}
 use Rattle.model.specs.Tables.{slotPlace, slotAt, entrySize, holds, append}
-use Rattle.model.specs.Sound.{suffixOf, mayStand, qualifies, placeUsed}
+use Rattle.model.specs.Nodes.{suffixOf, qualifies}
+use Rattle.model.specs.Sound.{mayStand, placeUsed}
 use Rattle.model.specs.Learning.{learnAt, learn, learnPlace, learnTable}
 use Rattle.model.proofs.Bools.{not-both}
 use Rattle.model.proofs.Loops.{each-keeps}

@@ -14,10 +14,11 @@ use Rattle.model.proofs.Sound.{Sound, id-fits}
 use Rattle.model.proofs.Counting.{join-at}
 use Rattle.model.proofs.Records.{filledAt, fieldsAt, records-flat, records-length, record-at}
 use Rattle.model.proofs.Size.{records-few}
+use Rattle.model.specs.Nodes.{joinNodes}
 
 -- the ids, and all that stands before the records
 abbrev ids : List ℕ → List ℕ
-ids s = joinBelow (nodeCount s) (node (idBytes s))
+ids s = joinNodes s (idBytes s)
 
 abbrev front : List ℕ → List ℕ
 front s = 4 ∷ 1 ∷ base s ∷ digits s ∷ depth s ∷ nodeCount s ∷ ids s

@@ -14,7 +14,8 @@ use Rattle.model.specs.Loops.{allBelow, node}
 use Rattle.model.specs.Ids.{settingsInRange, validId, digitOf}
 use Rattle.model.specs.Memory.{stateLength, tablesLength, base, digits, depth, nodeCount, idOf, tableStart, tableOf}
 use Rattle.model.specs.Tables.{slotPlace, slotAt, firstOf}
-use Rattle.model.specs.Sound.{qualifies, hasValidId, idDiffers, hasNewId, mayStand, slotDiffers, noGapBefore, slotSound, entrySound, levelSound, ownerFirst, statusSound}
+use Rattle.model.specs.Nodes.{qualifies}
+use Rattle.model.specs.Sound.{hasValidId, idDiffers, hasNewId, mayStand, slotDiffers, noGapBefore, slotSound, entrySound, levelSound, ownerFirst, statusSound}
 use Rattle.model.specs.Sound.{allZero, spareZero, placeUsed, placeSound, stateRestZero, tablesRestZero, unusedZero, tableSound, hasSoundTable, sound}
 use Rattle.model.proofs.Bools.{and-left, and-right, and-intro, or-right, or-intro-left, or-intro-right, true-or-false}
 use Rattle.model.proofs.Loops.{all-at, all-of}

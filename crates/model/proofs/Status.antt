@@ -6,9 +6,9 @@ use mathlib.Core.Bool.{Bool, true, false, not, _&&_, _||_}
 use mathlib.Core.List.{List}
 use lib.Dec.{eqb}
 use borrow.Author.Tests.{eqb-true, eqb-false, eq-eqb, ne-eqb, leb-true, le-leb, ltb-true, lt-ltb, not-true}
-use Rattle.model.specs.Loops.{allBelow, node}
 use Rattle.model.specs.Memory.{digits, nodeCount, statusOf, levelOf, targetOf, pendingOf, notifiedOf, inSystem, copying, waiting, notifying, hasNode, isAttached, isInSystem}
-use Rattle.model.specs.Sound.{isNode, suffixOf, inSystemSound, joiningSound, copyingSound, waitingSound, pendingSound, notifiedSound, notifyingSound, statusSound}
+use Rattle.model.specs.Nodes.{isNode, suffixOf, allNodes}
+use Rattle.model.specs.Sound.{inSystemSound, joiningSound, copyingSound, waitingSound, pendingSound, notifiedSound, notifyingSound, statusSound}
 use Rattle.model.proofs.Bools.{and-left, and-right, and-intro, or-cases, or-right, or-intro-left, or-intro-right}
 use Rattle.model.proofs.Nodes.{nodes-at, nodes-of}
 
@@ -181,10 +181,10 @@ module _ (s : List ℕ) (x : ℕ) where
   notifying-of : NotifyingOk s x → notifyingSound s x ≡ true
   unfolding notifyingSound
   notifying-of r =
-      let p : allBelow (nodeCount s) (node (pendingSound s x)) ≡ true =
+      let p : allNodes s (pendingSound s x) ≡ true =
       nodes-of (nodeCount s) (pendingSound s x)
       (λ u l h. pending-of u (r .pending u (record { low = l; high = h }))) in
-      let q : allBelow (nodeCount s) (node (notifiedSound s x)) ≡ true =
+      let q : allNodes s (notifiedSound s x) ≡ true =
       nodes-of (nodeCount s) (notifiedSound s x)
       (λ u l h. notified-of u (r .notified u (record { low = l; high = h }))) in
       search (and-intro, eq-eqb, lt-ltb) depth 9

@@ -15,7 +15,7 @@ use Rattle.model.specs.Loops.{eachBelow}
 use Rattle.model.specs.Ids.{digitOf}
 use Rattle.model.specs.Memory.{depth, idOf, hasNode, addNode}
 use Rattle.model.specs.Tables.{slotAt, slotIs, entrySize, holds, append, ownSlot}
-use Rattle.model.specs.Sound.{suffixOf}
+use Rattle.model.specs.Nodes.{suffixOf}
 use Rattle.model.specs.Learning.{floorOf, roomFor, learnAt, learn, learnPlace}
 use Rattle.model.specs.Join.{gatherPlace}
 use Rattle.model.proofs.Loops.{any-zero, any-goes, any-leaves, any-ends, each-from, each-step, each-ends}

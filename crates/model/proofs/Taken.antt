@@ -10,7 +10,8 @@ use lib.ListN.{length}
 use borrow.Author.Tests.{eqb-false, ltb-false, le-ltb, leb-true, not-false, not-true}
 use Rattle.model.specs.Ids.{validId}
 use Rattle.model.specs.Memory.{stateLength, tablesLength, nodeCount, idOf, isInSystem}
-use Rattle.model.specs.Sound.{isNode, sound}
+use Rattle.model.specs.Nodes.{isNode}
+use Rattle.model.specs.Sound.{sound}
 use Rattle.model.specs.Image.{imNodes, imBase, imDigits, imDepth, imRecords, imId, imIdValid, imIdDiffers, imIdNew, imIsNode, recNode, recNeighbor, recNodesGood, recOrdered, recAllowed, recOwnerFirst, ownHaveRecords, recordsGood, imageOf}
 use Rattle.model.specs.Refusals.{refuse, memoryShort, hasId, areNodes, someNotInSystem, foundRefusal, imageRefusal, readRefusal, stateRefusal, beginSentences, beginRefusal, deliverRefusal, lookupRefusal, verdictRefusal, writeRefusal}
 use Rattle.model.proofs.Bools.{and-left, and-right, or-none-left, or-none-right}

@@ -8,7 +8,7 @@ use mathlib.Core.List.{List, _∷_}
 use Rattle.model.specs.Ids.{digitOf}
 use Rattle.model.specs.Memory.{digits, idOf, tableOf}
 use Rattle.model.specs.Tables.{slotPlace, firstOf}
-use Rattle.model.specs.Sound.{suffixOf}
+use Rattle.model.specs.Nodes.{suffixOf}
 use Rattle.model.specs.Lookup.{oneHopMore, nextHop, lookup, veryHops}
 use Rattle.model.specs.Consistency.{consistent}
 use Rattle.model.proofs.Status.{IsNode}

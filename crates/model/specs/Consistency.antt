@@ -5,14 +5,14 @@ use mathlib.Core.Bool.{Bool, true, cond, not}
 use mathlib.Core.List.{List, []}
 use lib.Dec.{eqb}
 use lib.ListN.{length, getD}
-use Rattle.model.specs.Loops.{allBelow, countBelow, firstBelow, node}
+use Rattle.model.specs.Loops.{allBelow, firstBelow, node}
 use Rattle.model.specs.Memory.{base, digits, depth, nodeCount, tableOf}
 use Rattle.model.specs.Tables.{entrySize, entry}
-use Rattle.model.specs.Sound.{isNode, qualifies}
+use Rattle.model.specs.Nodes.{isNode, qualifies, allNodes, countNodes}
 
 -- "H being how many members qualify, the owner included"
 unfoldable pub howMany : List ℕ → ℕ → ℕ → ℕ → ℕ
-howMany s x i j = countBelow (nodeCount s) (node (qualifies s x i j))
+howMany s x i j = countNodes s (qualifies s x i j)
 
 -- entry (i, j) of x "holds min(K, H) members"
 unfoldable pub entryWhole : List ℕ → List ℕ → ℕ → ℕ → ℕ → Bool
@@ -26,7 +26,7 @@ nodeWhole s t x = allBelow (digits s) (levelWhole s t x)
 
 -- "The verdict is yes exactly when each entry of each member holds min(K, H) members"
 unfoldable pub consistent : List ℕ → List ℕ → Bool
-consistent s t = allBelow (nodeCount s) (node (nodeWhole s t))
+consistent s t = allNodes s (nodeWhole s t)
 
 -- ---- the same as TR-07-31 states it, in Definition 3.3; laws turn the test above into it and back (proofs/Consistency)
 

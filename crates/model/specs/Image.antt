@@ -10,6 +10,7 @@ use Rattle.model.specs.Memory.{stateLength, tablesLength, base, digits, 
 use Rattle.model.specs.Tables.{qualified, slotAt, append}
 use Rattle.model.specs.Memory.{Memory}
 use Rattle.model.specs.Join.{withSettings}
+use Rattle.model.specs.Nodes.{joinNodes}
 
 -- ---- writing
 
@@ -29,7 +30,7 @@ idBytes s x = fourBytes (idOf s x)
 
 -- "Members: count byte, then each id in four bytes, low byte first."
 abbrev pub nodesBytes : List ℕ → List ℕ
-nodesBytes s = nodeCount s ∷ joinBelow (nodeCount s) (node (idBytes s))
+nodesBytes s = nodeCount s ∷ joinNodes s (idBytes s)
 
 -- "four bytes each: member, level, digit, neighbour": the record of a filled slot
 unfoldable pub slotRecord : List ℕ → ℕ → ℕ → ℕ → ℕ → List ℕ
@@ -46,7 +47,7 @@ nodeRecords s t x = joinBelow (digits s) (levelRecords s (tableOf t x) x)
 
 -- "Records rise by member, level, digit, and within an entry stand in slot order."
 unfoldable pub allRecords : List ℕ → List ℕ → List ℕ
-allRecords s t = joinBelow (nodeCount s) (node (nodeRecords s t))
+allRecords s t = joinNodes s (nodeRecords s t)
 
 -- "Records: count in two bytes, low first, then four bytes each"
 abbrev pub recordsBytes : List ℕ → List ℕ → List ℕ

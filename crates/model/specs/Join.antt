@@ -10,7 +10,7 @@ use Rattle.model.specs.Memory.{stateLength, tablesLength, digits, depth,
 use Rattle.model.specs.Memory.{pendingOf, notifiedOf, withNode, inSystem, copying, waiting, notifying, isInSystem, isJoining}
 use Rattle.model.specs.Memory.{hasNode, addNode, removeNode, tableOf, withTable}
 use Rattle.model.specs.Tables.{entrySize, firstOf, ownTable}
-use Rattle.model.specs.Sound.{suffixOf}
+use Rattle.model.specs.Nodes.{suffixOf}
 use Rattle.model.specs.Learning.{learn, learnTable}
 
 -- ---- founding and beginning

@@ -8,7 +8,7 @@ use Rattle.model.specs.Loops.{eachBelow}
 use Rattle.model.specs.Ids.{digitOf}
 use Rattle.model.specs.Memory.{depth, idOf, statusOf, levelOf, notifying}
 use Rattle.model.specs.Tables.{entrySize, holds, append}
-use Rattle.model.specs.Sound.{suffixOf}
+use Rattle.model.specs.Nodes.{suffixOf}
 
 -- "The floor of a settled member is 0, of a notifying one its attach level." (In a sound state a copying or waiting one
 -- is never learned.)

@@ -6,6 +6,7 @@ pub mod Loops
 pub mod Ids
 pub mod Memory
 pub mod Tables
+pub mod Nodes
 pub mod Sound
 pub mod Learning
 pub mod Join

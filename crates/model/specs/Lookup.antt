@@ -6,7 +6,7 @@ use lib.Dec.{eqb}
 use Rattle.model.specs.Ids.{digitOf}
 use Rattle.model.specs.Memory.{digits, idOf, tableOf}
 use Rattle.model.specs.Tables.{firstOf}
-use Rattle.model.specs.Sound.{suffixOf}
+use Rattle.model.specs.Nodes.{suffixOf}
 
 -- "It answers arrived or lost, the hops, and the last member": arrived is 1, lost 0
 pub record Lookup : Type 0 where

@@ -4,10 +4,11 @@ use mathlib.Core.Bool.{Bool, cond, not, _&&_, _||_}
 use mathlib.Core.List.{List}
 use lib.ListN.{length}
 use lib.Dec.{ltb, eqb}
-use Rattle.model.specs.Loops.{allBelow, anyBelow, node}
+use Rattle.model.specs.Loops.{allBelow, node}
 use Rattle.model.specs.Ids.{settingsInRange, validId}
 use Rattle.model.specs.Memory.{stateLength, tablesLength, base, digits, nodeCount, idOf, statusOf, waiting, isInSystem}
-use Rattle.model.specs.Sound.{isNode, sound}
+use Rattle.model.specs.Nodes.{isNode, allNodes, anyNode}
+use Rattle.model.specs.Sound.{sound}
 use Rattle.model.specs.Join.{outstanding}
 use Rattle.model.specs.Image.{byteAt, imBase, imDigits, imDepth, imNodes, imRecords, lengthRight, imIdValid, imIdNew, recNodesGood}
 use Rattle.model.specs.Image.{recordsGood, imageOf}
@@ -38,7 +39,7 @@ abbrev pub hasId : List ℕ → ℕ → ℕ → Bool
 hasId s id x = eqb (idOf s x) id
 
 abbrev pub idTaken : List ℕ → ℕ → Bool
-idTaken s id = anyBelow (nodeCount s) (node (hasId s id))
+idTaken s id = anyNode s (hasId s id)
 
 -- 14. "A wait request's receiver isn't settled"
 abbrev pub waitHeld : List ℕ → ℕ → ℕ → Bool
@@ -46,7 +47,7 @@ waitHeld s x y = eqb (statusOf s x) waiting && not (isInSystem s y)
 
 -- 15. "Verdict or writing finds a member not settled."
 abbrev pub someNotInSystem : List ℕ → Bool
-someNotInSystem s = not (allBelow (nodeCount s) (node (isInSystem s)))
+someNotInSystem s = not (allNodes s (isInSystem s))
 
 -- ---- the sentences of each call
 

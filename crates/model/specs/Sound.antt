@@ -4,24 +4,13 @@ use mathlib.Core.Bool.{Bool, true, not, _&&_, _||_}
 use mathlib.Core.List.{List, [], _∷_}
 use lib.ListN.{getD, take, drop}
 use lib.Dec.{leb, ltb, eqb}
-use Rattle.model.specs.Loops.{allBelow, node}
-use Rattle.model.specs.Ids.{settingsInRange, validId, digitOf, commonSuffix}
+use Rattle.model.specs.Loops.{allBelow}
+use Rattle.model.specs.Ids.{settingsInRange, validId, digitOf}
 use Rattle.model.specs.Memory.{stateLength, tablesLength, base, digits, depth, nodeCount, idOf, statusOf, levelOf, targetOf}
 use Rattle.model.specs.Memory.{pendingOf, notifiedOf, inSystem, copying, waiting, notifying, isInSystem, isAttached, hasNode}
 use Rattle.model.specs.Memory.{tableOf}
-use Rattle.model.specs.Tables.{qualified, slotAt, firstOf}
-
--- x is the number of a node
-abbrev pub isNode : List ℕ → ℕ → Bool
-isNode s x = leb 1 x && leb x (nodeCount s)
-
--- the match of two nodes
-abbrev pub suffixOf : List ℕ → ℕ → ℕ → ℕ
-suffixOf s x y = commonSuffix (digits s) (idOf s x) (idOf s y)
-
--- node y is qualified for entry (i, j) of node x
-abbrev pub qualifies : List ℕ → ℕ → ℕ → ℕ → ℕ → Bool
-qualifies s x i j y = qualified (idOf s x) (idOf s y) i j
+use Rattle.model.specs.Tables.{slotAt, firstOf}
+use Rattle.model.specs.Nodes.{isNode, suffixOf, qualifies, allNodes}
 
 -- ---- "there are 1 to 64 members with valid, different ids"
 
@@ -113,7 +102,7 @@ notifyingSound s x =
     && (ltb 0 (pendingOf s x)
     && (onlyNodes s (pendingOf s x)
     && (onlyNodes s (notifiedOf s x)
-    && (allBelow (nodeCount s) (node (pendingSound s x)) && allBelow (nodeCount s) (node (notifiedSound s x)))))))
+    && (allNodes s (pendingSound s x) && allNodes s (notifiedSound s x))))))
 
 -- the rules of x's status; a number above 3 is no status
 unfoldable pub statusSound : List ℕ → ℕ → Bool
@@ -150,7 +139,7 @@ tablesRestZero s t = allZero (take (tablesLength - 512 * nodeCount s) (drop (512
 
 -- the two spare words of each record, words 4 to 7, the records and the tables of no node
 unfoldable pub unusedZero : List ℕ → List ℕ → Bool
-unusedZero s t = allBelow (nodeCount s) (node (spareZero s)) && (stateRestZero s && tablesRestZero s t)
+unusedZero s t = allNodes s (spareZero s) && (stateRestZero s && tablesRestZero s t)
 
 -- ---- the whole
 
@@ -168,7 +157,7 @@ unfoldable pub sound : List ℕ → List ℕ → Bool
 sound s t =
     settingsInRange (base s) (digits s) (depth s)
     && (countInRange (nodeCount s)
-    && (allBelow (nodeCount s) (node (hasValidId s))
-    && (allBelow (nodeCount s) (node (hasNewId s))
-    && (allBelow (nodeCount s) (node (hasSoundTable s t))
-    && (allBelow (nodeCount s) (node (statusSound s)) && unusedZero s t)))))
+    && (allNodes s (hasValidId s)
+    && (allNodes s (hasNewId s)
+    && (allNodes s (hasSoundTable s t)
+    && (allNodes s (statusSound s) && unusedZero s t)))))

@@ -9,7 +9,7 @@ use native.Mathlib.Omega.{arith}
 use lib.ListN.{length, getD}
 use borrow.Author.Tests.{ne-eqb}
 use Rattle.model.specs.Memory.{Memory, digits}
-use Rattle.model.specs.Sound.{isNode, suffixOf}
+use Rattle.model.specs.Nodes.{isNode, suffixOf}
 use Rattle.model.specs.Lookup as book
 use Rattle.model.specs.Lookup.{Lookup, veryHops}
 use Rattle.model.specs.Consistency as book2

@@ -6,7 +6,7 @@ use mathlib.Core.Bool.{true}
 use mathlib.Core.List.{List, _∷_, _++_}
 use lib.ListN.{length, getD}
 use Rattle.model.specs.Memory.{Memory, digits}
-use Rattle.model.specs.Sound.{isNode, suffixOf}
+use Rattle.model.specs.Nodes.{isNode, suffixOf}
 use Rattle.model.specs.Lookup.{veryHops}
 use Rattle.model.specs.Calls.{Outcome, lookupCall, verdictCall}
 use Rattle.model.specs.Run.{Call, play, history, sent, isTaken, isRun}

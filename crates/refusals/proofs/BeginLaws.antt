@@ -8,12 +8,12 @@ use native.Mathlib.Nat.{le-trans}
 use borrow.Author.Tests.{eq-eqb, ne-eqb, not-false}
 use Rattle.model.specs.Ids.{validId}
 use Rattle.model.specs.Memory.{base, digits, nodeCount, statusOf, isInSystem}
-use Rattle.model.specs.Sound.{isNode}
+use Rattle.model.specs.Nodes.{isNode}
 use Rattle.model.specs.Refusals.{refuse, idTaken, stateRefusal, beginSentences, beginRefusal}
 use Rattle.model.proofs.Refusals.{refuse-leaves, refuse-goes, refuse-not-leaves, refuse-not-goes}
 use Rattle.model.proofs.Sound.{Sound}
 use Rattle.model.proofs.Status.{is-node}
-use Rattle.records.specs.Loaded.{Placed}
+use Rattle.state.specs.Loaded.{Placed}
 use Rattle.sentences.proofs.State.{state-refused, state-later}
 
 pub begin-sentences : (s t : List ℕ) (id g r x : ℕ) → r ≡ stateRefusal s t 0 → r ≡ 0 → x ≡ beginSentences s id g → x ≡ beginRefusal s t id g

@@ -6,13 +6,13 @@ use mathlib.Core.List.{List}
 use lib.Dec.{eqb}
 use borrow.Author.Tests.{not-true, not-false}
 use Rattle.model.specs.Memory.{statusOf, targetOf, pendingOf, copying, waiting, hasNode, isInSystem, isJoining}
-use Rattle.model.specs.Sound.{isNode}
+use Rattle.model.specs.Nodes.{isNode}
 use Rattle.model.specs.Join.{outstanding}
 use Rattle.model.specs.Refusals.{refuse, areNodes, waitHeld, stateRefusal, deliverRefusal}
 use Rattle.model.proofs.Early.{true-or-leaves, false-or-goes, eq-goes, eq-leaves}
 use Rattle.model.proofs.Refusals.{refuse-leaves, refuse-goes, refuse-not-leaves, refuse-not-goes}
-use Rattle.records.specs.declared.record.Node.{Node}
-use Rattle.records.specs.Loaded.{Placed, NodeOf}
+use Rattle.state.specs.declared.record.Node.{Node}
+use Rattle.state.specs.Loaded.{Placed, NodeOf}
 use Rattle.refusals.specs.Refused.{deliverSentences}
 use Rattle.sentences.proofs.State.{state-refused, state-later, state-sound}
 use Rattle.refusals.proofs.BeginLaws.{gateway-placed}

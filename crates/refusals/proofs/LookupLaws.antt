@@ -4,7 +4,7 @@ use mathlib.Core.Path.{_≡_, refl, ap, ap₂}
 use mathlib.Core.Bool.{Bool, true, false, not, _&&_}
 use mathlib.Core.List.{List}
 use borrow.Author.Tests.{not-true, not-false}
-use Rattle.model.specs.Sound.{isNode}
+use Rattle.model.specs.Nodes.{isNode}
 use Rattle.model.specs.Refusals.{refuse, areNodes, stateRefusal, lookupRefusal}
 use Rattle.model.proofs.Refusals.{refuse-not-leaves, refuse-not-goes}
 use Rattle.sentences.proofs.State.{state-refused, state-later}

@@ -6,11 +6,11 @@ use mathlib.Core.List.{List}
 use lib.Dec.{ltb}
 use lib.ListN.{length}
 use borrow.Author.Tests.{lt-ltb, le-ltb}
-use Rattle.model.specs.Loops.{allBelow, node}
-use Rattle.model.specs.Memory.{nodeCount, isInSystem}
+use Rattle.model.specs.Memory.{isInSystem}
 use Rattle.model.specs.Image.{imageOf}
 use Rattle.model.specs.Refusals.{refuse, someNotInSystem, stateRefusal, writeRefusal}
 use Rattle.model.proofs.Refusals.{refuse-leaves, refuse-goes, refuse-not-leaves, refuse-not-goes}
+use Rattle.model.specs.Nodes.{allNodes}
 use Rattle.sentences.proofs.State.{state-refused, state-later}
 
 module _ (s t out : List ℕ) (r : ℕ) (e : r ≡ stateRefusal s t 0) where
@@ -18,19 +18,19 @@ module _ (s t out : List ℕ) (r : ℕ) (e : r ≡ stateRefusal s t 0) where
   unfolding writeRefusal
   write-state nz = state-refused s t (refuse (someNotInSystem s) 15 (refuse (ltb (length out) (length (imageOf s t))) 16 0)) r e nz
 
-  module _ (z : r ≡ 0) (a : Bool) (ea : a ≡ allBelow (nodeCount s) (node (isInSystem s))) where
+  module _ (z : r ≡ 0) (a : Bool) (ea : a ≡ allNodes s (isInSystem s)) where
     pub write-15 : not a ≡ true → 15 ≡ writeRefusal s t out
     unfolding writeRefusal
     write-15 h =
         state-later s t (refuse (someNotInSystem s) 15 (refuse (ltb (length out) (length (imageOf s t))) 16 0)) r 15 e z
-        (refuse-not-leaves (allBelow (nodeCount s) (node (isInSystem s))) 15 _ a ea h)
+        (refuse-not-leaves (allNodes s (isInSystem s)) 15 _ a ea h)
 
     module _ (h : not a ≡ false) (n : ℕ) (en : n ≡ length (imageOf s t)) where
       later : (x : ℕ) → x ≡ refuse (ltb (length out) (length (imageOf s t))) 16 0 → x ≡ writeRefusal s t out
       unfolding writeRefusal
       later x q =
           state-later s t (refuse (someNotInSystem s) 15 (refuse (ltb (length out) (length (imageOf s t))) 16 0)) r x e z
-          (refuse-not-goes (allBelow (nodeCount s) (node (isInSystem s))) 15 _ x a ea h q)
+          (refuse-not-goes (allNodes s (isInSystem s)) 15 _ x a ea h q)
 
       pub write-16 : length out < n → 16 ≡ writeRefusal s t out
       write-16 l =

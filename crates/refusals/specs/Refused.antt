@@ -4,13 +4,13 @@ use mathlib.Core.Path.{_≡_}
 use mathlib.Core.Bool.{not}
 use mathlib.Core.List.{List}
 use lib.ListN.{length}
-use Rattle.model.specs.Memory.{nodeCount}
+use Rattle.model.specs.Memory.{nodeCount, stateLength}
 use Rattle.model.specs.Join.{outstanding}
 use Rattle.model.specs.Refusals.{refuse, waitHeld}
 
 -- the records of this many nodes stand in the state
 pub record Placed (s : List ℕ) (n : ℕ) : Type 0 where
-  pub long : 520 ≤ length s
+  pub long : stateLength ≤ length s
   pub few : n ≤ 64
   pub count : n ≡ nodeCount s
 

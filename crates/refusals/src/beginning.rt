@@ -4,9 +4,9 @@ ghost use Rattle.model.specs.Refusals.{idTaken, beginSentences, beginRefusal};
 ghost use Rattle.model.proofs.Sound.{Sound};
 ghost use Rattle.refusals.specs.Refused.{Placed};
 use ident::valid_id;
-use records::record;
-use records::settings;
-use records::status::Status;
+use state::record;
+use state::settings;
+use state::status::Status;
 
 // 8: "An id is a member's already".
 fn id_taken(state: &[u64], nodes: usize, id: u32) -> bool

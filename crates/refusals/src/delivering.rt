@@ -5,12 +5,12 @@ ghost use lib.Dec.{eqb};
 ghost use Rattle.model.specs.Memory.{copying, waiting};
 ghost use Rattle.model.specs.Join as book;
 ghost use Rattle.model.specs.Refusals.{waitHeld, deliverRefusal};
-ghost use Rattle.records.specs.Loaded.{Placed};
+ghost use Rattle.state.specs.Loaded.{Placed};
 ghost use Rattle.refusals.specs.Refused.{deliverSentences};
-use records::record;
-use records::record::Node;
-use records::sets;
-use records::status::Status;
+use state::record;
+use state::record::Node;
+use state::sets;
+use state::status::Status;
 
 // The node's own request, "one to the target of each copying or waiting member", goes to y.
 fn asks_target(node: Node, y: usize) -> bool

@@ -3,7 +3,7 @@ ghost use mathlib.Core.Path.{_≡_};
 ghost use Rattle.model.specs.Refusals.{foundRefusal};
 use ident::settings_in_range;
 use ident::valid_id;
-use records::lent;
+use state::lent;
 
 pub fn refusal(state: &[u64], tables: &[u8], base: u64, digits: u64, depth: u64, id: u32) -> u64
     ensures { λ r. ⌜ r ≡ foundRefusal (now (state .entry)) (now (tables .entry)) base digits depth id ⌝ }

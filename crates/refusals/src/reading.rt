@@ -1,7 +1,7 @@
 // The refusals of reading an image.
 ghost use mathlib.Core.Path.{_≡_};
 ghost use Rattle.model.specs.Refusals.{readRefusal};
-use records::lent;
+use state::lent;
 
 pub fn refusal(state: &[u64], tables: &[u8], image: &[u8]) -> u64
     ensures { λ r. ⌜ r ≡ readRefusal (now (state .entry)) (now (tables .entry)) (now (image .entry)) ⌝ }
@@ -9,5 +9,5 @@ pub fn refusal(state: &[u64], tables: &[u8], image: &[u8]) -> u64
     if lent::short(state, tables) {
         return 1;
     }
-    judging::refusal(image)
+    image_judging::refusal(image)
 }

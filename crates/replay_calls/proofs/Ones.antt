@@ -17,7 +17,7 @@ use Rattle.packing.specs.Numbers as numbers
 use Rattle.engine.specs.Outcomes.{leaves, writes}
 use Rattle.image_fields.specs.Parts.{fourAt}
 use Rattle.replay_calls.specs.Coded.{imageAt, zeros, callOf, numberAt}
-use Rattle.records.specs.Lent.{memory}
+use Rattle.state.specs.Lent.{memory}
 use Rattle.replay_calls.specs.Answered.{padded, Played, playing}
 use Rattle.replay_calls.specs.Shown.{fieldsAt, listed, shown}
 

@@ -8,7 +8,7 @@ use lib.ListN.{length, take}
 use Rattle.model.specs.Memory.{Memory}
 use Rattle.model.specs.Run.{Call, step, after, play, history}
 use Rattle.replay_calls.specs.Coded.{callAt, firstCalls, decoded}
-use Rattle.records.specs.Lent.{memory}
+use Rattle.state.specs.Lent.{memory}
 use Rattle.replay_calls.specs.Answered.{padded, Played, playing, wordsOf, answersTo}
 use Rattle.replay_calls.specs.Shown.{fieldsAt, called, listed, shown}
 use Rattle.replay_calls.specs.declared.call.Coded.{Coded}

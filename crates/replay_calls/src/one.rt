@@ -4,7 +4,7 @@ ghost use Prim.Native.Nat.{min};
 ghost use Rattle.model.specs.Calls.{foundCall, readCall, beginCall, deliverCall, lookupCall, verdictCall, writeCall};
 ghost use Rattle.model.specs.Run.{step};
 ghost use Rattle.replay_calls.specs.Coded.{imageAt, zeros};
-ghost use Rattle.records.specs.Lent.{memory};
+ghost use Rattle.state.specs.Lent.{memory};
 ghost use Rattle.replay_calls.specs.Answered.{playing};
 ghost use Rattle.replay_calls.specs.Shown.{called, shown};
 use crate::answer::Words;

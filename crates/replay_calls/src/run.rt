@@ -4,7 +4,7 @@ ghost use Prim.Native.Nat.{_*_, _/_, _≤_};
 ghost use lib.ListN.{length, take};
 ghost use Rattle.model.specs.Run as book;
 ghost use Rattle.replay_calls.specs.Coded.{decoded};
-ghost use Rattle.records.specs.Lent.{memory};
+ghost use Rattle.state.specs.Lent.{memory};
 ghost use Rattle.replay_calls.specs.Answered.{answersTo};
 use crate::answer;
 use crate::call;

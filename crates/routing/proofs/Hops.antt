@@ -8,7 +8,7 @@ use native.Mathlib.Omega.{arith}
 use Rattle.model.specs.Ids.{digitOf, commonSuffix}
 use Rattle.model.specs.Memory.{digits, idOf, tableOf}
 use Rattle.model.specs.Tables.{firstOf}
-use Rattle.model.specs.Sound.{suffixOf}
+use Rattle.model.specs.Nodes.{suffixOf}
 use Rattle.model.specs.Lookup as book
 use Rattle.model.specs.Lookup.{nextHop, oneHopMore}
 use Rattle.model.proofs.Status.{IsNode}

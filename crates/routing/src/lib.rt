@@ -10,8 +10,8 @@ ghost use Rattle.routing.specs.Answer.{bookLookup};
 use crate::answer::Lookup;
 use ident::common_suffix;
 use ident::digit;
-use records::record;
-use records::settings;
+use state::record;
+use state::settings;
 use tables::entry;
 use tables::part;
 

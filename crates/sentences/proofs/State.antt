@@ -9,6 +9,7 @@ use Rattle.model.specs.Refusals.{refuse, memoryShort, stateRefusal}
 use Rattle.model.proofs.Refusals.{refuse-leaves, refuse-goes, refuse-not-leaves, refuse-not-goes}
 use Rattle.model.proofs.Sound.{Sound}
 use Rattle.model.proofs.Taken.{state-taken, state-free}
+use Rattle.model.specs.Memory.{stateLength}
 use Rattle.sentences.specs.Counted.{Counted}
 
 -- ---- 1 and 2
@@ -45,7 +46,7 @@ state-refused s t later r e nz = go (memoryShort s t) (sound s t) e
 pub state-sound : (s t : List ℕ) (r : ℕ) → r ≡ stateRefusal s t 0 → r ≡ 0 → Sound s t
 state-sound s t r e z = state-taken s t 0 (sym e ∙ z) .0
 
-pub state-long : (s t : List ℕ) (r : ℕ) → r ≡ stateRefusal s t 0 → r ≡ 0 → 520 ≤ length s
+pub state-long : (s t : List ℕ) (r : ℕ) → r ≡ stateRefusal s t 0 → r ≡ 0 → stateLength ≤ length s
 state-long s t r e z = state-sound s t r e z .long .state
 
 pub state-later : (s t : List ℕ) (later r x : ℕ) → r ≡ stateRefusal s t 0 → r ≡ 0 → x ≡ later → x ≡ stateRefusal s t later

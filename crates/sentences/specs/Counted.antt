@@ -2,9 +2,9 @@
 use Prim.Native.Nat.{ℕ, _≤_}
 use mathlib.Core.List.{List}
 use lib.ListN.{length}
-use Rattle.model.specs.Memory.{nodeCount}
+use Rattle.model.specs.Memory.{nodeCount, stateLength}
 
 -- the records of the state's nodes stand in it
 pub record Counted (s : List ℕ) : Type 0 where
-  pub long : 520 ≤ length s
+  pub long : stateLength ≤ length s
   pub few : nodeCount s ≤ 64

@@ -2,16 +2,16 @@
 ghost use mathlib.Core.Path.{_≡_};
 ghost use Prim.Native.Nat.{_≤_};
 ghost use lib.ListN.{length};
-ghost use Rattle.model.specs.Loops.{allBelow, node};
-ghost use Rattle.model.specs.Memory.{nodeCount, isInSystem};
+ghost use Rattle.model.specs.Memory.{isInSystem, stateLength};
 ghost use Rattle.model.specs.Sound as book;
 ghost use Rattle.model.specs.Refusals.{stateRefusal};
+ghost use Rattle.model.specs.Nodes.{allNodes};
 ghost use Rattle.sentences.specs.Counted.{Counted};
-use records::lent;
-use records::record;
-use records::settings;
-use records::status::Status;
 use soundness::sound;
+use state::lent;
+use state::record;
+use state::settings;
+use state::status::Status;
 
 // 1, memory that is too short, and 2: "The state isn't sound".
 pub fn state_refusal(state: &[u64], tables: &[u8]) -> u64
@@ -28,7 +28,7 @@ pub fn state_refusal(state: &[u64], tables: &[u8]) -> u64
 
 // x is the number of a node.
 pub fn is_node(state: &[u64], x: u64) -> bool
-    requires { ⌜ 520 ≤ length (now state) ⌝ }
+    requires { ⌜ stateLength ≤ length (now state) ⌝ }
     ensures { λ r. ⌜ r ≡ book.isNode (now (state .entry)) x ⌝ }
 {
     if x < 1 {
@@ -40,7 +40,7 @@ pub fn is_node(state: &[u64], x: u64) -> bool
 // Not 15: "Verdict or writing finds a member not settled."
 pub fn all_in_system(state: &[u64]) -> bool
     requires { ⌜ Counted (now state) ⌝ }
-    ensures { λ r. ⌜ r ≡ allBelow (nodeCount (now (state .entry))) (node (isInSystem (now (state .entry)))) ⌝ }
+    ensures { λ r. ⌜ r ≡ allNodes (now (state .entry)) (isInSystem (now (state .entry))) ⌝ }
 {
     let nodes = settings::load(state).nodes;
     let mut k = 0;

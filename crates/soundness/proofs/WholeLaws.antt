@@ -8,16 +8,16 @@ use native.Mathlib.Omega.{arith}
 use lib.Dec.{leb}
 use lib.ListN.{length, getD, take, drop}
 use borrow.Author.Tests.{not-true, not-false, le-leb, lt-leb}
-use Rattle.model.specs.Loops.{allBelow, node}
 use Rattle.model.specs.Ids.{settingsInRange}
-use Rattle.model.specs.Memory.{base, digits, depth, nodeCount}
+use Rattle.model.specs.Memory.{base, digits, depth, stateLength, tablesLength}
 use Rattle.model.specs.Sound.{hasValidId, countInRange, allZero}
 use Rattle.model.proofs.Bools.{is-false, not-both, le-or-lt}
 use Rattle.model.proofs.Ids.{settings-range}
 use Rattle.model.proofs.Early.{le-goes, le-leaves, true-goes}
 use Rattle.model.proofs.Zero.{part-zero-at, part-zero-of}
-use Rattle.records.specs.Loaded.{SettingsOf}
-use Rattle.records.specs.declared.settings.Settings.{Settings}
+use Rattle.model.specs.Nodes.{allNodes}
+use Rattle.state.specs.Loaded.{SettingsOf}
+use Rattle.state.specs.declared.settings.Settings.{Settings}
 use Rattle.soundness_ids.specs.Checked.{Ranged, Identified}
 use Rattle.soundness.specs.Clauses.{tablesPast}
 
@@ -25,13 +25,13 @@ pub settings-are : (s : List ℕ) (v : Settings) (r : Bool) → SettingsOf s v �
     → r ≡ settingsInRange (base s) (digits s) (depth s)
 settings-are s v r w e = cc
 
-pub ranged-of : (s : List ℕ) (v : Settings) (r : Bool) → 520 ≤ length s → SettingsOf s v
+pub ranged-of : (s : List ℕ) (v : Settings) (r : Bool) → stateLength ≤ length s → SettingsOf s v
     → r ≡ settingsInRange (v .base) (v .digits) (v .depth) → not r ≡ false → v .nodes ≤ 64 → Ranged s
 ranged-of s v r l w e h g =
     let i = settings-range (base s) (digits s) (depth s) (sym (settings-are s v r w e) ∙ not-false r h) in
     record { long = l; base = i .base-most; digits = i .digits-most; depth-least = i .depth-least; depth = i .depth-most; nodes = omega arith }
 
-pub identified-of : (s : List ℕ) (r : Bool) → Ranged s → r ≡ allBelow (nodeCount s) (node (hasValidId s)) → not r ≡ false → Identified s
+pub identified-of : (s : List ℕ) (r : Bool) → Ranged s → r ≡ allNodes s (hasValidId s) → not r ≡ false → Identified s
 identified-of s r w e h = record { ranged = w; ids = sym e ∙ not-false r h }
 
 -- the count, m being what the code holds for it
@@ -47,9 +47,9 @@ count-goes m n b r e l g =
     true-goes (countInRange n) b r (sym (le-goes 1 n (leb n 64) true (omega arith) (sym (le-leb n 64 (omega arith)))))
 
 -- the records and the tables past node n
-pub records-past : (s : List ℕ) (m n : ℕ) (r : Bool) → m ≡ n → r ≡ allZero (take (520 - (8 * m + 8)) (drop (8 * m + 8) s))
-    → r ≡ allZero (take (520 - (8 * n + 8)) (drop (8 * n + 8) s))
-records-past s m n r p = subst (λ (k : ℕ). r ≡ allZero (take (520 - (8 * k + 8)) (drop (8 * k + 8) s))) p
+pub records-past : (s : List ℕ) (m n : ℕ) (r : Bool) → m ≡ n → r ≡ allZero (take (stateLength - (8 * m + 8)) (drop (8 * m + 8) s))
+    → r ≡ allZero (take (stateLength - (8 * n + 8)) (drop (8 * n + 8) s))
+records-past s m n r p = subst (λ (k : ℕ). r ≡ allZero (take (stateLength - (8 * k + 8)) (drop (8 * k + 8) s))) p
 
 pub tables-past : (t : List ℕ) (m n : ℕ) (r : Bool) → m ≡ n → r ≡ tablesPast t m → r ≡ tablesPast t n
 tables-past t m n r p = subst (λ (k : ℕ). r ≡ tablesPast t k) p
@@ -63,7 +63,7 @@ ZeroUpTo t n k = (p : ℕ) → 512 * n ≤ p → p < 512 * k → getD t p 0 ≡ 
 pub past-none : (t : List ℕ) (n : ℕ) → ZeroUpTo t n n
 past-none t n p l h = absurd (omega arith)
 
-module _ (t : List ℕ) (n k : ℕ) (long : 32768 ≤ length t) (l : n ≤ k) (g : k < 64) (r : Bool)
+module _ (t : List ℕ) (n k : ℕ) (long : tablesLength ≤ length t) (l : n ≤ k) (g : k < 64) (r : Bool)
     (e : r ≡ allZero (take (512 * k + 512 - 512 * k) (drop (512 * k) t))) where
   pub past-goes : ZeroUpTo t n k → not r ≡ false → ZeroUpTo t n (k + 1)
   past-goes z h p a b =
@@ -73,9 +73,9 @@ module _ (t : List ℕ) (n k : ℕ) (long : 32768 ≤ length t) (l : n ≤ k) (g
   past-leaves h =
       is-false (tablesPast t n)
       (λ z. not-both r
-      (e ∙ part-zero-of t (512 * k) (512 * k + 512) (omega arith) (omega arith) (λ p a b. part-zero-at t (512 * n) 32768 long z p (omega arith) (omega arith)))
+      (e ∙ part-zero-of t (512 * k) (512 * k + 512) (omega arith) (omega arith) (λ p a b. part-zero-at t (512 * n) tablesLength long z p (omega arith) (omega arith)))
       (not-true r h))
 
-pub past-ends : (t : List ℕ) (n k : ℕ) → 32768 ≤ length t → n ≤ 64 → 64 ≤ k → ZeroUpTo t n k → true ≡ tablesPast t n
+pub past-ends : (t : List ℕ) (n k : ℕ) → tablesLength ≤ length t → n ≤ 64 → 64 ≤ k → ZeroUpTo t n k → true ≡ tablesPast t n
 past-ends t n k long l g z =
-    sym (part-zero-of t (512 * n) 32768 long (omega arith) (λ p a b. z p a (omega arith)))
+    sym (part-zero-of t (512 * n) tablesLength long (omega arith) (λ p a b. z p a (omega arith)))

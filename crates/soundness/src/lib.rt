@@ -5,12 +5,13 @@ ghost use Prim.Native.Nat.{_≤_};
 ghost use lib.ListN.{length};
 ghost use Rattle.model.specs.Sound as book;
 ghost use Rattle.model.specs.Refusals.{memoryShort};
-ghost use Rattle.records.specs.Loaded.{SettingsOf};
+ghost use Rattle.model.specs.Memory.{stateLength, tablesLength};
+ghost use Rattle.state.specs.Loaded.{SettingsOf};
 ghost use Rattle.soundness_ids.specs.Checked.{Ranged};
 ghost use Rattle.soundness.specs.Clauses.{nodesSound};
-use records::lent;
-use records::settings;
-use records::settings::Settings;
+use state::lent;
+use state::settings;
+use state::settings::Settings;
 
 mod unused;
 
@@ -28,8 +29,8 @@ pub fn sound(state: &[u64], tables: &[u8]) -> bool
 
 // "settings are in range; there are 1 to 64 members"
 fn settings_first(state: &[u64], tables: &[u8]) -> bool
-    requires { ⌜ 520 ≤ length (now state) ⌝ }
-    requires { ⌜ 32768 ≤ length (now tables) ⌝ }
+    requires { ⌜ stateLength ≤ length (now state) ⌝ }
+    requires { ⌜ tablesLength ≤ length (now tables) ⌝ }
     ensures { λ r. ⌜ r ≡ book.sound (now (state .entry)) (now (tables .entry)) ⌝ }
 {
     let s = settings::load(state);
@@ -49,7 +50,7 @@ fn settings_first(state: &[u64], tables: &[u8]) -> bool
 fn nodes_next(state: &[u64], tables: &[u8], s: Settings) -> bool
     requires { ⌜ Ranged (now state) ⌝ }
     requires { ⌜ SettingsOf (now state) s ⌝ }
-    requires { ⌜ 32768 ≤ length (now tables) ⌝ }
+    requires { ⌜ tablesLength ≤ length (now tables) ⌝ }
     ensures { λ r. ⌜ r ≡ nodesSound (now (state .entry)) (now (tables .entry)) ⌝ }
 {
     if !soundness_ids::valid(state, s) {

@@ -3,15 +3,16 @@
 ghost use mathlib.Core.Path.{_≡_};
 ghost use Prim.Native.Nat.{_≤_};
 ghost use lib.ListN.{length};
-ghost use Rattle.model.specs.Loops.{allBelow, node};
-ghost use Rattle.model.specs.Memory.{nodeCount};
 ghost use Rattle.model.specs.Sound.{spareZero, stateRestZero, unusedZero};
-ghost use Rattle.records.specs.Loaded.{SettingsOf};
+ghost use Rattle.state.specs.Loaded.{SettingsOf};
 ghost use Rattle.model.proofs.Status.{IsNode};
+ghost use Rattle.model.specs.Nodes.{allNodes};
+ghost use Rattle.model.specs.Memory.{tablesLength};
 ghost use Rattle.soundness_ids.specs.Checked.{Ranged};
 ghost use Rattle.soundness.specs.Clauses.{tablesPast};
-use records::settings::Settings;
 use soundness_ids::zero;
+use state::lent::STATE_LENGTH;
+use state::settings::Settings;
 
 // The two spare words of the record of node x.
 fn spare(state: &[u64], x: usize) -> bool
@@ -29,7 +30,7 @@ fn spare(state: &[u64], x: usize) -> bool
 fn spares(state: &[u64], s: Settings) -> bool
     requires { ⌜ Ranged (now state) ⌝ }
     requires { ⌜ SettingsOf (now state) s ⌝ }
-    ensures { λ r. ⌜ r ≡ allBelow (nodeCount (now (state .entry))) (node (spareZero (now (state .entry)))) ⌝ }
+    ensures { λ r. ⌜ r ≡ allNodes (now (state .entry)) (spareZero (now (state .entry))) ⌝ }
 {
     let mut k = 0;
     while k < s.nodes {
@@ -51,12 +52,12 @@ fn state_rest(state: &[u64], s: Settings) -> bool
         return false;
     }
     let a = 8 * s.nodes + 8;
-    zero::words(&state[a..520])
+    zero::words(&state[a..STATE_LENGTH])
 }
 
 // The tables of no node, one after the other: each is a run of fixed length.
 fn tables_rest(tables: &[u8], s: Settings) -> bool
-    requires { ⌜ 32768 ≤ length (now tables) ⌝ }
+    requires { ⌜ tablesLength ≤ length (now tables) ⌝ }
     requires { ⌜ s .nodes ≤ 64 ⌝ }
     ensures { λ r. ⌜ r ≡ tablesPast (now (tables .entry)) (s .nodes) ⌝ }
 {
@@ -74,7 +75,7 @@ fn tables_rest(tables: &[u8], s: Settings) -> bool
 pub fn all(state: &[u64], tables: &[u8], s: Settings) -> bool
     requires { ⌜ Ranged (now state) ⌝ }
     requires { ⌜ SettingsOf (now state) s ⌝ }
-    requires { ⌜ 32768 ≤ length (now tables) ⌝ }
+    requires { ⌜ tablesLength ≤ length (now tables) ⌝ }
     ensures { λ r. ⌜ r ≡ unusedZero (now (state .entry)) (now (tables .entry)) ⌝ }
 {
     if !spares(state, s) {

@@ -19,6 +19,7 @@ use Rattle.model.proofs.Ids.{valid-lt, power-bits}
 use Rattle.model.proofs.Loops.{all-same, all-goes, all-leaves}
 use Rattle.model.proofs.Nodes.{nodes-at}
 use Rattle.model.proofs.Status.{IsNode}
+use Rattle.model.specs.Nodes.{allNodes}
 use Rattle.soundness_ids.specs.Checked.{Identified, InRow, differsAt}
 
 pub valid-fits : (b d id : ℕ) → d ≤ 8 → validId b d id ≡ true → id < 2 ^ 32
@@ -70,7 +71,7 @@ module _ (s ids : List ℕ) (w : InRow s ids) (k n : ℕ) (e : n ≡ nodeCount s
       (λ p h. ap₂ (λ (a b : ℕ). not (eqb a b)) (w .each p (omega arith)) (w .each k (omega arith)))
       ∙ ap (λ (m : ℕ). allBelow m (idDiffers s (k + 1))) (sym g)
 
-  pub row-leaves : not r ≡ true → false ≡ allBelow (nodeCount s) (node (hasNewId s))
+  pub row-leaves : not r ≡ true → false ≡ allNodes s (hasNewId s)
   row-leaves = all-leaves (nodeCount s) (node (hasNewId s)) k r (omega arith) place-new
 
   pub row-new : allBelow k (node (hasNewId s)) ≡ true → not r ≡ false → allBelow (k + 1) (node (hasNewId s)) ≡ true

@@ -5,14 +5,14 @@ use mathlib.Core.Bool.{Bool, true, not}
 use mathlib.Core.List.{List}
 use lib.ListN.{length, getD}
 use lib.Dec.{eqb}
-use Rattle.model.specs.Loops.{allBelow, node}
-use Rattle.model.specs.Memory.{base, digits, depth, nodeCount, idOf}
+use Rattle.model.specs.Memory.{base, digits, depth, nodeCount, idOf, stateLength}
 use Rattle.model.specs.Sound.{hasValidId}
+use Rattle.model.specs.Nodes.{allNodes}
 use Rattle.soundness_ids.specs.declared.node.Owner.{Owner}
 
 -- the settings and the number of nodes are in range
 pub record Ranged (s : List ℕ) : Type 0 where
-  pub long : 520 ≤ length s
+  pub long : stateLength ≤ length s
   pub base : base s ≤ 16
   pub digits : digits s ≤ 8
   pub depth-least : 1 ≤ depth s
@@ -22,7 +22,7 @@ pub record Ranged (s : List ℕ) : Type 0 where
 -- and the ids are valid, so that each fits 32 bits
 pub record Identified (s : List ℕ) : Type 0 where
   pub ranged : Ranged s
-  pub ids : allBelow (nodeCount s) (node (hasValidId s)) ≡ true
+  pub ids : allNodes s (hasValidId s) ≡ true
 
 -- whose table or record is looked at
 pub record OwnerOf (s : List ℕ) (o : Owner) : Type 0 where

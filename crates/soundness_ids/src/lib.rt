@@ -1,13 +1,13 @@
 // "valid, different ids", and what the other checks share.
 ghost use mathlib.Core.Path.{_≡_};
-ghost use Rattle.model.specs.Loops.{allBelow, node};
-ghost use Rattle.model.specs.Memory.{nodeCount};
+ghost use Rattle.model.specs.Loops.{node};
 ghost use Rattle.model.specs.Sound.{hasValidId, hasNewId};
-ghost use Rattle.records.specs.Loaded.{SettingsOf};
+ghost use Rattle.state.specs.Loaded.{SettingsOf};
 ghost use Rattle.model.proofs.Status.{IsNode};
+ghost use Rattle.model.specs.Nodes.{allNodes};
 ghost use Rattle.soundness_ids.specs.Checked.{Ranged, Identified};
-use records::record;
-use records::settings::Settings;
+use state::record;
+use state::settings::Settings;
 
 pub mod node;
 mod row;
@@ -32,7 +32,7 @@ fn is_valid(state: &[u64], s: Settings, x: usize) -> bool
 pub fn valid(state: &[u64], s: Settings) -> bool
     requires { ⌜ Ranged (now state) ⌝ }
     requires { ⌜ SettingsOf (now state) s ⌝ }
-    ensures { λ r. ⌜ r ≡ allBelow (nodeCount (now (state .entry))) (node (hasValidId (now (state .entry)))) ⌝ }
+    ensures { λ r. ⌜ r ≡ allNodes (now (state .entry)) (hasValidId (now (state .entry))) ⌝ }
 {
     let mut k = 0;
     while k < s.nodes {
@@ -47,7 +47,7 @@ pub fn valid(state: &[u64], s: Settings) -> bool
 pub fn different(state: &[u64], s: Settings) -> bool
     requires { ⌜ Identified (now state) ⌝ }
     requires { ⌜ SettingsOf (now state) s ⌝ }
-    ensures { λ r. ⌜ r ≡ allBelow (nodeCount (now (state .entry))) (node (hasNewId (now (state .entry)))) ⌝ }
+    ensures { λ r. ⌜ r ≡ allNodes (now (state .entry)) (hasNewId (now (state .entry))) ⌝ }
 {
     let ids = row::of(state, s);
     let mut k = 0;

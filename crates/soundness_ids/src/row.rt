@@ -4,10 +4,10 @@ ghost use mathlib.Core.Bool.{not};
 ghost use Prim.Native.Nat.{_<_};
 ghost use lib.Dec.{eqb};
 ghost use Rattle.model.specs.Loops.{allBelow};
-ghost use Rattle.records.specs.Loaded.{SettingsOf};
+ghost use Rattle.state.specs.Loaded.{SettingsOf};
 ghost use Rattle.soundness_ids.specs.Checked.{Identified, InRow, differsAt};
 use crate::node;
-use records::settings::Settings;
+use state::settings::Settings;
 
 // The id of node k + 1 at place k.
 pub fn of(state: &[u64], s: Settings) -> [u32; 64]

@@ -6,15 +6,15 @@ use mathlib.Core.List.{List}
 use native.Mathlib.Omega.{arith}
 use lib.Dec.{eqb, leb, ltb}
 use borrow.Author.Tests.{eqb-true, eqb-false, eq-eqb, ne-eqb}
-use Rattle.model.specs.Loops.{allBelow, node}
 use Rattle.model.specs.Ids.{commonSuffix}
-use Rattle.model.specs.Memory.{digits, nodeCount, idOf, isAttached, hasNode}
-use Rattle.model.specs.Sound.{suffixOf, pendingSound, notifiedSound, notifyingSound}
+use Rattle.model.specs.Memory.{digits, idOf, isAttached, hasNode}
+use Rattle.model.specs.Nodes.{suffixOf, allNodes}
+use Rattle.model.specs.Sound.{pendingSound, notifiedSound, notifyingSound}
 use Rattle.model.proofs.Early.{true-goes, false-leaves, false-or-goes, true-or-leaves, le-goes, le-leaves, lt-goes, lt-leaves}
-use Rattle.records.specs.Loaded.{SettingsOf, NodeOf}
-use Rattle.records.specs.declared.record.Node.{Node}
-use Rattle.records.specs.declared.settings.Settings.{Settings}
-use Rattle.records.proofs.Loads.{node-is, carried}
+use Rattle.state.specs.Loaded.{SettingsOf, NodeOf}
+use Rattle.state.specs.declared.record.Node.{Node}
+use Rattle.state.specs.declared.settings.Settings.{Settings}
+use Rattle.state.proofs.Loads.{node-is, carried}
 use Rattle.soundness_notifying.specs.Sets.{setsSound}
 
 -- a node that is not in the set, and one that is
@@ -66,11 +66,11 @@ some-goes nodes h b q e g =
     let z : nodes ≡ 0 → ⊥ = eqb-false nodes 0 (sym e ∙ g) in lt-goes 0 nodes b q (omega arith)
 
 pub sets-of : (s : List ℕ) (x : ℕ) (v : Settings) (r : Node) (q : Bool) → SettingsOf s v → NodeOf s x r
-    → q ≡ (ltb (r .pending) (2 ^ v .nodes) && (ltb (r .notified) (2 ^ v .nodes) && (allBelow (nodeCount s) (node (pendingSound s x)) && allBelow (nodeCount s) (node (notifiedSound s x)))))
+    → q ≡ (ltb (r .pending) (2 ^ v .nodes) && (ltb (r .notified) (2 ^ v .nodes) && (allNodes s (pendingSound s x) && allNodes s (notifiedSound s x))))
     → q ≡ setsSound s x
 sets-of s x v r q =
     carried
-    (λ v r. q ≡ (ltb (r .pending) (2 ^ v .nodes) && (ltb (r .notified) (2 ^ v .nodes) && (allBelow (nodeCount s) (node (pendingSound s x)) && allBelow (nodeCount s) (node (notifiedSound s x))))))
+    (λ v r. q ≡ (ltb (r .pending) (2 ^ v .nodes) && (ltb (r .notified) (2 ^ v .nodes) && (allNodes s (pendingSound s x) && allNodes s (notifiedSound s x)))))
     s x v r
 
 pub notifying-of : (s : List ℕ) (x : ℕ) (v : Settings) (r : Node) (q : Bool) → SettingsOf s v → NodeOf s x r

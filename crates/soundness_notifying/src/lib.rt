@@ -1,15 +1,15 @@
 // The rules of a notifying node: "target zero, attach level below d, a nonempty asked set", and what its two sets may name.
 ghost use mathlib.Core.Path.{_≡_};
 ghost use Rattle.model.specs.Sound.{notifyingSound};
-ghost use Rattle.records.specs.Loaded.{SettingsOf, NodeOf};
+ghost use Rattle.state.specs.Loaded.{SettingsOf, NodeOf};
 ghost use Rattle.model.proofs.Status.{IsNode};
 ghost use Rattle.soundness_ids.specs.Checked.{Identified};
 ghost use Rattle.soundness_notifying.specs.Sets.{setsSound};
-use records::record::Node;
-use records::sets;
-use records::settings::Settings;
 use soundness_ids::node;
 use soundness_ids::node::Owner;
+use state::record::Node;
+use state::sets;
+use state::settings::Settings;
 
 mod notified;
 mod pending;

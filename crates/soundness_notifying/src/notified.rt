@@ -1,15 +1,15 @@
 // The notified set: it "names only settled or notifying others".
 ghost use mathlib.Core.Path.{_≡_};
-ghost use Rattle.model.specs.Loops.{allBelow, node};
-ghost use Rattle.model.specs.Memory.{nodeCount};
+ghost use Rattle.model.specs.Loops.{node};
 ghost use Rattle.model.specs.Sound.{notifiedSound};
-ghost use Rattle.records.specs.Loaded.{SettingsOf, NodeOf};
+ghost use Rattle.state.specs.Loaded.{SettingsOf, NodeOf};
 ghost use Rattle.model.proofs.Status.{IsNode};
+ghost use Rattle.model.specs.Nodes.{allNodes};
 ghost use Rattle.soundness_ids.specs.Checked.{Ranged};
-use records::record::Node;
-use records::sets;
-use records::settings::Settings;
 use soundness_ids::node;
+use state::record::Node;
+use state::sets;
+use state::settings::Settings;
 
 // Node u is not in the set, or may be.
 fn one(state: &[u64], x: usize, r: Node, u: usize) -> bool
@@ -31,7 +31,7 @@ pub fn all(state: &[u64], s: Settings, x: usize, r: Node) -> bool
     requires { ⌜ Ranged (now state) ⌝ }
     requires { ⌜ SettingsOf (now state) s ⌝ }
     requires { ⌜ NodeOf (now state) x r ⌝ }
-    ensures { λ q. ⌜ q ≡ allBelow (nodeCount (now (state .entry))) (node (notifiedSound (now (state .entry)) x)) ⌝ }
+    ensures { λ q. ⌜ q ≡ allNodes (now (state .entry)) (notifiedSound (now (state .entry)) x) ⌝ }
 {
     let mut k = 0;
     while k < s.nodes {

@@ -1,17 +1,17 @@
 // The pending set: "settled or notifying members, each matching it in at least as many digits as its attach level, not itself and not in its
 // told set".
 ghost use mathlib.Core.Path.{_≡_};
-ghost use Rattle.model.specs.Loops.{allBelow, node};
-ghost use Rattle.model.specs.Memory.{nodeCount};
+ghost use Rattle.model.specs.Loops.{node};
 ghost use Rattle.model.specs.Sound.{pendingSound};
-ghost use Rattle.records.specs.Loaded.{SettingsOf, NodeOf};
+ghost use Rattle.state.specs.Loaded.{SettingsOf, NodeOf};
 ghost use Rattle.model.proofs.Status.{IsNode};
+ghost use Rattle.model.specs.Nodes.{allNodes};
 ghost use Rattle.soundness_ids.specs.Checked.{Identified, OwnerOf};
-use records::record::Node;
-use records::sets;
-use records::settings::Settings;
 use soundness_ids::node;
 use soundness_ids::node::Owner;
+use state::record::Node;
+use state::sets;
+use state::settings::Settings;
 
 // Node u is not in the set, or may be.
 fn one(state: &[u64], s: Settings, o: Owner, r: Node, u: usize) -> bool
@@ -42,7 +42,7 @@ pub fn all(state: &[u64], s: Settings, o: Owner, r: Node) -> bool
     requires { ⌜ SettingsOf (now state) s ⌝ }
     requires { ⌜ OwnerOf (now state) o ⌝ }
     requires { ⌜ NodeOf (now state) (o .number) r ⌝ }
-    ensures { λ q. ⌜ q ≡ allBelow (nodeCount (now (state .entry))) (node (pendingSound (now (state .entry)) (o .number))) ⌝ }
+    ensures { λ q. ⌜ q ≡ allNodes (now (state .entry)) (pendingSound (now (state .entry)) (o .number)) ⌝ }
 {
     let mut k = 0;
     while k < s.nodes {

@@ -10,10 +10,10 @@ use borrow.Author.Tests.{leb-true, ne-eqb, not-false}
 use Rattle.model.specs.Memory.{nodeCount, statusOf, isInSystem, isAttached}
 use Rattle.model.specs.Sound.{inSystemSound, joiningSound, copyingSound, waitingSound, notifyingSound, statusSound}
 use Rattle.model.proofs.Bools.{and-left, and-right}
-use Rattle.records.specs.Loaded.{SettingsOf, NodeOf}
-use Rattle.records.specs.declared.record.Node.{Node}
-use Rattle.records.specs.declared.settings.Settings.{Settings}
-use Rattle.records.proofs.Loads.{node-is, carried}
+use Rattle.state.specs.Loaded.{SettingsOf, NodeOf}
+use Rattle.state.specs.declared.record.Node.{Node}
+use Rattle.state.specs.declared.settings.Settings.{Settings}
+use Rattle.state.proofs.Loads.{node-is, carried}
 use Rattle.model.proofs.Status.{IsNode}
 use Rattle.soundness_status.specs.StatusFacts.{atRest, joiningAtRest}
 

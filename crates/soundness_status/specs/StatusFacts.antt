@@ -1,7 +1,7 @@
 -- What the check of the statuses cites. r is a record as the code holds it.
 use mathlib.Core.Bool.{Bool, _&&_}
 use lib.Dec.{eqb}
-use Rattle.records.specs.declared.record.Node.{Node}
+use Rattle.state.specs.declared.record.Node.{Node}
 
 -- the words of a node at rest, and of one that joins, as the code holds them
 abbrev pub atRest : Node → Bool

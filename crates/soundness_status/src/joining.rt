@@ -4,13 +4,13 @@ ghost use mathlib.Core.Path.{_≡_};
 ghost use mathlib.Core.Bool.{_&&_};
 ghost use lib.Dec.{leb};
 ghost use Rattle.model.specs.Sound.{copyingSound, waitingSound};
-ghost use Rattle.records.specs.Loaded.{SettingsOf, NodeOf};
+ghost use Rattle.state.specs.Loaded.{SettingsOf, NodeOf};
 ghost use Rattle.soundness_ids.specs.Checked.{Ranged};
 ghost use Rattle.soundness_status.specs.StatusFacts.{joiningAtRest};
-use records::record::Node;
-use records::sets;
-use records::settings::Settings;
 use soundness_ids::node;
+use state::record::Node;
+use state::sets;
+use state::settings::Settings;
 
 fn at_rest(r: Node) -> bool
     ensures { λ q. ⌜ q ≡ joiningAtRest r ⌝ }

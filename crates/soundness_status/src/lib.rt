@@ -1,17 +1,16 @@
 // The rules of each status: a settled member is in system here, the asked set is pending, the told set notified.
 ghost use mathlib.Core.Path.{_≡_};
-ghost use Rattle.model.specs.Loops.{allBelow, node};
-ghost use Rattle.model.specs.Memory.{nodeCount};
 ghost use Rattle.model.specs.Sound.{statusSound};
-ghost use Rattle.records.specs.Loaded.{SettingsOf};
+ghost use Rattle.state.specs.Loaded.{SettingsOf};
 ghost use Rattle.model.proofs.Status.{IsNode};
+ghost use Rattle.model.specs.Nodes.{allNodes};
 ghost use Rattle.soundness_ids.specs.Checked.{Identified};
 ghost use Rattle.soundness_status.specs.StatusFacts.{atRest};
-use records::record;
-use records::record::Node;
-use records::sets;
-use records::settings::Settings;
-use records::status::Status;
+use state::record;
+use state::record::Node;
+use state::sets;
+use state::settings::Settings;
+use state::status::Status;
 
 mod joining;
 
@@ -52,7 +51,7 @@ fn status(state: &[u64], s: Settings, x: usize) -> bool
 pub fn all(state: &[u64], s: Settings) -> bool
     requires { ⌜ Identified (now state) ⌝ }
     requires { ⌜ SettingsOf (now state) s ⌝ }
-    ensures { λ r. ⌜ r ≡ allBelow (nodeCount (now (state .entry))) (node (statusSound (now (state .entry)))) ⌝ }
+    ensures { λ r. ⌜ r ≡ allNodes (now (state .entry)) (statusSound (now (state .entry))) ⌝ }
 {
     let mut k = 0;
     while k < s.nodes {

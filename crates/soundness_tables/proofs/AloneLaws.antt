@@ -14,7 +14,8 @@ use Rattle.model.specs.Loops.{allBelow, countBelow}
 use Rattle.model.specs.Ids.{digitOf, lowDigits}
 use Rattle.model.specs.Memory.{base, depth, nodeCount, idOf}
 use Rattle.model.specs.Tables.{qualified, slotAt}
-use Rattle.model.specs.Sound.{mayStand, qualifies, noGapBefore, slotDiffers}
+use Rattle.model.specs.Nodes.{qualifies}
+use Rattle.model.specs.Sound.{mayStand, noGapBefore, slotDiffers}
 use Rattle.model.proofs.Bools.{and-intro, or-intro-left, is-false, true-or-false, le-or-lt}
 use Rattle.model.proofs.Loops.{all-of, all-zero, count-step, count-some}
 use Rattle.model.proofs.Splice.{part-at}

@@ -6,15 +6,15 @@ ghost use lib.ListN.{length};
 ghost use Rattle.model.specs.Loops.{allBelow};
 ghost use Rattle.model.specs.Memory as memory;
 ghost use Rattle.model.specs.Sound.{mayStand};
-ghost use Rattle.records.specs.Loaded.{SettingsOf};
+ghost use Rattle.state.specs.Loaded.{SettingsOf};
 ghost use Rattle.model.proofs.Status.{IsNode};
 ghost use Rattle.soundness_ids.specs.Checked.{Ranged};
 ghost use Rattle.soundness_tables.specs.TableFacts.{EntryIn, RowOf, slotExact, entryExact};
 use crate::rows;
 use crate::rows::Row;
 use crate::slots;
-use records::settings::Settings;
 use soundness_ids::node;
+use state::settings::Settings;
 
 // In x's table stand x and attached nodes; most nodes are attached.
 fn may_stand(state: &[u64], x: usize, u: usize) -> bool

@@ -4,15 +4,15 @@ ghost use Prim.Native.Nat.{_<_};
 ghost use lib.ListN.{length};
 ghost use Rattle.model.specs.Loops.{allBelow};
 ghost use Rattle.model.specs.Memory as memory;
-ghost use Rattle.records.specs.Loaded.{SettingsOf};
+ghost use Rattle.state.specs.Loaded.{SettingsOf};
 ghost use Rattle.soundness_ids.specs.Checked.{Identified, OwnerOf};
 ghost use Rattle.soundness_tables.specs.TableFacts.{levelExact};
 use crate::entries;
 use crate::rows;
 use crate::slots;
-use records::settings::Settings;
 use soundness_ids::node::Owner;
 use soundness_ids::zero;
+use state::settings::Settings;
 
 // Level i: its owner first in its own entry and, where that is not all it holds, its entries and the unused ones from digit b on.
 fn level(state: &[u64], table: &[u8], s: Settings, o: Owner, i: usize) -> bool

@@ -2,15 +2,16 @@
 ghost use mathlib.Core.Path.{_≡_};
 ghost use Prim.Native.Nat.{_+_, _<_, _≤_};
 ghost use lib.ListN.{length};
-ghost use Rattle.model.specs.Loops.{allBelow, node};
-ghost use Rattle.model.specs.Memory.{nodeCount};
+ghost use Rattle.model.specs.Loops.{node};
+ghost use Rattle.model.specs.Memory.{nodeCount, tablesLength};
 ghost use Rattle.model.specs.Sound.{tableSound, hasSoundTable};
-ghost use Rattle.records.specs.Loaded.{SettingsOf};
+ghost use Rattle.model.specs.Nodes.{allNodes};
+ghost use Rattle.state.specs.Loaded.{SettingsOf};
 ghost use Rattle.soundness_ids.specs.Checked.{Identified, OwnerOf};
-use records::settings::Settings;
 use soundness_ids::node;
 use soundness_ids::node::Owner;
 use soundness_ids::zero;
+use state::settings::Settings;
 
 mod entries;
 mod levels;
@@ -36,7 +37,7 @@ fn table(state: &[u64], table: &[u8], s: Settings, o: Owner) -> bool
 fn table_at(state: &[u64], tables: &[u8], s: Settings, k: usize) -> bool
     requires { ⌜ Identified (now state) ⌝ }
     requires { ⌜ SettingsOf (now state) s ⌝ }
-    requires { ⌜ 32768 ≤ length (now tables) ⌝ }
+    requires { ⌜ tablesLength ≤ length (now tables) ⌝ }
     requires { ⌜ k < nodeCount (now state) ⌝ }
     ensures { λ r. ⌜ r ≡ hasSoundTable (now (state .entry)) (now (tables .entry)) (k + 1) ⌝ }
 {
@@ -52,8 +53,8 @@ fn table_at(state: &[u64], tables: &[u8], s: Settings, k: usize) -> bool
 pub fn all(state: &[u64], tables: &[u8], s: Settings) -> bool
     requires { ⌜ Identified (now state) ⌝ }
     requires { ⌜ SettingsOf (now state) s ⌝ }
-    requires { ⌜ 32768 ≤ length (now tables) ⌝ }
-    ensures { λ r. ⌜ r ≡ allBelow (nodeCount (now (state .entry))) (node (hasSoundTable (now (state .entry)) (now (tables .entry)))) ⌝ }
+    requires { ⌜ tablesLength ≤ length (now tables) ⌝ }
+    ensures { λ r. ⌜ r ≡ allNodes (now (state .entry)) (hasSoundTable (now (state .entry)) (now (tables .entry))) ⌝ }
 {
     let mut k = 0;
     while k < s.nodes {

@@ -2,12 +2,12 @@
 // number, so what level i asks of them is made once for all its entries.
 ghost use mathlib.Core.Path.{_≡_};
 ghost use Prim.Native.Nat.{_<_};
-ghost use Rattle.model.specs.Sound.{qualifies};
+ghost use Rattle.model.specs.Nodes.{qualifies};
 ghost use Rattle.model.proofs.Status.{IsNode};
 ghost use Rattle.soundness_ids.specs.Checked.{Ranged};
 ghost use Rattle.soundness_tables.specs.TableFacts.{RowOf, RowMade};
-use records::record;
 use soundness_ids::node::Owner;
+use state::record;
 
 // A level of the owner's table: the number that the owner's low digits make, the weight of the level's digit, and the mask of both.
 pub struct Row {

@@ -3,6 +3,7 @@
 use Prim.Native.Nat.{ℕ, _≤_, _<_}
 use mathlib.Core.List.{List}
 use lib.ListN.{length}
+use Rattle.model.specs.Memory.{tablesLength}
 
 -- entry (i, j) of depth K stands in T
 pub record Entry (T : List ℕ) (K i j : ℕ) : Type 0 where
@@ -13,6 +14,6 @@ pub record Entry (T : List ℕ) (K i j : ℕ) : Type 0 where
 
 -- x's table stands in t
 pub record Lent (t : List ℕ) (x : ℕ) : Type 0 where
-  pub long : 32768 ≤ length t
+  pub long : tablesLength ≤ length t
   pub first : 1 ≤ x
   pub last : x ≤ 64

@@ -2,14 +2,15 @@
 ghost use mathlib.Core.Path.{_≡_};
 ghost use Prim.Native.Nat.{_≤_};
 ghost use lib.ListN.{length};
-ghost use Rattle.model.specs.Memory.{zeroed};
+ghost use Rattle.model.specs.Memory.{zeroed, tablesLength};
+use state::lent::TABLES_LENGTH;
 
 pub fn clear(tables: &mut [u8])
-    requires { ⌜ 32768 ≤ length (now tables) ⌝ }
-    ensures { λ r. ⌜ now (tables .exit) ≡ zeroed 32768 (now (tables .entry)) ⌝ }
+    requires { ⌜ tablesLength ≤ length (now tables) ⌝ }
+    ensures { λ r. ⌜ now (tables .exit) ≡ zeroed tablesLength (now (tables .entry)) ⌝ }
 {
     let mut i = 0;
-    while i < 32768 {
+    while i < TABLES_LENGTH {
         tables[i] = 0;
         i += 1;
     }

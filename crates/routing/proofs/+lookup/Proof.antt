@@ -7,7 +7,7 @@ use borrow.Fn.Kinds.{In}
 use borrow.Fn.PlainCycle.{Measures, is, and}
 use borrow.Fn.PlainCycle as cycle
 use Rattle.model.specs.Memory.{digits}
-use Rattle.model.specs.Sound.{suffixOf}
+use Rattle.model.specs.Nodes.{suffixOf}
 use Rattle.model.proofs.Lookup.{arrives-is, loses-is}
 use Rattle.routing.proofs.Hops.{Hop, next-node, falls, few-hops, one-hop-more}
 use Rattle.routing.proofs.lookup.Reads as lookup

@@ -1,6 +1,6 @@
 -- `attach_level`: every level from `k` to the match has room, and a full one below `k` ends the loop. Assumes nothing.
 use Rattle.model.specs.Memory.{tableOf}
-use Rattle.model.specs.Sound.{suffixOf}
+use Rattle.model.specs.Nodes.{suffixOf}
 use Rattle.delivery_parts.proofs.Readers.{readable, network}
 use Rattle.delivery_parts.proofs.Levels.{RoomFrom, level-starts, level-under, level-goes, level-leaves, level-ends}
 use native.Mathlib.Omega.{arith}

@@ -7,8 +7,8 @@ use lib.Dec.{eqb}
 use borrow.Author.Needs.{needs}
 use Rattle.model.specs.Memory.{notifying}
 use Rattle.model.specs.Learning.{floorOf}
-use Rattle.records.specs.declared.record.Node.{Node}
-use Rattle.records.specs.Loaded.{NodeOf}
+use Rattle.state.specs.declared.record.Node.{Node}
+use Rattle.state.specs.Loaded.{NodeOf}
 use Rattle.learning.proofs.learn.floor.Statement.{statement}
 use Rattle.learning.proofs.learn.floor.Tie as tie
 

@@ -4,7 +4,7 @@ use mathlib.Core.Path.{_≡_, refl}
 use lib.ListN.{length, take}
 use Rattle.model.specs.Run as book
 use Rattle.replay_calls.specs.Coded.{firstCalls}
-use Rattle.records.specs.Lent.{memory}
+use Rattle.state.specs.Lent.{memory}
 use Rattle.replay_calls.specs.Answered.{answersTo}
 use Rattle.replay_calls.proofs.Runs.{no-calls, no-answers, next-memory, next-answers, end-memory, end-answers}
 use native.Mathlib.Omega.{arith}

@@ -4,16 +4,16 @@ use mathlib.Core.Path.{_≡_, refl}
 use native.Mathlib.Omega.{arith}
 use borrow.Author.Needs.{needs}
 use lib.ListN.{length, length-set}
-use Rattle.model.specs.Memory.{zeroed}
+use Rattle.model.specs.Memory.{zeroed, tablesLength}
 use Rattle.model.proofs.Memory.{zeroed-goes, zeroed-ends}
 use Rattle.tables.proofs.clear.clear.Statement.{statement}
 use Rattle.tables.proofs.clear.clear.Tie as tie
 
 abbrev Inv-loop : tie.InvT-loop
-Inv-loop tables₀ i₀ tables i = (i ≤ 32768) × (length tables ≡ length tables₀) × (tables ≡ zeroed i tables₀)
+Inv-loop tables₀ i₀ tables i = (i ≤ tablesLength) × (length tables ≡ length tables₀) × (tables ≡ zeroed i tables₀)
 
 abbrev μ-loop : tie.MeasureT-loop
-μ-loop tables₀ i₀ tables i = 32768 - i
+μ-loop tables₀ i₀ tables i = tablesLength - i
 
 loop-holds : tie.Need-loop-holds Inv-loop μ-loop
 loop-holds c = search needs

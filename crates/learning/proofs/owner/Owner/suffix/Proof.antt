@@ -5,7 +5,7 @@ use mathlib.Core.List.{List}
 use borrow.Author.Needs.{needs}
 use Rattle.model.specs.Ids.{commonSuffix}
 use Rattle.model.specs.Memory.{idOf}
-use Rattle.model.specs.Sound.{suffixOf}
+use Rattle.model.specs.Nodes.{suffixOf}
 use Rattle.learning.specs.declared.owner.Owner.{Owner}
 use Rattle.learning.specs.Learners.{OwnerOf}
 use Rattle.learning.proofs.owner.Owner.suffix.Statement.{statement}

@@ -1,0 +1,132 @@
+-- The earlier records of an entry are a run that ends at the cursor: what it holds of them, as it starts, enters an entry and passes a
+-- record. Assumes nothing.
+use Prim.Native.Nat.{ℕ, _+_, _≤_, _<_}
+use mathlib.Core.Path.{_≡_, refl, sym, ap, ap₂, _∙_}
+use mathlib.Core.Logic.{_≢_}
+use mathlib.Core.Bool.{Bool, true, false, cond, _&&_, _||_, or-true, or-false}
+use mathlib.Core.List.{List}
+use native.Mathlib.Decide.{ℕ-discrete}
+use native.Mathlib.Omega.{arith}
+use lib.Dec.{eqb}
+use borrow.Author.Count.{below-none, below-more}
+use borrow.Author.Tests.{eqb-true, eqb-false, eq-eqb, ne-eqb}
+use Rattle.model.specs.Loops.{anyBelow}
+use Rattle.model.specs.Memory.{hasNode, addNode}
+use Rattle.model.specs.Image.{recNeighbor}
+use Rattle.model.proofs.Loops.{all-zero, all-step, any-zero, any-step, any-false, count-zero, count-none, count-hit}
+use Rattle.model.proofs.Sets.{has-none, has-added, has-add-other}
+use Rattle.image_judging.specs.Judged.{recGood}
+use Rattle.image_judging.specs.Cursors.{recKey, ofEntry, namesIn, Tallied, Follows, Enters, started, entered, passed}
+use Rattle.image_judging.specs.declared.cursor.Cursor.{Cursor}
+
+-- nothing is read
+nothing : (im : List ℕ) (k : ℕ) → Tallied im 0 k 0 0
+nothing im k = record { count = sym (count-zero _); set = λ u l. has-none u ∙ sym (any-zero _) }
+
+pub start-follows : (im : List ℕ) → Follows im started
+start-follows im = record {
+  good = all-zero (recGood im);
+  below = below-none _;
+  last = λ l. absurd (omega arith);
+  none = λ e. refl;
+  tallied = nothing im 0;
+}
+
+-- entering an entry
+module _ (im : List ℕ) (c : Cursor) (f : Follows im c) (k : ℕ) (rises : c .key ≤ k) (is : k ≡ recKey im (c .next)) where
+  -- no record before is of a new entry
+  fresh : c .key ≢ k → (q : ℕ) → q < c .next → ofEntry im k q ≡ false
+  unfolding ofEntry
+  fresh e q l = ne-eqb (recKey im q) k (λ w. e (omega (arith, f .below q l)))
+
+  unread : c .key ≢ k → Tallied im (c .next) k 0 0
+  unfolding namesIn
+  unread e = record {
+    count = sym (count-none (c .next) (ofEntry im k) (fresh e));
+    set =
+        λ u g.
+        has-none u
+        ∙ sym (any-false (c .next) (namesIn im k u) (λ q l. ap (λ (b : Bool). b && eqb (recNeighbor im q) u) (fresh e q l)));
+  }
+
+  pub enter-enters : Enters im (entered c k)
+  unfolding entered
+  enter-enters = go (eqb (c .key) k) refl
+    where
+      go : (b : Bool) → eqb (c .key) k ≡ b → Enters im (cond b c (record { next = c .next; key = k; count = 0; named = 0 }))
+      go true e = record {
+        good = f .good;
+        below = f .below;
+        key = eqb-true (c .key) k e ∙ is;
+        tallied = f .tallied;
+      }
+      go false e = record {
+        good = f .good;
+        below = λ q l. omega (arith, f .below q l);
+        key = is;
+        tallied = unread (eqb-false (c .key) k e);
+      }
+
+pub enter-next : (c : Cursor) (k : ℕ) → entered c k .next ≡ c .next
+unfolding entered
+enter-next c k = go (eqb (c .key) k)
+  where
+    go : (b : Bool) → cond b c (record { next = c .next; key = k; count = 0; named = 0 }) .next ≡ c .next
+    go true = refl
+    go false = refl
+
+-- passing a record
+module _ (im : List ℕ) (c : Cursor) (w : Enters im c) (u : ℕ) (is : u ≡ recNeighbor im (c .next)) (l : 1 ≤ u) where
+  here : ofEntry im (c .key) (c .next) ≡ true
+  unfolding ofEntry
+  here = eq-eqb _ _ (sym (w .key))
+
+  -- the record that is passed names u alone
+  named-here : (v : ℕ) → namesIn im (c .key) v (c .next) ≡ eqb u v
+  unfolding namesIn
+  named-here v = ap₂ (λ (b : Bool) (n : ℕ). b && eqb n v) here (sym is)
+
+  named-next : (v : ℕ) → 1 ≤ v → hasNode (addNode (c .named) u) v ≡ anyBelow (c .next + 1) (namesIn im (c .key) v)
+  named-next v g = go (ℕ-discrete v u) ∙ sym (any-step (c .next) (namesIn im (c .key) v))
+    where
+      before : hasNode (c .named) v ≡ anyBelow (c .next) (namesIn im (c .key) v)
+      before = w .tallied .set v g
+
+      go : Dec (v ≡ u)
+          → hasNode (addNode (c .named) u) v ≡ (anyBelow (c .next) (namesIn im (c .key) v) || namesIn im (c .key) v (c .next))
+      go (yes e) =
+          ap (hasNode (addNode (c .named) u)) e
+          ∙ has-added (c .named) u
+          ∙ sym (or-true (anyBelow (c .next) (namesIn im (c .key) v)))
+          ∙ ap (λ (b : Bool). anyBelow (c .next) (namesIn im (c .key) v) || b) (sym (named-here v ∙ eq-eqb u v (sym e)))
+      go (no e) =
+          has-add-other (c .named) u v l g e
+          ∙ before
+          ∙ sym (or-false (anyBelow (c .next) (namesIn im (c .key) v)))
+          ∙ ap (λ (b : Bool). anyBelow (c .next) (namesIn im (c .key) v) || b) (sym (named-here v ∙ ne-eqb u v (λ q. e (sym q))))
+
+  pub pass-follows : recGood im (c .next) ≡ true → Follows im (passed c u)
+  pass-follows good = record {
+    good = all-step (c .next) (recGood im) ∙ ap₂ _&&_ (w .good) good;
+    below = below-more _ (c .next) (w .below) (omega (arith, w .key));
+    last = λ g. w .key ∙ ap (recKey im) (omega arith);
+    none = λ e. absurd (omega arith);
+    tallied = record {
+      count = count-hit (c .next) (ofEntry im (c .key)) true (c .count) (c .count + 1) (w .tallied .count) (sym here) refl refl;
+      set = named-next;
+    };
+  }
+
+-- ---- the cursors that the code makes
+
+pub enter-stays : (c : Cursor) (k : ℕ) → c .key ≡ k → c ≡ entered c k
+unfolding entered
+enter-stays c k e = rw (eq-eqb (c .key) k e)
+
+pub enter-moves : (c : Cursor) (k : ℕ) → (c .key ≡ k → ⊥) → record { next = c .next; key = k; count = 0; named = 0 } ≡ entered c k
+unfolding entered
+enter-moves c k e = rw (ne-eqb (c .key) k e)
+
+pub pass-is : (c : Cursor) (u n : ℕ) → n ≡ addNode (c .named) u
+    → record { next = c .next + 1; key = c .key; count = c .count + 1; named = n } ≡ passed c u
+pass-is c u n e = rw e

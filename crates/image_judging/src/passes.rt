@@ -1,0 +1,64 @@
+// The records of an image: 9 over all of them, then 10 in one pass from front to back and one that marks the own entries.
+ghost use mathlib.Core.Path.{_≡_};
+ghost use Rattle.model.specs.Loops.{allBelow};
+ghost use Rattle.model.specs.Image.{imRecords, recNodesGood, recordsGood};
+ghost use Rattle.image_fields.specs.Parts.{Headed};
+ghost use Rattle.image_judging.specs.Judged.{Named, recGood};
+use crate::cursor::Cursor;
+use crate::cursor::Finding;
+use crate::own;
+use image_fields::header::Header;
+use image_fields::record;
+
+// Not 9: "A member number, in a call or a record, is 0 or above the member count."
+pub fn named(image: &[u8], h: Header) -> bool
+    requires { ⌜ Headed (now image) h ⌝ }
+    ensures { λ r. ⌜ r ≡ allBelow (imRecords (now (image .entry))) (recNodesGood (now (image .entry))) ⌝ }
+{
+    let mut r = 0;
+    while r < h.records {
+        if !record::nodes_good(image, h, r) {
+            return false;
+        }
+        r += 1;
+    }
+    true
+}
+
+// Each record keeps its order and the table rules.
+fn each_good(image: &[u8], h: Header) -> bool
+    requires { ⌜ Headed (now image) h ⌝ }
+    requires { ⌜ Named (now image) ⌝ }
+    ensures { λ r. ⌜ r ≡ allBelow (imRecords (now (image .entry))) (recGood (now (image .entry))) ⌝ }
+{
+    let mut c = Cursor::start();
+    while c.next < h.records {
+        match c.read(image, h) {
+            Finding::Good(past) => {
+                c = past;
+            }
+            Finding::Disordered => {
+                return false;
+            }
+            Finding::Forbidden => {
+                return false;
+            }
+            Finding::OwnerNotFirst => {
+                return false;
+            }
+        }
+    }
+    true
+}
+
+// Not 10: "Image records break their order or the table rules."
+pub fn good(image: &[u8], h: Header) -> bool
+    requires { ⌜ Headed (now image) h ⌝ }
+    requires { ⌜ Named (now image) ⌝ }
+    ensures { λ r. ⌜ r ≡ recordsGood (now (image .entry)) ⌝ }
+{
+    if !each_good(image, h) {
+        return false;
+    }
+    own::have_records(image, h)
+}

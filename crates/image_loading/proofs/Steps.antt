@@ -1,0 +1,94 @@
+-- Loading step by step: each record can be appended to its entry, and appending it is the book's step. Assumes nothing.
+use Prim.Native.Nat.{ℕ, _+_, _-_, _*_, _<_}
+use mathlib.Core.Path.{_≡_, sym, ap, ap₂, _∙_}
+use mathlib.Core.List.{List}
+use native.Mathlib.Nat.{le-of-eq}
+use native.Mathlib.Omega.{arith}
+use lib.ListN.{length, set, replicate, length-replicate}
+use Rattle.model.specs.Loops.{eachBelow}
+use Rattle.model.specs.Memory.{depth, zeroed, tableOf, withTable, stateLength, tablesLength}
+use Rattle.model.specs.Tables.{entrySize, append}
+use Rattle.model.specs.Join.{withSettings}
+use Rattle.model.specs.Image.{imBase, imDigits, imDepth, imNodes, imId, imRecords, loadId, loadRecord, loaded}
+use Rattle.model.proofs.Memory.{zeroed-length, table-set}
+use Rattle.model.proofs.Loading.{Readable, Words, words-loaded, record-ok, record-room}
+use Rattle.image_fields.specs.declared.header.Header.{Header}
+use Rattle.image_fields.specs.declared.record.Record.{Record}
+use Rattle.image_fields.specs.Parts.{Headed, RecordOf, Small}
+use Rattle.state.specs.Lent.{memory}
+use Rattle.image_loading.specs.Loads.{Loads, Fills, Appends}
+
+pub id-step : (im s : List ℕ) (k v : ℕ) → v ≡ imId im (k + 1) → set s (8 * (k + 1)) v ≡ loadId im k s
+id-step im s k v e = ap (set s (8 * (k + 1))) e
+
+-- ---- one record
+
+-- appending to an entry of node x's table stores one byte of the table memory
+module _ (t T : List ℕ) (K x i j u k : ℕ) (a : Appends t K x i j u) (lent : T ≡ tableOf t x) (is : k ≡ entrySize K T i j) where
+  e : k ≡ entrySize K (tableOf t x) i j
+  e = is ∙ ap (λ (T : List ℕ). entrySize K T i j) lent
+
+  pub append-place : 512 * (x - 1) + (64 * i + 4 * j + k) < length t
+  append-place = omega (arith, a .long, a .first, a .last, a .level, a .digit, a .deep, a .room, e)
+
+  pub appended : set t (512 * (x - 1) + (64 * i + 4 * j + k)) u ≡ withTable t x (append K (tableOf t x) i j u)
+  unfolding append
+  appended =
+      ap (λ (k : ℕ). set t (512 * (x - 1) + (64 * i + 4 * j + k)) u) e
+      ∙ sym
+      (table-set t x (64 * i + 4 * j + entrySize K (tableOf t x) i j) u (omega (arith, a .long, a .first, a .last))
+      (omega (arith, a .level, a .digit, a .deep, a .room)))
+
+-- the step of record r
+pub record-step : (im t t′ : List ℕ) (h : Header) (r : ℕ) (q : Record) → Headed im h → RecordOf im r q
+    → t′ ≡ withTable t (q .node) (append (h .depth) (tableOf t (q .node)) (q .level) (q .digit) (q .neighbor)) → t′ ≡ loadRecord im r t
+unfolding loadRecord
+record-step im t t′ h r q k o e = rw (← (o .node), ← (o .level), ← (o .digit), ← (o .neighbor), ← (k .depth)) e
+
+-- ---- what a record asks, by the rules that reading judged
+
+module _ (im t₁ : List ℕ) (F : Fills t₁ im) where
+  R : Readable im
+  R = F .readable
+
+  -- the words of a state that the image gives
+  words : Words im (eachBelow (imNodes im) (loadId im) (withSettings (zeroed stateLength (replicate stateLength 0)) (imBase im) (imDigits im) (imDepth im) (imNodes im)))
+  words = words-loaded im (replicate stateLength 0) R (le-of-eq (sym (length-replicate {A = ℕ} stateLength 0)))
+
+  pub appends : (r : ℕ) (h : Header) (t : List ℕ) (q : Record) → Headed im h → r < h .records → length t ≡ length t₁
+      → t ≡ eachBelow r (loadRecord im) t₁ → RecordOf im r q → Small q → Appends t (h .depth) (q .node) (q .level) (q .digit) (q .neighbor)
+  appends r h t q k below l e o b =
+      let ok = record-ok im _ R words r (omega (arith, k .records, below)) in
+      record {
+        long = omega (arith, l, ap length (F .clear), zeroed-length tablesLength (F .before) (F .long), F .long);
+        first = omega (arith, o .node, ok .owner .low);
+        last = omega (arith, o .node, ok .owner .high, words .settings .count, R .few);
+        level = omega (arith, o .level, ok .level, words .settings .digits, R .range .digits-most);
+        digit = omega (arith, o .digit, ok .digit, words .settings .base, R .range .base-most);
+        deep = omega (arith, k .depth, R .range .depth-most);
+        room = room;
+        byte = b .neighbor;
+      }
+    where
+      room : entrySize (h .depth) (tableOf t (q .node)) (q .level) (q .digit) < h .depth
+      room =
+          rw (e, F .clear, k .depth, o .node, o .level, o .digit, ← (words .settings .depth))
+          (record-room im _ R words (F .before) (F .long) r (omega (arith, k .records, below)))
+
+-- ---- the whole
+
+pub loaded-is : (s t im s₁ s₂ s₃ t₁ t₂ : List ℕ) (h : Header) → Headed im h → s₁ ≡ zeroed stateLength s
+    → s₂ ≡ withSettings s₁ (h .base) (h .digits) (h .depth) (h .nodes) → s₃ ≡ eachBelow (imNodes im) (loadId im) s₂
+    → t₁ ≡ zeroed tablesLength t → t₂ ≡ eachBelow (imRecords im) (loadRecord im) t₁ → memory s₃ t₂ ≡ loaded s t im
+unfolding loaded
+loaded-is s t im s₁ s₂ s₃ t₁ t₂ h o e₁ e₂ e₃ f₁ f₂ =
+    ap₂ memory (e₃ ∙ ap (eachBelow (imNodes im) (loadId im)) (e₂ ∙ ap (λ (s : List ℕ). withSettings s (h .base) (h .digits) (h .depth) (h .nodes)) e₁ ∙ head))
+    (f₂ ∙ ap (eachBelow (imRecords im) (loadRecord im)) f₁)
+  where
+    head : withSettings (zeroed stateLength s) (h .base) (h .digits) (h .depth) (h .nodes) ≡ withSettings (zeroed stateLength s) (imBase im) (imDigits im) (imDepth im) (imNodes im)
+    head =
+        ap₂ (λ (b d : ℕ). withSettings (zeroed stateLength s) b d (h .depth) (h .nodes)) (o .base) (o .digits)
+        ∙ ap₂ (λ (K n : ℕ). withSettings (zeroed stateLength s) (imBase im) (imDigits im) K n) (o .depth) (o .nodes)
+
+pub fills : (s t t₁ im : List ℕ) → Loads s t im → t₁ ≡ zeroed tablesLength t → Fills t₁ im
+fills s t t₁ im L e = record { before = t; long = L .tables; clear = e; readable = L .readable }

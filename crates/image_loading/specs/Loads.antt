@@ -1,0 +1,34 @@
+-- What loading asks of the image, and of the memory that it is loaded into.
+use Prim.Native.Nat.{ℕ, _≤_, _<_}
+use mathlib.Core.Path.{_≡_}
+use mathlib.Core.List.{List}
+use lib.ListN.{length}
+use Rattle.model.specs.Memory.{zeroed, tableOf, stateLength, tablesLength}
+use Rattle.model.specs.Tables.{entrySize}
+use Rattle.model.proofs.Loading.{Readable}
+use Rattle.image_fields.specs.Parts.{Counted}
+
+-- the image is one that reading takes, and the memory is long enough
+pub record Loads (s t im : List ℕ) : Type 0 where
+  pub state : stateLength ≤ length s
+  pub tables : tablesLength ≤ length t
+  pub counted : Counted im
+  pub readable : Readable im
+
+-- the table memory is cleared, and the image is one that reading takes
+pub record Fills (t im : List ℕ) : Type 0 where
+  pub before : List ℕ
+  pub long : tablesLength ≤ length before
+  pub clear : t ≡ zeroed tablesLength before
+  pub readable : Readable im
+
+-- u can be appended to entry (i, j) of node x in t
+pub record Appends (t : List ℕ) (K x i j u : ℕ) : Type 0 where
+  pub long : tablesLength ≤ length t
+  pub first : 1 ≤ x
+  pub last : x ≤ 64
+  pub level : i < 8
+  pub digit : j < 16
+  pub deep : K ≤ 4
+  pub room : entrySize K (tableOf t x) i j < K
+  pub byte : u < 256
