@@ -12,9 +12,9 @@ use Rattle.model.specs.Tables.{entrySize}
 use Rattle.model.specs.Consistency.{entryWhole, levelWhole, entryShort, levelShort}
 use Rattle.model.proofs.Loops.{all-same, first-same}
 use Rattle.model.proofs.Sound.{Sound, id-fits}
-use Rattle.consistency.specs.Counted.{Readable, Tallied, meets, misses, levelMisses}
+use Rattle.consistency.specs.Counted.{IdsReadable, EntryCounts, meets, misses, levelMisses}
 
-pub readable : (s t : List ℕ) → Sound s t → Readable s
+pub readable : (s t : List ℕ) → Sound s t → IdsReadable s
 readable s t S = record {
   long = S .long .state;
   few = S .few;
@@ -24,7 +24,7 @@ readable s t S = record {
 }
 
 module _ (s t : List ℕ) (S : Sound s t) (x K b : ℕ) (T C : List ℕ) (eK : K ≡ depth s) (eb : b ≡ base s) (eT : T ≡ tableOf t x)
-    (w : Tallied s x C) where
+    (w : EntryCounts s x C) where
   judged-entry : (i j : ℕ) → i < digits s → j < base s → meets K T C i j ≡ entryWhole s t x i j
   unfolding meets entryWhole
   judged-entry i j hi hj =

@@ -22,7 +22,7 @@ use Rattle.model.specs.Consistency.{howMany}
 use Rattle.model.proofs.Bools.{true-or-false, same-test, is-false, le-or-lt}
 use Rattle.model.proofs.Loops.{count-zero, count-step, count-le, count-ends, count-same, each-zero, each-step, each-leads}
 use Rattle.model.proofs.Ids.{digit-lt, low-zero, qualified-of, qualified-digit, qualified-suffix}
-use Rattle.consistency.specs.Counted.{place, Room, countAt, countAbove, endsIn, Level0, Tallied}
+use Rattle.consistency.specs.Counted.{place, Room, countAt, countAbove, endsIn, Level0, EntryCounts}
 
 -- ---- one node
 
@@ -254,7 +254,7 @@ module _ (s : List ℕ) (x : ℕ) (few : digits s ≤ 8) where
           (ap (λ (t : Bool). not t && qualified a b i j) (ne-eqb i 0 nz) ∙ ap₂ (λ (a b : ℕ). qualified a b i j) ea eb)
           ∙ sym (count-step k (node (qualifies s x i j)))
 
-  pub counts-ends : (k n : ℕ) (C : List ℕ) → Counts s x k C → n ≡ nodeCount s → k ≤ n → n ≤ k → Tallied s x C
+  pub counts-ends : (k n : ℕ) (C : List ℕ) → Counts s x k C → n ≡ nodeCount s → k ≤ n → n ≤ k → EntryCounts s x C
   unfolding howMany
   counts-ends k n C w e l g = record { counted = λ i j hi hj. all i j hi hj (ℕ-discrete i 0) }
     where

@@ -18,7 +18,7 @@ abbrev pub place : ℕ → ℕ → ℕ
 place i j = 16 * i + j
 
 -- the ids can be read
-pub record Readable (s : List ℕ) : Type 0 where
+pub record IdsReadable (s : List ℕ) : Type 0 where
   pub long : stateLength ≤ length s
   pub few : nodeCount s ≤ 64
   pub some : 1 ≤ digits s
@@ -51,7 +51,7 @@ pub record Level0 (s C : List ℕ) : Type 0 where
   pub none : (i j : ℕ) → 1 ≤ i → i < 8 → j < 16 → getD C (place i j) 0 ≡ 0
 
 -- every entry of x has its count
-pub record Tallied (s : List ℕ) (x : ℕ) (C : List ℕ) : Type 0 where
+pub record EntryCounts (s : List ℕ) (x : ℕ) (C : List ℕ) : Type 0 where
   pub counted : (i j : ℕ) → i < digits s → j < 16 → getD C (place i j) 0 ≡ howMany s x i j
 
 -- entry (i, j) holds the smaller of K and its count

@@ -5,7 +5,7 @@ ghost use Prim.Native.Nat.{_+_, min};
 ghost use Rattle.model.specs.Loops.{eachBelow};
 ghost use Rattle.model.specs.Ids.{commonSuffix};
 ghost use Rattle.model.proofs.Status.{IsNode};
-ghost use Rattle.consistency.specs.Counted.{Readable, Room, countAbove, Level0, Tallied};
+ghost use Rattle.consistency.specs.Counted.{IdsReadable, Room, countAbove, Level0, EntryCounts};
 use ident::common_suffix;
 use ident::digit;
 use state::record;
@@ -34,7 +34,7 @@ fn count_node(counts: &mut [u8; 128], levels: usize, y: u32)
 
 // Level 0, for every owner: how many nodes have each digit there. The other places are zero.
 pub fn level_0(state: &[u64]) -> [u8; 128]
-    requires { ⌜ Readable (now state) ⌝ }
+    requires { ⌜ IdsReadable (now state) ⌝ }
     ensures { λ r. ⌜ Level0 (now (state .entry)) r ⌝ }
 {
     let nodes = settings::load(state).nodes;
@@ -50,10 +50,10 @@ pub fn level_0(state: &[u64]) -> [u8; 128]
 
 // "H being how many members qualify, the owner included", for each entry of x.
 pub fn tally(state: &[u64], level_0: [u8; 128], x: usize) -> [u8; 128]
-    requires { ⌜ Readable (now state) ⌝ }
+    requires { ⌜ IdsReadable (now state) ⌝ }
     requires { ⌜ Level0 (now state) level_0 ⌝ }
     requires { ⌜ IsNode (now state) x ⌝ }
-    ensures { λ r. ⌜ Tallied (now (state .entry)) x r ⌝ }
+    ensures { λ r. ⌜ EntryCounts (now (state .entry)) x r ⌝ }
 {
     let s = settings::load(state);
     let owner = record::id(state, x) as u32;

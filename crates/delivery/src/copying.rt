@@ -6,8 +6,8 @@ ghost use Rattle.model.specs.Join.{deliverCopying};
 ghost use Rattle.state.specs.Loaded.{bookNode};
 ghost use Rattle.delivery_parts.specs.Answers.{outcome, tookDelivery};
 ghost use Rattle.delivery_parts.specs.Delivers.{Delivers};
-use delivery_parts::answer::Answer;
-use delivery_parts::answer::Step;
+use answers::DeliverAnswer;
+use answers::Kind;
 use delivery_parts::meeting::learn_from;
 use delivery_parts::nodes::joining_node;
 use delivery_parts::room::suffix_entry;
@@ -32,15 +32,15 @@ fn next_request(state: &[u64], tables: &[u8], x: usize, y: usize) -> Node
     joining_node(id, Status::WAITING, first)
 }
 
-pub fn deliver_copying(state: &mut [u64], tables: &mut [u8], x: usize, y: usize) -> Answer
+pub fn deliver_copying(state: &mut [u64], tables: &mut [u8], x: usize, y: usize) -> DeliverAnswer
     requires { ⌜ Delivers (now state) (now tables) x y ⌝ }
     ensures { λ r. ⌜ outcome (now (state .exit)) (now (tables .exit)) r ≡ tookDelivery (now (state .entry)) (now (tables .entry)) x y (deliverCopying (now (state .entry)) x y (tableOf (now (tables .entry)) x) (tableOf (now (tables .entry)) y)) ⌝ }
 {
     let node = next_request(state, tables, x, y);
     learn_from(state, tables, x, y);
     record::store(state, x, node);
-    Answer {
-        step: Step::Copied,
+    DeliverAnswer {
+        kind: Kind::Copied,
         settled: false,
     }
 }

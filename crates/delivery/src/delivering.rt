@@ -6,13 +6,13 @@ ghost use Rattle.model.proofs.Delivered.{CanDeliver};
 ghost use Rattle.delivery_parts.specs.Answers.{outcome, tookDelivery};
 use crate::copying::deliver_copying;
 use crate::notifying::deliver_notifying;
-use delivery_parts::answer::Answer;
-use delivery_parts::answer::Step;
+use answers::DeliverAnswer;
+use answers::Kind;
 use delivery_waiting::deliver_waiting;
 use state::record;
 
 // The delivery of an outstanding request from x to y. A settled node has none, and no other number is a status.
-pub fn deliver(state: &mut [u64], tables: &mut [u8], x: usize, y: usize) -> Answer
+pub fn deliver(state: &mut [u64], tables: &mut [u8], x: usize, y: usize) -> DeliverAnswer
     requires { ⌜ Sound (now state) (now tables) ⌝ }
     requires { ⌜ CanDeliver (now state) x y ⌝ }
     ensures { λ r. ⌜ outcome (now (state .exit)) (now (tables .exit)) r ≡ tookDelivery (now (state .entry)) (now (tables .entry)) x y (delivery (now (state .entry)) (now (tables .entry)) x y) ⌝ }
@@ -22,8 +22,8 @@ pub fn deliver(state: &mut [u64], tables: &mut [u8], x: usize, y: usize) -> Answ
         1 => deliver_copying(state, tables, x, y),
         2 => deliver_waiting(state, tables, x, y),
         3 => deliver_notifying(state, tables, x, y),
-        0 | 4..=0xffff_ffff_ffff_ffff => Answer {
-            step: Step::Refused(13),
+        0 | 4..=0xffff_ffff_ffff_ffff => DeliverAnswer {
+            kind: Kind::Refused(13),
             settled: false,
         },
     }

@@ -5,8 +5,8 @@ ghost use Rattle.model.specs.Memory.{tableOf};
 ghost use Rattle.model.specs.Join.{deliverNotifying};
 ghost use Rattle.delivery_parts.specs.Answers.{outcome, tookDelivery};
 ghost use Rattle.delivery_parts.specs.Delivers.{Delivers, Meets, told};
-use delivery_parts::answer::Answer;
-use delivery_parts::answer::Step;
+use answers::DeliverAnswer;
+use answers::Kind;
 use delivery_parts::meeting::gather_from;
 use delivery_parts::meeting::learn_from;
 use delivery_parts::meeting::teach;
@@ -23,7 +23,7 @@ fn notify(state: &[u64], tables: &mut [u8], x: usize, y: usize)
     learn_from(state, tables, x, y);
 }
 
-pub fn deliver_notifying(state: &mut [u64], tables: &mut [u8], x: usize, y: usize) -> Answer
+pub fn deliver_notifying(state: &mut [u64], tables: &mut [u8], x: usize, y: usize) -> DeliverAnswer
     requires { ⌜ Delivers (now state) (now tables) x y ⌝ }
     ensures { λ r. ⌜ outcome (now (state .exit)) (now (tables .exit)) r ≡ tookDelivery (now (state .entry)) (now (tables .entry)) x y (deliverNotifying (now (state .entry)) x y (tableOf (now (tables .entry)) x) (tableOf (now (tables .entry)) y)) ⌝ }
 {
@@ -33,8 +33,8 @@ pub fn deliver_notifying(state: &mut [u64], tables: &mut [u8], x: usize, y: usiz
     notify(state, tables, x, y);
     let asked = gather_from(state, tables, x, y, node.level as usize, told, left);
     let settled = store_notifying(state, x, node.level, asked, told);
-    Answer {
-        step: Step::Notified,
+    DeliverAnswer {
+        kind: Kind::Notified,
         settled,
     }
 }

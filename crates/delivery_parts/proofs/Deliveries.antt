@@ -20,7 +20,7 @@ use Rattle.model.proofs.Delivered.{CanDeliver}
 use Rattle.model.proofs.Memory.{node-stored}
 use Rattle.state.specs.declared.record.Node.{Node}
 use Rattle.state.specs.Loaded.{NodeOf, bookNode}
-use Rattle.delivery_parts.specs.declared.answer.Step.the-variants.{Copied, SentOn, Attached, Notified}
+use Rattle.answers.specs.declared.Kind.the-variants.{Copied, SentOn, Attached, Notified}
 use Rattle.delivery_parts.specs.declared.room.SuffixEntry.{SuffixEntry}
 use Rattle.delivery_parts.specs.Answers.{outcome, tookDelivery}
 use Rattle.delivery_parts.specs.Delivers.{Delivers, Meets, EntryOf, exchanged, told as told-tables, attaching}
@@ -102,7 +102,7 @@ module _ (s t : List ℕ) (x y : ℕ) (d : Delivers s t x y) where
 
   pub copied-is : (s₁ t₁ : List ℕ) (r : Node) → bookNode r ≡ deliverCopying s x y (tableOf t x) (tableOf t y) .sender
       → t₁ ≡ withTable t x (learnTable s x (tableOf t y) (tableOf t x)) → s₁ ≡ withNode s x (bookNode r)
-      → outcome s₁ t₁ (record { step = Copied; settled = false }) ≡ tookDelivery s t x y (deliverCopying s x y (tableOf t x) (tableOf t y))
+      → outcome s₁ t₁ (record { kind = Copied; settled = false }) ≡ tookDelivery s t x y (deliverCopying s x y (tableOf t x) (tableOf t y))
   unfolding deliverCopying
   copied-is s₁ t₁ r er et es =
       left s t s₁ t₁ x y (deliverCopying s x y (tableOf t x) (tableOf t y)) _ (es ∙ ap (withNode s x) er) (kept t₁ _ et)
@@ -119,7 +119,7 @@ module _ (s t : List ℕ) (x y : ℕ) (d : Delivers s t x y) where
 
   pub sent-on-is : (s₁ t₁ : List ℕ) (r : Node) (id v : ℕ) → id ≡ idOf s x → v ≡ firstAtSuffix s (tableOf t y) x y
       → t₁ ≡ withTable t x (learnTable s x (tableOf t y) (tableOf t x)) → bookNode r ≡ joiningNode id waiting v → s₁ ≡ withNode s x (bookNode r)
-      → outcome s₁ t₁ (record { step = SentOn; settled = false }) ≡ tookDelivery s t x y (deliverSentOn s x y (tableOf t x) (tableOf t y))
+      → outcome s₁ t₁ (record { kind = SentOn; settled = false }) ≡ tookDelivery s t x y (deliverSentOn s x y (tableOf t x) (tableOf t y))
   unfolding deliverSentOn
   sent-on-is s₁ t₁ r id v ei ev et er es =
       left s t s₁ t₁ x y (deliverSentOn s x y (tableOf t x) (tableOf t y)) _
@@ -154,7 +154,7 @@ module _ (s t : List ℕ) (x y : ℕ) (d : Delivers s t x y) where
   pub attached-is : (s₁ s₂ t₁ : List ℕ) (k told asked : ℕ) (b : Bool) → k ≡ k₀ → s₁ ≡ withNode s x (attaching (idOf s x) k (addNode 0 y))
       → t₁ ≡ exchanged s₁ t x y → told ≡ told₀ → asked ≡ gather s₁ x k told (tableOf t₁ y) (gather s₁ x k told (tableOf t₁ x) 0)
       → s₂ ≡ withNode s₁ x (notifyingNode (idOf s₁ x) k asked told) → b ≡ eqb asked 0
-      → outcome s₂ t₁ (record { step = Attached k; settled = b }) ≡ tookDelivery s t x y (deliverAttached s x y (tableOf t x) (tableOf t y))
+      → outcome s₂ t₁ (record { kind = Attached k; settled = b }) ≡ tookDelivery s t x y (deliverAttached s x y (tableOf t x) (tableOf t y))
   unfolding deliverAttached
   attached-is s₁ s₂ t₁ k told asked b ek e₁ et eT ea e₂ eb =
       let w : s₁ ≡ s₀ = cc in
@@ -172,7 +172,7 @@ module _ (s t : List ℕ) (x y : ℕ) (d : Delivers s t x y) where
   pub notified-is : (s₁ t₁ : List ℕ) (q : Node) (told rest asked : ℕ) (b : Bool) → NodeOf s x q → told ≡ addNode (q .notified) y
       → rest ≡ removeNode (q .pending) y → t₁ ≡ told-tables s t x y → asked ≡ gather s x (q .level) told (tableOf t₁ y) rest
       → s₁ ≡ withNode s x (notifyingNode (idOf s x) (q .level) asked told) → b ≡ eqb asked 0
-      → outcome s₁ t₁ (record { step = Notified; settled = b }) ≡ tookDelivery s t x y (deliverNotifying s x y (tableOf t x) (tableOf t y))
+      → outcome s₁ t₁ (record { kind = Notified; settled = b }) ≡ tookDelivery s t x y (deliverNotifying s x y (tableOf t x) (tableOf t y))
   unfolding deliverNotifying
   notified-is s₁ t₁ q told rest asked b o eT er et ea es eb =
       let told₁ : ℕ = addNode (notifiedOf s x) y in

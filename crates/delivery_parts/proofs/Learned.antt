@@ -9,8 +9,8 @@ use Rattle.model.specs.Learning.{learn, learnTable}
 use Rattle.model.specs.Join.{gather}
 use Rattle.model.proofs.Memory.{stored-same, stored-other, stored-length}
 use Rattle.model.proofs.Status.{IsNode}
-use Rattle.learning.specs.declared.owner.Owner.{Owner}
-use Rattle.learning.specs.Learners.{OwnerOf, ReadableTable, Learns, LearnsTable}
+use Rattle.learning.specs.declared.learner.Learner.{Learner}
+use Rattle.learning.specs.Learners.{LearnerOf, TableReadable, Learns, LearnsTable}
 use Rattle.delivery_parts.specs.Delivers.{NodesIn, Meets, Gathers, exchanged, told}
 use Rattle.delivery_parts.proofs.Readers.{learns, learns-table, readable-table, learn-nodes, learn-table-nodes}
 
@@ -34,15 +34,15 @@ pub gathered-is : (s t Y : List ℕ) (x z n k told nodes r : ℕ) → n ≡ x �
 gathered-is s t Y x z n k told nodes r en eY e = cc
 
 module _ (s t : List ℕ) (x z : ℕ) (g : Gathers s t x z) where
-  pub gathers : (Y : List ℕ) → Y ≡ tableOf t z → ReadableTable s Y
+  pub gathers : (Y : List ℕ) → Y ≡ tableOf t z → TableReadable s Y
   gathers Y e = readable-table s (g .network) Y (subst (NodesIn s) (sym e) (g .nodes))
 
 module _ (s t : List ℕ) (x y : ℕ) (m : Meets s t x y) where
-  pub learns-theirs : (r : Owner) (Y : List ℕ) → r .number ≡ x → OwnerOf s r → Y ≡ tableOf t y → LearnsTable s r Y
+  pub learns-theirs : (r : Learner) (Y : List ℕ) → r .number ≡ x → LearnerOf s r → Y ≡ tableOf t y → LearnsTable s r Y
   learns-theirs r Y e o eY =
       learns-table s (m .network) r x Y e o (m .sender) (subst (NodesIn s) (sym eY) (m .theirs))
 
-  pub learns-sender : (r : Owner) → r .number ≡ y → OwnerOf s r → Learns s r x
+  pub learns-sender : (r : Learner) → r .number ≡ y → LearnerOf s r → Learns s r x
   learns-sender r e o = learns s (m .network) r y x e o (m .receiver) (m .sender) (λ q. m .other (sym q))
 
   pub gathers-own : Gathers s t x x

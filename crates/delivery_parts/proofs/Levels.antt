@@ -19,23 +19,23 @@ use Rattle.model.proofs.Loops.{all-of, all-at, all-false, first-unique}
 use Rattle.model.proofs.Tables.{size-filled}
 use Rattle.model.proofs.Delivering.{suffix-below}
 use Rattle.state.specs.Loaded.{Placed}
-use Rattle.learning.specs.declared.owner.Owner.{Owner}
+use Rattle.learning.specs.declared.learner.Learner.{Learner}
 use Rattle.tables.specs.Places.{Entry}
-use Rattle.learning.specs.Learners.{OwnerOf}
+use Rattle.learning.specs.Learners.{LearnerOf}
 use Rattle.delivery_parts.specs.declared.room.SuffixEntry.{SuffixEntry}
 use Rattle.delivery_parts.specs.Delivers.{Delivers, Level, roomAt, EntryOf}
 use Rattle.delivery_parts.proofs.Readers.{nodes-in}
 
 -- ---- the entry at the match
 
-module _ (s t : List ℕ) (x y : ℕ) (d : Delivers s t x y) (r : Owner) (e : r .number ≡ x) where
+module _ (s t : List ℕ) (x y : ℕ) (d : Delivers s t x y) (r : Learner) (e : r .number ≡ x) where
   match-below : (h : ℕ) → h ≡ suffixOf s (r .number) y → h < 8
   match-below h eh =
       let w : h ≡ suffixOf s x y = eh ∙ ap (λ (z : ℕ). suffixOf s z y) e in
       omega (arith, w, suffix-below s t (d .sound) x y (d .sender) (d .receiver) (d .other), d .sound .settings .digits-most)
 
   -- the level of y's table at the match
-  pub level-at : (Y : List ℕ) (h : ℕ) → OwnerOf s r → length Y ≡ 512 → h ≡ suffixOf s (r .number) y → Level Y (r .depth) h
+  pub level-at : (Y : List ℕ) (h : ℕ) → LearnerOf s r → length Y ≡ 512 → h ≡ suffixOf s (r .number) y → Level Y (r .depth) h
   level-at Y h o l eh = record {
     long = omega (arith, l);
     depth = omega (arith, o .depth, d .sound .settings .depth-most);
@@ -46,13 +46,13 @@ module _ (s t : List ℕ) (x y : ℕ) (d : Delivers s t x y) (r : Owner) (e : r 
   entry-at Y h j l eh g = record { long = omega (arith, l); depth = omega arith; level = match-below h eh; digit = g }
 
 -- what is read with x's id is what the book says
-room-is : (s : List ℕ) (r : Owner) (x : ℕ) (Y T : List ℕ) (i : ℕ) → r .number ≡ x → OwnerOf s r → Y ≡ T
+room-is : (s : List ℕ) (r : Learner) (x : ℕ) (Y T : List ℕ) (i : ℕ) → r .number ≡ x → LearnerOf s r → Y ≡ T
     → roomAt (r .depth) Y (r .id) i ≡ hasRoom s T x i
 room-is s r x Y T i e o q =
     let id : r .id ≡ idOf s x = o .id ∙ ap (idOf s) e in
     let K : r .depth ≡ depth s = o .depth in cc
 
-pub entry-of : (s t : List ℕ) (x y : ℕ) (r : Owner) (Y : List ℕ) (h j v : ℕ) (b : Bool) → r .number ≡ x → OwnerOf s r → h ≡ suffixOf s (r .number) y
+pub entry-of : (s t : List ℕ) (x y : ℕ) (r : Learner) (Y : List ℕ) (h j v : ℕ) (b : Bool) → r .number ≡ x → LearnerOf s r → h ≡ suffixOf s (r .number) y
     → Y ≡ tableOf t y → b ≡ roomAt (r .depth) Y (r .id) h → j ≡ digitOf (r .id) h → v ≡ firstOf Y h j
     → EntryOf s t x y (record { room = b; first = v })
 entry-of s t x y r Y h j v b e o eh eY eb ej ev =
@@ -128,7 +128,7 @@ module _ (s T : List ℕ) (x h : ℕ) where
       first-level 0 (subst (RoomFrom s T x h) w f) (λ m q. absurd (omega arith))
 
 -- the same over what the code has read
-module _ (s t : List ℕ) (x y : ℕ) (r : Owner) (e : r .number ≡ x) (o : OwnerOf s r) (Y : List ℕ) (eY : Y ≡ tableOf t y) where
+module _ (s t : List ℕ) (x y : ℕ) (r : Learner) (e : r .number ≡ x) (o : LearnerOf s r) (Y : List ℕ) (eY : Y ≡ tableOf t y) where
   pub level-starts : (h : ℕ) → h ≡ suffixOf s (r .number) y → roomAtSuffix s (tableOf t y) x y ≡ true
       → RoomFrom s (tableOf t y) x (suffixOf s x y) h
   level-starts h eh b =
@@ -146,7 +146,7 @@ module _ (s t : List ℕ) (x y : ℕ) (r : Owner) (e : r .number ≡ x) (o : Own
       leaves s (tableOf t y) x (suffixOf s x y) k some f (sym (room-is s r x Y (tableOf t y) (k - 1) e o eY) ∙ sym q ∙ not-true b g)
 
 -- a level below k
-pub level-under : (s t : List ℕ) (x y : ℕ) → Delivers s t x y → (r : Owner) (Y T : List ℕ) (k : ℕ) → OwnerOf s r → length Y ≡ 512
+pub level-under : (s t : List ℕ) (x y : ℕ) → Delivers s t x y → (r : Learner) (Y T : List ℕ) (k : ℕ) → LearnerOf s r → length Y ≡ 512
     → RoomFrom s T x (suffixOf s x y) k → Level Y (r .depth) (k - 1)
 level-under s t x y d r Y T k o l f = record {
   long = omega (arith, l);

@@ -21,16 +21,16 @@ use Rattle.model.proofs.Delivering.{own, suffix-below}
 use Rattle.model.proofs.Replaced.{Agree, agree-node, agree-id, agree-count}
 use Rattle.model.proofs.Memory.{node-length}
 use Rattle.state.specs.Loaded.{Placed}
-use Rattle.learning.specs.declared.owner.Owner.{Owner}
-use Rattle.learning.specs.Learners.{Readable, OwnerOf, ReadableTable, Learns, LearnsTable}
+use Rattle.learning.specs.declared.learner.Learner.{Learner}
+use Rattle.learning.specs.Learners.{NodeReadable, LearnerOf, TableReadable, Learns, LearnsTable}
 use Rattle.delivery_parts.specs.Delivers.{Delivers, Network, NodesIn, Meets, attaching}
 
 -- ---- a node can be read and learned
 
-pub readable : (s : List ℕ) → Network s → (u : ℕ) → IsNode s u → Readable s u
+pub readable : (s : List ℕ) → Network s → (u : ℕ) → IsNode s u → NodeReadable s u
 readable s n u k = record { long = n .long; first = k .low; last = omega (arith, n .few, k .high); short = n .ids u k }
 
-pub learns : (s : List ℕ) → Network s → (r : Owner) (z u : ℕ) → r .number ≡ z → OwnerOf s r → IsNode s z → IsNode s u → u ≢ z → Learns s r u
+pub learns : (s : List ℕ) → Network s → (r : Learner) (z u : ℕ) → r .number ≡ z → LearnerOf s r → IsNode s z → IsNode s u → u ≢ z → Learns s r u
 learns s n r z u e o nz nu ne = record {
   learner = o;
   deep = n .deep;
@@ -38,14 +38,14 @@ learns s n r z u e o nz nu ne = record {
   suffix = subst (λ (z : ℕ). suffixOf s z u < 8) (sym e) (n .apart z u nz nu ne);
 }
 
-pub learns-table : (s : List ℕ) → Network s → (r : Owner) (z : ℕ) (Y : List ℕ) → r .number ≡ z → OwnerOf s r → IsNode s z → NodesIn s Y
+pub learns-table : (s : List ℕ) → Network s → (r : Learner) (z : ℕ) (Y : List ℕ) → r .number ≡ z → LearnerOf s r → IsNode s z → NodesIn s Y
     → LearnsTable s r Y
 learns-table s n r z Y e o nz m = record {
   long = omega (arith, m .long);
   nodes = λ p h some no. learns s n r z (getD Y p 0) e o nz (m .at p h some) (λ q. no (q ∙ sym e));
 }
 
-pub readable-table : (s : List ℕ) → Network s → (T : List ℕ) → NodesIn s T → ReadableTable s T
+pub readable-table : (s : List ℕ) → Network s → (T : List ℕ) → NodesIn s T → TableReadable s T
 readable-table s n T m = record {
   long = omega (arith, m .long);
   nodes = λ p h some. readable s n (getD T p 0) (m .at p h some);

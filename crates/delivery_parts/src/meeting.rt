@@ -7,7 +7,7 @@ ghost use Rattle.delivery_parts.specs.Delivers.{Meets, Gathers};
 use learning::gather::gather;
 use learning::learn::learn;
 use learning::learn::learn_table;
-use learning::owner::Owner;
+use learning::learner::Learner;
 use tables::part;
 
 // x's table after "x learns y's table": its own is copied to learn, y's is lent.
@@ -15,7 +15,7 @@ pub fn learned(state: &[u64], tables: &[u8], x: usize, y: usize) -> [u8; 512]
     requires { ⌜ Meets (now state) (now tables) x y ⌝ }
     ensures { λ r. ⌜ r ≡ learning.learnTable (now (state .entry)) x (tableOf (now (tables .entry)) y) (tableOf (now (tables .entry)) x) ⌝ }
 {
-    let learner = Owner::load(state, x);
+    let learner = Learner::load(state, x);
     let mut own = part::copy_in(tables, x);
     learn_table(state, &mut own, learner, part::lent(tables, y));
     own
@@ -35,7 +35,7 @@ pub fn teach(state: &[u64], tables: &mut [u8], x: usize, y: usize)
     requires { ⌜ Meets (now state) (now tables) x y ⌝ }
     ensures { λ r. ⌜ now (tables .exit) ≡ withTable (now (tables .entry)) y (learning.learn (now (state .entry)) y x (tableOf (now (tables .entry)) y)) ⌝ }
 {
-    let learner = Owner::load(state, y);
+    let learner = Learner::load(state, y);
     let mut theirs = part::copy_in(tables, y);
     learn(state, &mut theirs, learner, x);
     part::copy_out(tables, y, &theirs);
@@ -54,6 +54,6 @@ pub fn gather_from(
     requires { ⌜ Gathers (now state) (now tables) x z ⌝ }
     ensures { λ r. ⌜ r ≡ join.gather (now (state .entry)) x level told (tableOf (now (tables .entry)) z) nodes ⌝ }
 {
-    let owner = Owner::load(state, x);
+    let owner = Learner::load(state, x);
     gather(state, owner, level, told, part::lent(tables, z), nodes)
 }

@@ -6,12 +6,12 @@ ghost use Rattle.model.specs.Nodes.{suffixOf};
 ghost use Rattle.model.specs.Join.{roomAtSuffix, attachLevel};
 ghost use Rattle.delivery_parts.specs.Delivers.{Delivers, Level, roomAt, EntryOf};
 use ident::digit;
-use learning::owner::Owner;
+use learning::learner::Learner;
 use tables::entry;
 use tables::part;
 
 // "y entry (i, digit i of x) .. holds fewer than K"
-fn has_room(sender: Owner, theirs: &[u8], i: usize) -> bool
+fn has_room(sender: Learner, theirs: &[u8], i: usize) -> bool
     requires { ⌜ Level (now theirs) (sender .depth) i ⌝ }
     ensures { λ r. ⌜ r ≡ roomAt (sender .depth) (now (theirs .entry)) (sender .id) i ⌝ }
 {
@@ -29,7 +29,7 @@ pub fn suffix_entry(state: &[u64], tables: &[u8], x: usize, y: usize) -> SuffixE
     requires { ⌜ Delivers (now state) (now tables) x y ⌝ }
     ensures { λ r. ⌜ EntryOf (now (state .entry)) (now (tables .entry)) x y r ⌝ }
 {
-    let sender = Owner::load(state, x);
+    let sender = Learner::load(state, x);
     let suffix = sender.suffix(state, y);
     let theirs = part::lent(tables, y);
     SuffixEntry {
@@ -45,7 +45,7 @@ pub fn attach_level(state: &[u64], tables: &[u8], x: usize, y: usize) -> usize
     requires { ⌜ roomAtSuffix (now state) (tableOf (now tables) y) x y ≡ true ⌝ }
     ensures { λ r. ⌜ r ≡ attachLevel (now (state .entry)) (tableOf (now (tables .entry)) y) x (suffixOf (now (state .entry)) x y) ⌝ }
 {
-    let sender = Owner::load(state, x);
+    let sender = Learner::load(state, x);
     let theirs = part::lent(tables, y);
     let mut k = sender.suffix(state, y);
     while 0 < k {

@@ -6,8 +6,8 @@ ghost use Rattle.model.specs.Nodes.{suffixOf};
 ghost use Rattle.model.specs.Join.{gather, roomAtSuffix, firstAtSuffix, attachLevel, deliverSentOn, deliverAttached, deliverWaiting};
 ghost use Rattle.delivery_parts.specs.Answers.{outcome, tookDelivery};
 ghost use Rattle.delivery_parts.specs.Delivers.{Delivers, Meets, exchanged, attaching};
-use delivery_parts::answer::Answer;
-use delivery_parts::answer::Step;
+use answers::DeliverAnswer;
+use answers::Kind;
 use delivery_parts::meeting::gather_from;
 use delivery_parts::meeting::learn_from;
 use delivery_parts::meeting::learned;
@@ -22,7 +22,7 @@ use state::sets;
 use state::status::Status;
 use tables::part;
 
-fn send_on(state: &mut [u64], tables: &mut [u8], x: usize, y: usize, first: usize) -> Answer
+fn send_on(state: &mut [u64], tables: &mut [u8], x: usize, y: usize, first: usize) -> DeliverAnswer
     requires { ⌜ Delivers (now state) (now tables) x y ⌝ }
     requires { ⌜ first ≡ firstAtSuffix (now state) (tableOf (now tables) y) x y ⌝ }
     ensures { λ r. ⌜ outcome (now (state .exit)) (now (tables .exit)) r ≡ tookDelivery (now (state .entry)) (now (tables .entry)) x y (deliverSentOn (now (state .entry)) x y (tableOf (now (tables .entry)) x) (tableOf (now (tables .entry)) y)) ⌝ }
@@ -30,8 +30,8 @@ fn send_on(state: &mut [u64], tables: &mut [u8], x: usize, y: usize, first: usiz
     let id = record::id(state, x);
     learn_from(state, tables, x, y);
     record::store(state, x, joining_node(id, Status::WAITING, first));
-    Answer {
-        step: Step::SentOn,
+    DeliverAnswer {
+        kind: Kind::SentOn,
         settled: false,
     }
 }
@@ -80,7 +80,7 @@ fn start_notifying(state: &mut [u64], tables: &[u8], x: usize, y: usize) -> usiz
     level
 }
 
-fn attach(state: &mut [u64], tables: &mut [u8], x: usize, y: usize) -> Answer
+fn attach(state: &mut [u64], tables: &mut [u8], x: usize, y: usize) -> DeliverAnswer
     requires { ⌜ Delivers (now state) (now tables) x y ⌝ }
     requires { ⌜ roomAtSuffix (now state) (tableOf (now tables) y) x y ≡ true ⌝ }
     ensures { λ r. ⌜ outcome (now (state .exit)) (now (tables .exit)) r ≡ tookDelivery (now (state .entry)) (now (tables .entry)) x y (deliverAttached (now (state .entry)) x y (tableOf (now (tables .entry)) x) (tableOf (now (tables .entry)) y)) ⌝ }
@@ -90,13 +90,13 @@ fn attach(state: &mut [u64], tables: &mut [u8], x: usize, y: usize) -> Answer
     let told = sets::add(sets::EMPTY, y);
     let asked = to_ask(state, tables, x, y, level, told);
     let settled = store_notifying(state, x, level as u64, asked, told);
-    Answer {
-        step: Step::Attached(level as u64),
+    DeliverAnswer {
+        kind: Kind::Attached(level as u64),
         settled,
     }
 }
 
-pub fn deliver_waiting(state: &mut [u64], tables: &mut [u8], x: usize, y: usize) -> Answer
+pub fn deliver_waiting(state: &mut [u64], tables: &mut [u8], x: usize, y: usize) -> DeliverAnswer
     requires { ⌜ Delivers (now state) (now tables) x y ⌝ }
     ensures { λ r. ⌜ outcome (now (state .exit)) (now (tables .exit)) r ≡ tookDelivery (now (state .entry)) (now (tables .entry)) x y (deliverWaiting (now (state .entry)) x y (tableOf (now (tables .entry)) x) (tableOf (now (tables .entry)) y)) ⌝ }
 {

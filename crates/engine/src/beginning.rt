@@ -3,26 +3,21 @@ ghost use mathlib.Core.Path.{_≡_};
 ghost use mathlib.Core.List.{[], _∷_};
 ghost use Rattle.model.specs.Calls.{beginCall};
 ghost use Rattle.engine.specs.Outcomes.{leaves};
-
-// The refusal, and the new node's number: 0 where it is refused.
-pub struct Begun {
-    pub refusal: u64,
-    pub node: u64,
-}
+use answers::BeginAnswer;
 
 // Adds a node that is to join by the gateway. Refusals: 1, 2, 7, 8, 9, 11, 12.
-pub fn begin(state: &mut [u64], tables: &mut [u8], id: u32, gateway: u64) -> Begun
+pub fn begin(state: &mut [u64], tables: &mut [u8], id: u32, gateway: u64) -> BeginAnswer
     ensures { λ r. ⌜ leaves (now (state .exit)) (now (tables .exit)) (r .refusal ∷ r .node ∷ []) ≡ beginCall (now (state .entry)) (now (tables .entry)) id gateway ⌝ }
 {
     let r = refusals::beginning::refusal(state, tables, id, gateway);
     if r != 0 {
-        return Begun {
+        return BeginAnswer {
             refusal: r,
             node: 0,
         };
     }
     let x = join::beginning::begin(state, tables, id, gateway as usize);
-    Begun {
+    BeginAnswer {
         refusal: 0,
         node: x as u64,
     }

@@ -2,17 +2,17 @@
 ghost use mathlib.Core.Path.{_≡_};
 ghost use Rattle.model.specs.Calls.{deliverCall};
 ghost use Rattle.delivery_parts.specs.Answers.{outcome};
-use delivery_parts::answer::Answer;
-use delivery_parts::answer::Step;
+use answers::DeliverAnswer;
+use answers::Kind;
 
 // Delivers the outstanding request of one node to another. Refusals: 1, 2, 9, 13, 14.
-pub fn deliver(state: &mut [u64], tables: &mut [u8], sender: u64, receiver: u64) -> Answer
+pub fn deliver(state: &mut [u64], tables: &mut [u8], sender: u64, receiver: u64) -> DeliverAnswer
     ensures { λ r. ⌜ outcome (now (state .exit)) (now (tables .exit)) r ≡ deliverCall (now (state .entry)) (now (tables .entry)) sender receiver ⌝ }
 {
     let r = refusals::delivering::refusal(state, tables, sender, receiver);
     if r != 0 {
-        return Answer {
-            step: Step::Refused(r),
+        return DeliverAnswer {
+            kind: Kind::Refused(r),
             settled: false,
         };
     }

@@ -4,22 +4,15 @@ ghost use mathlib.Core.Bool.{cond};
 ghost use mathlib.Core.List.{[], _∷_};
 ghost use Rattle.model.specs.Calls.{lookupCall};
 ghost use Rattle.engine.specs.Outcomes.{leaves};
-
-// The refusal; whether the lookup arrived, its hops and its last node.
-pub struct Found {
-    pub refusal: u64,
-    pub arrived: bool,
-    pub hops: u64,
-    pub last: u64,
-}
+use answers::LookupAnswer;
 
 // Follows the lookup from one node to another. Refusals: 1, 2, 9.
-pub fn lookup(state: &[u64], tables: &[u8], from: u64, to: u64) -> Found
+pub fn lookup(state: &[u64], tables: &[u8], from: u64, to: u64) -> LookupAnswer
     ensures { λ r. ⌜ leaves (now (state .entry)) (now (tables .entry)) (r .refusal ∷ cond (r .arrived) 1 0 ∷ r .hops ∷ r .last ∷ []) ≡ lookupCall (now (state .entry)) (now (tables .entry)) from to ⌝ }
 {
     let r = refusals::lookup::refusal(state, tables, from, to);
     if r != 0 {
-        return Found {
+        return LookupAnswer {
             refusal: r,
             arrived: false,
             hops: 0,
@@ -27,7 +20,7 @@ pub fn lookup(state: &[u64], tables: &[u8], from: u64, to: u64) -> Found
         };
     }
     let found = routing::lookup(state, tables, from as usize, to as usize);
-    Found {
+    LookupAnswer {
         refusal: 0,
         arrived: found.arrived,
         hops: found.hops as u64,

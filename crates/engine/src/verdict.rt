@@ -4,23 +4,15 @@ ghost use mathlib.Core.Bool.{cond};
 ghost use mathlib.Core.List.{[], _∷_};
 ghost use Rattle.model.specs.Calls.{verdictCall};
 ghost use Rattle.engine.specs.Outcomes.{leaves};
-
-// The refusal; whether the network is K-consistent, and if not, node, level and digit of the first entry that falls short.
-pub struct Judged {
-    pub refusal: u64,
-    pub consistent: bool,
-    pub node: u64,
-    pub level: u64,
-    pub digit: u64,
-}
+use answers::VerdictAnswer;
 
 // Judges the tables. Refusals: 1, 2, 15.
-pub fn verdict(state: &[u64], tables: &[u8]) -> Judged
+pub fn verdict(state: &[u64], tables: &[u8]) -> VerdictAnswer
     ensures { λ r. ⌜ leaves (now (state .entry)) (now (tables .entry)) (r .refusal ∷ cond (r .consistent) 1 0 ∷ r .node ∷ r .level ∷ r .digit ∷ []) ≡ verdictCall (now (state .entry)) (now (tables .entry)) ⌝ }
 {
     let r = refusals::verdict::refusal(state, tables);
     if r != 0 {
-        return Judged {
+        return VerdictAnswer {
             refusal: r,
             consistent: false,
             node: 0,
@@ -29,7 +21,7 @@ pub fn verdict(state: &[u64], tables: &[u8]) -> Judged
         };
     }
     let found = consistency::verdict(state, tables);
-    Judged {
+    VerdictAnswer {
         refusal: 0,
         consistent: found.consistent,
         node: found.node as u64,

@@ -3,27 +3,22 @@ ghost use mathlib.Core.Path.{_≡_};
 ghost use mathlib.Core.List.{[], _∷_};
 ghost use Rattle.model.specs.Calls.{writeCall};
 ghost use Rattle.engine.specs.Outcomes.{writes};
-
-// The refusal, and the image's length: 0 where it is refused.
-pub struct Written {
-    pub refusal: u64,
-    pub length: u64,
-}
+use answers::WriteAnswer;
 
 // Writes the image to out. Refusals: 1, 2, 15, 16.
-pub fn write(state: &[u64], tables: &[u8], out: &mut [u8]) -> Written
-    ensures { λ r. ⌜ writes (now (state .entry)) (now (tables .entry)) (now (out .exit)) (r .refusal ∷ r .length ∷ []) ≡ writeCall (now (state .entry)) (now (tables .entry)) (now (out .entry)) ⌝ }
+pub fn write(state: &[u64], tables: &[u8], out: &mut [u8]) -> WriteAnswer
+    ensures { λ r. ⌜ writes (now (state .entry)) (now (tables .entry)) (now (out .exit)) (r .refusal ∷ r .image_length ∷ []) ≡ writeCall (now (state .entry)) (now (tables .entry)) (now (out .entry)) ⌝ }
 {
     let r = refusals::writing::refusal(state, tables, out);
     if r != 0 {
-        return Written {
+        return WriteAnswer {
             refusal: r,
-            length: 0,
+            image_length: 0,
         };
     }
-    let length = image_writing::write(state, tables, out);
-    Written {
+    let image_length = image_writing::write(state, tables, out);
+    WriteAnswer {
         refusal: 0,
-        length: length as u64,
+        image_length: image_length as u64,
     }
 }

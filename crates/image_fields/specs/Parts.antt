@@ -13,7 +13,7 @@ unfoldable pub fourAt : List ℕ → ℕ → ℕ
 fourAt im a = byteAt im a + 256 * byteAt im (a + 1) + 65536 * (byteAt im (a + 2) + 256 * byteAt im (a + 3))
 
 -- after 3 to 6: the settings are in range and the length is what the counts give
-pub record Counted (im : List ℕ) : Type 0 where
+pub record CountsRight (im : List ℕ) : Type 0 where
   pub bytes : (a : ℕ) → byteAt im a < 256
   pub base : imBase im ≤ 16
   pub digits : imDigits im ≤ 8
@@ -25,7 +25,7 @@ pub record Counted (im : List ℕ) : Type 0 where
 
 -- and the code holds the settings and the counts
 pub record Headed (im : List ℕ) (h : Header) : Type 0 where
-  pub counted : Counted im
+  pub counted : CountsRight im
   pub base : h .base ≡ imBase im
   pub digits : h .digits ≡ imDigits im
   pub depth : h .depth ≡ imDepth im
@@ -33,7 +33,7 @@ pub record Headed (im : List ℕ) (h : Header) : Type 0 where
   pub records : h .records ≡ imRecords im
 
 -- x is the number of a node
-pub record IsNode (im : List ℕ) (x : ℕ) : Type 0 where
+pub record ImageNode (im : List ℕ) (x : ℕ) : Type 0 where
   pub first : 1 ≤ x
   pub last : x ≤ imNodes im
 

@@ -6,7 +6,7 @@ ghost use Prim.Native.Nat.{_+_, _*_, _≤_, _<_};
 ghost use lib.ListN.{length};
 ghost use Rattle.model.specs.Image.{byteAt, imNodes, imRecords, lengthRight};
 ghost use Rattle.model.specs.Refusals.{noSettings, countsWrong};
-ghost use Rattle.image_fields.specs.Parts.{fourAt, Counted, Headed};
+ghost use Rattle.image_fields.specs.Parts.{fourAt, CountsRight, Headed};
 
 // "its length .. passes 65,535"
 const LONGEST: usize = 65535;
@@ -95,7 +95,7 @@ pub fn counts_wrong(image: &[u8]) -> bool
 
 // Settings and counts of an image whose counts are right.
 pub fn load(image: &[u8]) -> Header
-    requires { ⌜ Counted (now image) ⌝ }
+    requires { ⌜ CountsRight (now image) ⌝ }
     ensures { λ r. ⌜ Headed (now (image .entry)) r ⌝ }
 {
     let nodes = byte(image, 5);

@@ -2,15 +2,15 @@
 ghost use mathlib.Core.Path.{_≡_};
 ghost use Rattle.model.specs.Loops.{allBelow, node};
 ghost use Rattle.model.specs.Image.{imNodes, imId, imIdValid, imIdNew};
-ghost use Rattle.image_fields.specs.Parts.{Counted, Headed, IsNode};
+ghost use Rattle.image_fields.specs.Parts.{CountsRight, Headed, ImageNode};
 use crate::header::Header;
 use crate::header::four;
 use ident::valid_id;
 
 // The id of node x.
 pub fn id(image: &[u8], x: usize) -> u32
-    requires { ⌜ Counted (now image) ⌝ }
-    requires { ⌜ IsNode (now image) x ⌝ }
+    requires { ⌜ CountsRight (now image) ⌝ }
+    requires { ⌜ ImageNode (now image) x ⌝ }
     ensures { λ r. ⌜ r ≡ imId (now (image .entry)) x ⌝ }
 {
     four(image, 2 + 4 * x)
@@ -19,7 +19,7 @@ pub fn id(image: &[u8], x: usize) -> u32
 // Not 7, of node x.
 fn is_valid(image: &[u8], h: Header, x: usize) -> bool
     requires { ⌜ Headed (now image) h ⌝ }
-    requires { ⌜ IsNode (now image) x ⌝ }
+    requires { ⌜ ImageNode (now image) x ⌝ }
     ensures { λ r. ⌜ r ≡ imIdValid (now (image .entry)) x ⌝ }
 {
     valid_id(h.base, h.digits, id(image, x))
@@ -42,8 +42,8 @@ pub fn valid(image: &[u8], h: Header) -> bool
 
 // Not 8, of node x: no node before it has its id.
 fn is_new(image: &[u8], x: usize) -> bool
-    requires { ⌜ Counted (now image) ⌝ }
-    requires { ⌜ IsNode (now image) x ⌝ }
+    requires { ⌜ CountsRight (now image) ⌝ }
+    requires { ⌜ ImageNode (now image) x ⌝ }
     ensures { λ r. ⌜ r ≡ imIdNew (now (image .entry)) x ⌝ }
 {
     let own = id(image, x);

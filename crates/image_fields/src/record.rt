@@ -5,7 +5,7 @@ ghost use Prim.Native.Nat.{_<_};
 ghost use lib.Dec.{eqb, leb};
 ghost use Rattle.model.specs.Ids.{digitOf};
 ghost use Rattle.model.specs.Image.{imRecords, imId, recNodesGood};
-ghost use Rattle.image_fields.specs.Parts.{Counted, Headed, IsNode, RecordOf, Small, keyOf};
+ghost use Rattle.image_fields.specs.Parts.{CountsRight, Headed, ImageNode, RecordOf, Small, keyOf};
 use crate::header::Header;
 use crate::header::byte;
 use crate::ids::id;
@@ -67,8 +67,8 @@ pub fn key(e: Record) -> usize
 
 // The record is of an own entry of its node: "its own entries (i, x's digit i)".
 pub fn is_own(image: &[u8], e: Record) -> bool
-    requires { ⌜ Counted (now image) ⌝ }
-    requires { ⌜ IsNode (now image) (e .node) ⌝ }
+    requires { ⌜ CountsRight (now image) ⌝ }
+    requires { ⌜ ImageNode (now image) (e .node) ⌝ }
     ensures { λ r. ⌜ r ≡ eqb (e .digit) (digitOf (imId (now (image .entry)) (e .node)) (e .level)) ⌝ }
 {
     e.digit == digit(id(image, e.node), e.level)

@@ -14,15 +14,15 @@ use Rattle.model.specs.Ids.{digitOf}
 use Rattle.model.specs.Image.{imDigits, imNodes, imRecords, imId, recNode, recLevel, recOrdered, recOwn, recOfOwn, ownHasRecord, ownHaveRecords}
 use Rattle.model.proofs.Bools.{and-left, and-intro}
 use Rattle.model.proofs.Loops.{all-at, all-same, any-zero, any-step}
-use Rattle.image_fields.specs.Parts.{Counted, Headed, IsNode, RecordOf}
-use Rattle.image_judging.specs.Judged.{Named, recGood}
-use Rattle.image_judging.specs.Marks.{ownPlace, isMarked, levelsMarked, markedBy, Streamed, Marks}
+use Rattle.image_fields.specs.Parts.{CountsRight, Headed, ImageNode, RecordOf}
+use Rattle.image_judging.specs.Judged.{RecordsNamed, recGood}
+use Rattle.image_judging.specs.Marks.{ownPlace, isMarked, levelsMarked, markedBy, RecordsGood, Marks}
 use Rattle.image_fields.specs.declared.header.Header.{Header}
 use Rattle.image_fields.specs.declared.record.Record.{Record}
 use Rattle.image_judging.proofs.Rules.{owner-node, owner-held}
 
 -- the level of a record that keeps its order
-pub level-below : (im : List ℕ) → Streamed im → (r : ℕ) → r < imRecords im → recLevel im r < imDigits im
+pub level-below : (im : List ℕ) → RecordsGood im → (r : ℕ) → r < imRecords im → recLevel im r < imDigits im
 unfolding recGood recOrdered
 level-below im s r l = ltb-true _ (imDigits im) (and-left _ _ (and-left _ _ (all-at (imRecords im) (recGood im) (s .good) r l)))
 
@@ -34,7 +34,7 @@ marks-none im = record {
 }
 
 -- one record more
-module _ (im : List ℕ) (r : ℕ) (own : List ℕ) (m : Marks im r own) (n : IsNode im (recNode im r)) (few : imNodes im ≤ 64) (low : recLevel im r < 8) where
+module _ (im : List ℕ) (r : ℕ) (own : List ℕ) (m : Marks im r own) (n : ImageNode im (recNode im r)) (few : imNodes im ≤ 64) (low : recLevel im r < 8) where
   abbrev place : ℕ
   place = ownPlace (recNode im r) (recLevel im r)
 
@@ -100,7 +100,7 @@ module _ (im : List ℕ) (r : ℕ) (own : List ℕ) (m : Marks im r own) (n : Is
         marked = λ x i a b h. mark-one x i a b h (recOwn im r) refl ∙ sym (any-step r (recOfOwn im x i));
       })
 
-pub marks-go : (im : List ℕ) (r : ℕ) (own own′ : List ℕ) → Counted im → Named im → Streamed im → r < imRecords im → Marks im r own
+pub marks-go : (im : List ℕ) (r : ℕ) (own own′ : List ℕ) → CountsRight im → RecordsNamed im → RecordsGood im → r < imRecords im → Marks im r own
     → own′ ≡ markedBy im r own → Marks im (r + 1) own′
 marks-go im r own own′ w n s l m =
     mark-goes im r own m (owner-node im n r l) (w .few) (omega (arith, level-below im s r l, w .digits)) own′
@@ -109,11 +109,11 @@ pub marks-end : (im : List ℕ) (n r : ℕ) (own : List ℕ) → n ≡ imRecords
 marks-end im n r own e m l g = subst (λ (k : ℕ). Marks im k own) (omega arith) m
 
 -- the mark of record r, held as e, lies within the marks
-module _ (im : List ℕ) (r : ℕ) (e : Record) (n : Named im) (l : r < imRecords im) (o : RecordOf im r e) where
+module _ (im : List ℕ) (r : ℕ) (e : Record) (n : RecordsNamed im) (l : r < imRecords im) (o : RecordOf im r e) where
   pub node-least : 1 ≤ e .node
   node-least = owner-held im r e n l o .first
 
-  pub place-within : (own : List ℕ) → Counted im → Streamed im → length own ≡ 512 → 8 * (e .node - 1) + e .level < length own
+  pub place-within : (own : List ℕ) → CountsRight im → RecordsGood im → length own ≡ 512 → 8 * (e .node - 1) + e .level < length own
   place-within own w s q =
       let x = owner-held im r e n l o in
       omega (arith, x .first, x .last, w .few, w .digits, o .level, level-below im s r l)
@@ -135,7 +135,7 @@ module _ (im : List ℕ) (r : ℕ) (e : Record) (own : List ℕ) (o : RecordOf i
   mark-other g = ap (λ (b : Bool). cond b (set own (ownPlace (recNode im r) (recLevel im r)) 1) own) (sym g ∙ own-is)
 
 -- every own entry is marked where each has a record
-pub marks-say : (im own : List ℕ) → Marks im (imRecords im) own → Counted im
+pub marks-say : (im own : List ℕ) → Marks im (imRecords im) own → CountsRight im
     → allBelow (imNodes im) (node (levelsMarked own (imDigits im))) ≡ allBelow (imNodes im) (node (ownHaveRecords im))
 unfolding levelsMarked ownHaveRecords ownHasRecord
 marks-say im own m w =

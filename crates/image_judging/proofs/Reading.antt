@@ -10,7 +10,7 @@ use Rattle.model.specs.Image.{imRecords, recOrdered, recAllowed, recOwnerFirst}
 use Rattle.model.proofs.Bools.{and-intro}
 use Rattle.model.proofs.Loops.{all-false, all-ends}
 use Rattle.image_fields.specs.Parts.{Headed, RecordOf, keyOf}
-use Rattle.image_judging.specs.Judged.{Named, recGood}
+use Rattle.image_judging.specs.Judged.{RecordsNamed, recGood}
 use Rattle.image_judging.specs.Cursors.{Follows, Enters, keepsOrder, started, entered, passed, Finds}
 use Rattle.image_fields.specs.declared.header.Header.{Header}
 use Rattle.image_fields.specs.declared.record.Record.{Record}
@@ -51,7 +51,7 @@ module _ (im : List ℕ) (h : Header) (c : Cursor) (e : Record) (w : Headed im h
         pub finds-not-first : not t ≡ true → Finds im (c .next) OwnerNotFirst
         finds-not-first z = ap (recOwnerFirst im) (sym entry-next) ∙ sym et ∙ not-true t z
 
-        pub finds-good : not t ≡ false → Named im → c .next < imRecords im → (s : Cursor) → s ≡ passed d (e .neighbor)
+        pub finds-good : not t ≡ false → RecordsNamed im → c .next < imRecords im → (s : Cursor) → s ≡ passed d (e .neighbor)
             → Finds im (c .next) (Good s)
         unfolding recGood
         finds-good z n l s i =

@@ -18,8 +18,8 @@ use Rattle.model.proofs.Bools.{and-left, and-right, and-leaves, and-goes, true-
 use Rattle.model.proofs.Early.{true-or-leaves, false-or-goes}
 use Rattle.model.proofs.Loops.{all-at, any-at, any-same, any-found, count-same, count-some, count-none, count-le}
 use Rattle.state.specs.Loaded.{Numbered}
-use Rattle.image_fields.specs.Parts.{Counted, Headed, IsNode, RecordOf, keyOf}
-use Rattle.image_judging.specs.Judged.{Named}
+use Rattle.image_fields.specs.Parts.{CountsRight, Headed, ImageNode, RecordOf, keyOf}
+use Rattle.image_judging.specs.Judged.{RecordsNamed}
 use Rattle.image_judging.specs.Cursors.{recKey, ofEntry, namesIn, Follows, Enters, keepsOrder}
 use Rattle.image_fields.specs.declared.header.Header.{Header}
 use Rattle.image_fields.specs.declared.record.Record.{Record}
@@ -28,25 +28,25 @@ use Rattle.image_judging.proofs.Keys.{same-key, rises-key}
 
 -- ---- the nodes of a record
 
-is-node : (im : List ℕ) (x : ℕ) → imIsNode im x ≡ true → IsNode im x
+is-node : (im : List ℕ) (x : ℕ) → imIsNode im x ≡ true → ImageNode im x
 is-node im x e = record { first = leb-true 1 x (and-left _ _ e); last = leb-true x (imNodes im) (and-right (leb 1 x) _ e) }
 
-module _ (im : List ℕ) (n : Named im) (r : ℕ) (l : r < imRecords im) where
+module _ (im : List ℕ) (n : RecordsNamed im) (r : ℕ) (l : r < imRecords im) where
   good-nodes : recNodesGood im r ≡ true
   good-nodes = all-at (imRecords im) (recNodesGood im) (n .nodes) r l
 
-  pub owner-node : IsNode im (recNode im r)
+  pub owner-node : ImageNode im (recNode im r)
   owner-node = is-node im (recNode im r) (and-left _ _ good-nodes)
 
-  pub neighbor-node : IsNode im (recNeighbor im r)
+  pub neighbor-node : ImageNode im (recNeighbor im r)
   neighbor-node = is-node im (recNeighbor im r) (and-right (imIsNode im (recNode im r)) _ good-nodes)
 
 -- as the code holds them
-pub owner-held : (im : List ℕ) (r : ℕ) (e : Record) → Named im → r < imRecords im → RecordOf im r e → IsNode im (e .node)
-owner-held im r e n l o = subst (IsNode im) (sym (o .node)) (owner-node im n r l)
+pub owner-held : (im : List ℕ) (r : ℕ) (e : Record) → RecordsNamed im → r < imRecords im → RecordOf im r e → ImageNode im (e .node)
+owner-held im r e n l o = subst (ImageNode im) (sym (o .node)) (owner-node im n r l)
 
-pub neighbor-held : (im : List ℕ) (r : ℕ) (e : Record) → Named im → r < imRecords im → RecordOf im r e → IsNode im (e .neighbor)
-neighbor-held im r e n l o = subst (IsNode im) (sym (o .neighbor)) (neighbor-node im n r l)
+pub neighbor-held : (im : List ℕ) (r : ℕ) (e : Record) → RecordsNamed im → r < imRecords im → RecordOf im r e → ImageNode im (e .neighbor)
+neighbor-held im r e n l o = subst (ImageNode im) (sym (o .neighbor)) (neighbor-node im n r l)
 
 pub key-held : (im : List ℕ) (r : ℕ) (e : Record) → RecordOf im r e → keyOf e ≡ recKey im r
 unfolding recKey
@@ -54,7 +54,7 @@ key-held im r e o = omega (arith, o .node, o .level, o .digit)
 
 -- ---- the order
 
-module _ (im : List ℕ) (bytes : Counted im) (c : Cursor) (f : Follows im c) where
+module _ (im : List ℕ) (bytes : CountsRight im) (c : Cursor) (f : Follows im c) where
   rises : (eqb (c .next) 0 || risesFrom im (c .next - 1) (c .next)) ≡ leb (c .key) (recKey im (c .next))
   rises = go (ℕ-discrete (c .next) 0)
     where
@@ -81,7 +81,7 @@ order-rises h c e q =
 
 -- ---- the earlier records of the entry
 
-module _ (im : List ℕ) (bytes : Counted im) (c : Cursor) (w : Enters im c) where
+module _ (im : List ℕ) (bytes : CountsRight im) (c : Cursor) (w : Enters im c) where
   in-entry : (q : ℕ) → sameEntry im (c .next) q ≡ ofEntry im (c .key) q
   in-entry q = same-key im (bytes .bytes) (c .next) q ∙ ap (λ (k : ℕ). ofEntry im k q) (sym (w .key))
 
@@ -109,7 +109,7 @@ module _ (im : List ℕ) (bytes : Counted im) (c : Cursor) (w : Enters im c) whe
           ∙ sym (ap not (eq-eqb (c .count) 0 (sym count-held ∙ count-none (c .next) (sameEntry im (c .next)) (any-at (c .next) (sameEntry im (c .next)) e))))
 
   -- "at most K different qualified members", by what the code holds
-  pub allowed-held : (h : Header) (e : Record) → Headed im h → Named im → c .next < imRecords im → RecordOf im (c .next) e
+  pub allowed-held : (h : Header) (e : Record) → Headed im h → RecordsNamed im → c .next < imRecords im → RecordOf im (c .next) e
       → (qualified (imId im (e .node)) (imId im (e .neighbor)) (e .level) (e .digit)
       && (not (hasNode (c .named) (e .neighbor)) && ltb (c .count) (h .depth)))
       ≡ recAllowed im (c .next)
@@ -133,7 +133,7 @@ module _ (im : List ℕ) (bytes : Counted im) (c : Cursor) (w : Enters im c) whe
 
 -- ---- the ways of the code through these rules
 
-module _ (im : List ℕ) (h : Header) (c : Cursor) (e : Record) (w : Headed im h) (n : Named im) (v : Enters im c)
+module _ (im : List ℕ) (h : Header) (c : Cursor) (e : Record) (w : Headed im h) (n : RecordsNamed im) (v : Enters im c)
     (l : c .next < imRecords im) (o : RecordOf im (c .next) e) where
   module _ (x u : ℕ) (ex : x ≡ imId im (e .node)) (eu : u ≡ imId im (e .neighbor))
       (a : Bool) (ea : a ≡ qualified x u (e .level) (e .digit)) where
@@ -181,12 +181,12 @@ module _ (im : List ℕ) (h : Header) (c : Cursor) (e : Record) (w : Headed im h
 
 -- ---- numbers within their bounds
 
-pub numbered-held : (im : List ℕ) (r : ℕ) (e : Record) → Counted im → Named im → r < imRecords im → RecordOf im r e → Numbered (e .neighbor)
+pub numbered-held : (im : List ℕ) (r : ℕ) (e : Record) → CountsRight im → RecordsNamed im → r < imRecords im → RecordOf im r e → Numbered (e .neighbor)
 numbered-held im r e w n l o =
     let u = neighbor-held im r e n l o in record { first = u .first; last = omega (arith, u .last, w .few) }
 
-pub count-within : (im : List ℕ) (c : Cursor) → Counted im → Enters im c → c .next < imRecords im → c .count < 65535
+pub count-within : (im : List ℕ) (c : Cursor) → CountsRight im → Enters im c → c .next < imRecords im → c .count < 65535
 count-within im c w v l = omega (arith, v .tallied .count, count-le (c .next) (ofEntry im (c .key)), w .whole, w .short)
 
-pub next-within : (im : List ℕ) (c : Cursor) → Counted im → c .next < imRecords im → c .next < 65535
+pub next-within : (im : List ℕ) (c : Cursor) → CountsRight im → c .next < imRecords im → c .next < 65535
 next-within im c w l = omega (arith, w .whole, w .short)

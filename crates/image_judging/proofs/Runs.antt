@@ -16,11 +16,11 @@ use Rattle.model.specs.Image.{recNeighbor}
 use Rattle.model.proofs.Loops.{all-zero, all-step, any-zero, any-step, any-false, count-zero, count-none, count-hit}
 use Rattle.model.proofs.Sets.{has-none, has-added, has-add-other}
 use Rattle.image_judging.specs.Judged.{recGood}
-use Rattle.image_judging.specs.Cursors.{recKey, ofEntry, namesIn, Tallied, Follows, Enters, started, entered, passed}
+use Rattle.image_judging.specs.Cursors.{recKey, ofEntry, namesIn, EntryRead, Follows, Enters, started, entered, passed}
 use Rattle.image_judging.specs.declared.cursor.Cursor.{Cursor}
 
 -- nothing is read
-nothing : (im : List ℕ) (k : ℕ) → Tallied im 0 k 0 0
+nothing : (im : List ℕ) (k : ℕ) → EntryRead im 0 k 0 0
 nothing im k = record { count = sym (count-zero _); set = λ u l. has-none u ∙ sym (any-zero _) }
 
 pub start-follows : (im : List ℕ) → Follows im started
@@ -39,7 +39,7 @@ module _ (im : List ℕ) (c : Cursor) (f : Follows im c) (k : ℕ) (rises : c .k
   unfolding ofEntry
   fresh e q l = ne-eqb (recKey im q) k (λ w. e (omega (arith, f .below q l)))
 
-  unread : c .key ≢ k → Tallied im (c .next) k 0 0
+  unread : c .key ≢ k → EntryRead im (c .next) k 0 0
   unfolding namesIn
   unread e = record {
     count = sym (count-none (c .next) (ofEntry im k) (fresh e));

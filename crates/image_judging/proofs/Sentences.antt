@@ -15,13 +15,13 @@ use Rattle.model.proofs.Bools.{same-test, and-left, and-right, and-intro, and-l
 use Rattle.model.proofs.Ids.{settings-range}
 use Rattle.model.proofs.Loops.{all-at, all-of}
 use Rattle.model.proofs.Refusals.{refuse-leaves, refuse-goes, refuse-not-leaves, refuse-not-goes, passed}
-use Rattle.image_fields.specs.Parts.{Counted}
-use Rattle.image_judging.specs.Judged.{Named, recGood, laterRefusal}
-use Rattle.image_judging.specs.Marks.{Streamed}
+use Rattle.image_fields.specs.Parts.{CountsRight}
+use Rattle.image_judging.specs.Judged.{RecordsNamed, recGood, laterRefusal}
+use Rattle.image_judging.specs.Marks.{RecordsGood}
 
 -- what 5 and 6 leave
 pub counted-of : (im : List ℕ) → ((a : ℕ) → byteAt im a < 256) → settingsInRange (imBase im) (imDigits im) (imDepth im) ≡ true
-    → countsWrong im ≡ false → Counted im
+    → countsWrong im ≡ false → CountsRight im
 unfolding lengthRight
 counted-of im bytes s e =
     let range = settings-range (imBase im) (imDigits im) (imDepth im) s in
@@ -65,7 +65,7 @@ good-parts im =
     ∙ and-three (allBelow (imRecords im) (recOrdered im)) (allBelow (imRecords im) (recAllowed im)) (allBelow (imRecords im) (recOwnerFirst im)) _
 
 module _ (im : List ℕ) (r : Bool) (e : r ≡ allBelow (imRecords im) (recGood im)) where
-  pub streamed-of : not r ≡ false → Streamed im
+  pub streamed-of : not r ≡ false → RecordsGood im
   streamed-of g = record { good = sym e ∙ not-false r g }
 
   pub good-leaves : not r ≡ true → false ≡ recordsGood im
@@ -75,7 +75,7 @@ module _ (im : List ℕ) (r : Bool) (e : r ≡ allBelow (imRecords im) (recGood 
   good-goes g s q = and-goes _ (allBelow (imNodes im) (node (ownHaveRecords im))) r s e g q ∙ good-parts im
 
 -- 9 passed
-pub named-of : (im : List ℕ) (r : Bool) → r ≡ allBelow (imRecords im) (recNodesGood im) → not r ≡ false → Named im
+pub named-of : (im : List ℕ) (r : Bool) → r ≡ allBelow (imRecords im) (recNodesGood im) → not r ≡ false → RecordsNamed im
 named-of im r e g = record { nodes = sym e ∙ not-false r g }
 
 -- ---- 3 to 6, in the order of the code's returns
@@ -123,13 +123,13 @@ module _ (im : List ℕ) (a : Bool) (ea : a ≡ noSettings im) where
         pub says-later : w ≡ false → (r : ℕ) → r ≡ laterRefusal im → r ≡ imageRefusal im
         says-later g r q = past-5 r (refuse-goes (countsWrong im) 6 _ r w ew g q)
 
-        pub counted : w ≡ false → ((a : ℕ) → byteAt im a < 256) → Counted im
+        pub counted : w ≡ false → ((a : ℕ) → byteAt im a < 256) → CountsRight im
         counted g bytes = counted-of im bytes (sym settings ∙ not-false b gb) (sym ew ∙ g)
 
 -- ---- an image that nothing refuses
 
 -- what loading an image that is taken may go by
-pub counted-taken : (im : List ℕ) → ((a : ℕ) → byteAt im a < 256) → imageRefusal im ≡ 0 → Counted im
+pub counted-taken : (im : List ℕ) → ((a : ℕ) → byteAt im a < 256) → imageRefusal im ≡ 0 → CountsRight im
 unfolding imageRefusal
 counted-taken im bytes e =
     let p4 = passed _ 3 _ (passed _ 2 _ e .1) in

@@ -9,7 +9,7 @@ use Rattle.model.specs.Image.{recOrdered, recAllowed, recOwnerFirst}
 use Rattle.model.specs.Refusals.{refuse}
 
 -- after 9: the records' node numbers are nodes'
-pub record Named (im : List ℕ) : Type 0 where
+pub record RecordsNamed (im : List ℕ) : Type 0 where
   pub nodes : allBelow (imRecords im) (recNodesGood im) ≡ true
 
 -- 7 to 10, where nothing before them refuses

@@ -27,7 +27,7 @@ unfoldable pub markedBy : List ℕ → ℕ → List ℕ → List ℕ
 markedBy im r own = cond (recOwn im r) (set own (ownPlace (recNode im r) (recLevel im r)) 1) own
 
 -- the records keep their order and the rules
-pub record Streamed (im : List ℕ) : Type 0 where
+pub record RecordsGood (im : List ℕ) : Type 0 where
   pub good : allBelow (imRecords im) (recGood im) ≡ true
 
 -- the marks of the first r records

@@ -5,7 +5,7 @@ ghost use Prim.Native.Nat.{_<_};
 ghost use Rattle.model.specs.Image.{imRecords, recAllowed, recOwnerFirst};
 ghost use Rattle.state.specs.Loaded.{Numbered};
 ghost use Rattle.image_fields.specs.Parts.{Headed, RecordOf, Small};
-ghost use Rattle.image_judging.specs.Judged.{Named};
+ghost use Rattle.image_judging.specs.Judged.{RecordsNamed};
 ghost use Rattle.image_judging.specs.Cursors.{Enters, Follows, Finds, started, entered, passed, keepsOrder};
 use ident::qualified;
 use image_fields::header::Header;
@@ -79,7 +79,7 @@ impl Cursor {
     // "An entry is an ordered list of at most K different qualified members".
     fn allowed(self, image: &[u8], h: Header, e: Record) -> bool
         requires { ⌜ Headed (now image) h ⌝ }
-        requires { ⌜ Named (now image) ⌝ }
+        requires { ⌜ RecordsNamed (now image) ⌝ }
         requires { ⌜ Enters (now image) self ⌝ }
         requires { ⌜ self .next < imRecords (now image) ⌝ }
         requires { ⌜ RecordOf (now image) (self .next) e ⌝ }
@@ -97,7 +97,7 @@ impl Cursor {
     // "Member x stands first in each of its own entries".
     fn owner_first(self, image: &[u8], h: Header, e: Record) -> bool
         requires { ⌜ Headed (now image) h ⌝ }
-        requires { ⌜ Named (now image) ⌝ }
+        requires { ⌜ RecordsNamed (now image) ⌝ }
         requires { ⌜ Enters (now image) self ⌝ }
         requires { ⌜ self .next < imRecords (now image) ⌝ }
         requires { ⌜ RecordOf (now image) (self .next) e ⌝ }
@@ -130,7 +130,7 @@ impl Cursor {
     // Reads the record at the cursor.
     pub fn read(self, image: &[u8], h: Header) -> Finding
         requires { ⌜ Headed (now image) h ⌝ }
-        requires { ⌜ Named (now image) ⌝ }
+        requires { ⌜ RecordsNamed (now image) ⌝ }
         requires { ⌜ Follows (now image) self ⌝ }
         requires { ⌜ self .next < imRecords (now image) ⌝ }
         ensures { λ r. ⌜ Finds (now (image .entry)) (self .next) r ⌝ }

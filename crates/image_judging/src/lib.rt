@@ -2,7 +2,7 @@
 // of their number; the time is in proportion to the number of records.
 ghost use mathlib.Core.Path.{_≡_};
 ghost use Rattle.model.specs.Refusals.{imageRefusal};
-ghost use Rattle.image_fields.specs.Parts.{Counted};
+ghost use Rattle.image_fields.specs.Parts.{CountsRight};
 ghost use Rattle.image_judging.specs.Judged.{laterRefusal};
 use ident::settings_in_range;
 use image_fields::header;
@@ -15,7 +15,7 @@ mod passes;
 
 // 7 to 10, once the counts are right.
 fn later_refusal(image: &[u8]) -> u64
-    requires { ⌜ Counted (now image) ⌝ }
+    requires { ⌜ CountsRight (now image) ⌝ }
     ensures { λ r. ⌜ r ≡ laterRefusal (now (image .entry)) ⌝ }
 {
     let h = header::load(image);

@@ -6,16 +6,16 @@ ghost use Rattle.model.specs.Loops.{allBelow, node};
 ghost use Rattle.model.specs.Image.{imNodes, imRecords, ownHaveRecords};
 ghost use Rattle.state.specs.Loaded.{Numbered};
 ghost use Rattle.image_fields.specs.Parts.{Headed};
-ghost use Rattle.image_judging.specs.Judged.{Named};
-ghost use Rattle.image_judging.specs.Marks.{Streamed, Marks, isMarked, levelsMarked, markedBy};
+ghost use Rattle.image_judging.specs.Judged.{RecordsNamed};
+ghost use Rattle.image_judging.specs.Marks.{RecordsGood, Marks, isMarked, levelsMarked, markedBy};
 use image_fields::header::Header;
 use image_fields::record;
 
 // Marks the entry of record r, if it is an own entry.
 fn mark(image: &[u8], h: Header, own: &mut [u8], r: usize)
     requires { ⌜ Headed (now image) h ⌝ }
-    requires { ⌜ Named (now image) ⌝ }
-    requires { ⌜ Streamed (now image) ⌝ }
+    requires { ⌜ RecordsNamed (now image) ⌝ }
+    requires { ⌜ RecordsGood (now image) ⌝ }
     requires { ⌜ length (now own) ≡ 512 ⌝ }
     requires { ⌜ r < imRecords (now image) ⌝ }
     ensures { λ u. ⌜ now (own .exit) ≡ markedBy (now (image .entry)) r (now (own .entry)) ⌝ }
@@ -29,8 +29,8 @@ fn mark(image: &[u8], h: Header, own: &mut [u8], r: usize)
 // The marks of all records.
 fn mark_all(image: &[u8], h: Header, own: &mut [u8])
     requires { ⌜ Headed (now image) h ⌝ }
-    requires { ⌜ Named (now image) ⌝ }
-    requires { ⌜ Streamed (now image) ⌝ }
+    requires { ⌜ RecordsNamed (now image) ⌝ }
+    requires { ⌜ RecordsGood (now image) ⌝ }
     requires { ⌜ Marks (now image) 0 (now own) ⌝ }
     ensures { λ u. ⌜ Marks (now (image .entry)) (imRecords (now (image .entry))) (now (own .exit)) ⌝ }
 {
@@ -88,8 +88,8 @@ fn all_marked(own: &[u8], h: Header) -> bool
 // Every node's own entries have records.
 pub fn have_records(image: &[u8], h: Header) -> bool
     requires { ⌜ Headed (now image) h ⌝ }
-    requires { ⌜ Named (now image) ⌝ }
-    requires { ⌜ Streamed (now image) ⌝ }
+    requires { ⌜ RecordsNamed (now image) ⌝ }
+    requires { ⌜ RecordsGood (now image) ⌝ }
     ensures { λ r. ⌜ r ≡ allBelow (imNodes (now (image .entry))) (node (ownHaveRecords (now (image .entry)))) ⌝ }
 {
     let mut own = [0u8; 512];

@@ -3,7 +3,7 @@ ghost use mathlib.Core.Path.{_≡_};
 ghost use Rattle.model.specs.Loops.{allBelow};
 ghost use Rattle.model.specs.Image.{imRecords, recNodesGood, recordsGood};
 ghost use Rattle.image_fields.specs.Parts.{Headed};
-ghost use Rattle.image_judging.specs.Judged.{Named, recGood};
+ghost use Rattle.image_judging.specs.Judged.{RecordsNamed, recGood};
 use crate::cursor::Cursor;
 use crate::cursor::Finding;
 use crate::own;
@@ -28,7 +28,7 @@ pub fn named(image: &[u8], h: Header) -> bool
 // Each record keeps its order and the table rules.
 fn each_good(image: &[u8], h: Header) -> bool
     requires { ⌜ Headed (now image) h ⌝ }
-    requires { ⌜ Named (now image) ⌝ }
+    requires { ⌜ RecordsNamed (now image) ⌝ }
     ensures { λ r. ⌜ r ≡ allBelow (imRecords (now (image .entry))) (recGood (now (image .entry))) ⌝ }
 {
     let mut c = Cursor::start();
@@ -54,7 +54,7 @@ fn each_good(image: &[u8], h: Header) -> bool
 // Not 10: "Image records break their order or the table rules."
 pub fn good(image: &[u8], h: Header) -> bool
     requires { ⌜ Headed (now image) h ⌝ }
-    requires { ⌜ Named (now image) ⌝ }
+    requires { ⌜ RecordsNamed (now image) ⌝ }
     ensures { λ r. ⌜ r ≡ recordsGood (now (image .entry)) ⌝ }
 {
     if !each_good(image, h) {

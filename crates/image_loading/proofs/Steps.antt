@@ -11,7 +11,7 @@ use Rattle.model.specs.Tables.{entrySize, append}
 use Rattle.model.specs.Join.{withSettings}
 use Rattle.model.specs.Image.{imBase, imDigits, imDepth, imNodes, imId, imRecords, loadId, loadRecord, loaded}
 use Rattle.model.proofs.Memory.{zeroed-length, table-set}
-use Rattle.model.proofs.Loading.{Readable, Words, words-loaded, record-ok, record-room}
+use Rattle.model.proofs.Loading.{GoodImage, Words, words-loaded, record-ok, record-room}
 use Rattle.image_fields.specs.declared.header.Header.{Header}
 use Rattle.image_fields.specs.declared.record.Record.{Record}
 use Rattle.image_fields.specs.Parts.{Headed, RecordOf, Small}
@@ -48,7 +48,7 @@ record-step im t t′ h r q k o e = rw (← (o .node), ← (o .level), ← (o .d
 -- ---- what a record asks, by the rules that reading judged
 
 module _ (im t₁ : List ℕ) (F : Fills t₁ im) where
-  R : Readable im
+  R : GoodImage im
   R = F .readable
 
   -- the words of a state that the image gives

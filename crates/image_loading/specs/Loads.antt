@@ -5,22 +5,22 @@ use mathlib.Core.List.{List}
 use lib.ListN.{length}
 use Rattle.model.specs.Memory.{zeroed, tableOf, stateLength, tablesLength}
 use Rattle.model.specs.Tables.{entrySize}
-use Rattle.model.proofs.Loading.{Readable}
-use Rattle.image_fields.specs.Parts.{Counted}
+use Rattle.model.proofs.Loading.{GoodImage}
+use Rattle.image_fields.specs.Parts.{CountsRight}
 
 -- the image is one that reading takes, and the memory is long enough
 pub record Loads (s t im : List ℕ) : Type 0 where
   pub state : stateLength ≤ length s
   pub tables : tablesLength ≤ length t
-  pub counted : Counted im
-  pub readable : Readable im
+  pub counted : CountsRight im
+  pub readable : GoodImage im
 
 -- the table memory is cleared, and the image is one that reading takes
 pub record Fills (t im : List ℕ) : Type 0 where
   pub before : List ℕ
   pub long : tablesLength ≤ length before
   pub clear : t ≡ zeroed tablesLength before
-  pub readable : Readable im
+  pub readable : GoodImage im
 
 -- u can be appended to entry (i, j) of node x in t
 pub record Appends (t : List ℕ) (K x i j u : ℕ) : Type 0 where

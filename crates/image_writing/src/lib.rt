@@ -13,7 +13,7 @@ use image_writing_parts::slots;
 use state::settings;
 
 // How many bytes the image takes.
-pub fn length(state: &[u64], tables: &[u8]) -> usize
+pub fn image_length(state: &[u64], tables: &[u8]) -> usize
     requires { ⌜ Sound (now state) (now tables) ⌝ }
     ensures { λ r. ⌜ r ≡ length (imageOf (now (state .entry)) (now (tables .entry))) ⌝ }
 {

@@ -7,7 +7,7 @@ ghost use lib.ListN.{length};
 ghost use Rattle.model.specs.Image.{allRecords};
 ghost use Rattle.model.proofs.Sound.{Sound};
 ghost use Rattle.tables.specs.Places.{Entry};
-ghost use Rattle.image_writing_parts.specs.Records.{entryOf, levelOf, tableRecords, Shape};
+ghost use Rattle.image_writing_parts.specs.Records.{entryOf, recordsOfLevel, tableRecords, Shape};
 use state::settings;
 use tables::entry;
 use tables::part;
@@ -41,7 +41,7 @@ fn filled(table: &[u8], depth: usize, i: usize, j: usize) -> usize
 fn level(table: &[u8], base: usize, depth: usize, i: usize) -> usize
     requires { ⌜ Shape (now table) 8 base depth 0 ⌝ }
     requires { ⌜ i < 8 ⌝ }
-    ensures { λ r. ⌜ (r ≡ length (levelOf base depth (now (table .entry)) 0 i)) × (r ≤ 256) ⌝ }
+    ensures { λ r. ⌜ (r ≡ length (recordsOfLevel base depth (now (table .entry)) 0 i)) × (r ≤ 256) ⌝ }
 {
     let mut total = 0;
     let mut j = 0;

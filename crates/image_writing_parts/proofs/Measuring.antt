@@ -10,7 +10,7 @@ use lib.ListN.{length, length-append}
 use Rattle.model.specs.Loops.{joinBelow}
 use Rattle.model.specs.Tables.{slotAt}
 use Rattle.model.specs.Image.{slotRecord}
-use Rattle.image_writing_parts.specs.Records.{entryOf, levelOf, tableRecords}
+use Rattle.image_writing_parts.specs.Records.{entryOf, recordsOfLevel, tableRecords}
 use Rattle.image_writing_parts.proofs.Putting.{join-more}
 
 module _ (f : ℕ → List ℕ) where
@@ -44,9 +44,9 @@ join-lengths f g h (suc n) =
 
 -- the records of a table are as long for any node
 pub records-length : (d b K : ℕ) (T : List ℕ) (x : ℕ) → length (tableRecords d b K T 0) ≡ length (tableRecords d b K T x)
-unfolding tableRecords levelOf entryOf
+unfolding tableRecords recordsOfLevel entryOf
 records-length d b K T x =
-    join-lengths (levelOf b K T 0) (levelOf b K T x)
+    join-lengths (recordsOfLevel b K T 0) (recordsOfLevel b K T x)
     (λ i.
     join-lengths (entryOf K T 0 i) (entryOf K T x i)
     (λ j.

@@ -13,7 +13,7 @@ use Rattle.model.specs.Memory.{base, digits, depth, nodeCount, tableOf}
 use Rattle.model.specs.Image.{slotRecord, entryRecords, levelRecords, nodeRecords, allRecords}
 use Rattle.model.proofs.Loops.{all-at}
 use Rattle.image_writing_parts.specs.Put.{Put}
-use Rattle.image_writing_parts.specs.Records.{slotOf, entryOf, levelOf, tableRecords}
+use Rattle.image_writing_parts.specs.Records.{slotOf, entryOf, recordsOfLevel, tableRecords}
 use Rattle.image_writing_parts.proofs.Putting.{put-none, pieces-none, pieces-room, pieces-goes, pieces-ends}
 use Rattle.image_writing_parts.proofs.Measuring.{records-length, total-goes, total-ends}
 
@@ -42,21 +42,21 @@ unfolding entryOf slotOf slotRecord
 entry-room T K x i j k o a p e f l P = pieces-room (slotRecord T x i j) o a k K p e f l P
 
 -- the same of the entries of a level and of the levels of a table
-pub level-room : (T : List ℕ) (b K x i j : ℕ) (o : List ℕ) (a : ℕ) (p : List ℕ) (e : ℕ) → a + length (levelOf b K T x i) ≤ length o → j < b
+pub level-room : (T : List ℕ) (b K x i j : ℕ) (o : List ℕ) (a : ℕ) (p : List ℕ) (e : ℕ) → a + length (recordsOfLevel b K T x i) ≤ length o → j < b
     → Put o a (joinBelow j (entryOf K T x i)) p e → e + length (entryOf K T x i j) ≤ length p
-unfolding levelOf
+unfolding recordsOfLevel
 level-room T b K x i j o a p e f l P = pieces-room (entryOf K T x i) o a j b p e f l P
 
 pub table-room : (T : List ℕ) (d b K x i : ℕ) (o : List ℕ) (a : ℕ) (p : List ℕ) (e : ℕ) → a + length (tableRecords d b K T x) ≤ length o → i < d
-    → Put o a (joinBelow i (levelOf b K T x)) p e → e + length (levelOf b K T x i) ≤ length p
+    → Put o a (joinBelow i (recordsOfLevel b K T x)) p e → e + length (recordsOfLevel b K T x i) ≤ length p
 unfolding tableRecords
-table-room T d b K x i o a p e f l P = pieces-room (levelOf b K T x) o a i d p e f l P
+table-room T d b K x i o a p e f l P = pieces-room (recordsOfLevel b K T x) o a i d p e f l P
 
 -- ---- the records of all nodes, by the settings b, d, K and n of the state
 
 module _ (s t : List ℕ) (d b K : ℕ) (ed : d ≡ digits s) (eb : b ≡ base s) (eK : K ≡ depth s) where
   node-is : (T : List ℕ) (x : ℕ) → T ≡ tableOf t x → tableRecords d b K T x ≡ nodeRecords s t x
-  unfolding tableRecords levelOf entryOf nodeRecords levelRecords entryRecords
+  unfolding tableRecords recordsOfLevel entryOf nodeRecords levelRecords entryRecords
   node-is T x e =
       ap₂ (λ (b K : ℕ). tableRecords d b K T x) eb eK ∙ ap₂ (λ (d : ℕ) (T : List ℕ). tableRecords d (base s) (depth s) T x) ed e
 

@@ -14,11 +14,11 @@ slotOf x i j u = cond (eqb u 0) [] (x ∷ i ∷ j ∷ u ∷ [])
 unfoldable pub entryOf : ℕ → List ℕ → ℕ → ℕ → ℕ → List ℕ
 entryOf K T x i j = joinBelow K (slotRecord T x i j)
 
-unfoldable pub levelOf : ℕ → ℕ → List ℕ → ℕ → ℕ → List ℕ
-levelOf b K T x i = joinBelow b (entryOf K T x i)
+unfoldable pub recordsOfLevel : ℕ → ℕ → List ℕ → ℕ → ℕ → List ℕ
+recordsOfLevel b K T x i = joinBelow b (entryOf K T x i)
 
 unfoldable pub tableRecords : ℕ → ℕ → ℕ → List ℕ → ℕ → List ℕ
-tableRecords d b K T x = joinBelow d (levelOf b K T x)
+tableRecords d b K T x = joinBelow d (recordsOfLevel b K T x)
 
 -- a node's number, its table and settings that can be
 pub record Shape (T : List ℕ) (d b K x : ℕ) : Type 0 where

@@ -5,7 +5,7 @@ ghost use Rattle.model.specs.Image.{allRecords};
 ghost use Rattle.model.proofs.Sound.{Sound};
 ghost use Rattle.tables.specs.Places.{Entry};
 ghost use Rattle.image_writing_parts.specs.Put.{Put};
-ghost use Rattle.image_writing_parts.specs.Records.{slotOf, entryOf, levelOf, tableRecords, Shape};
+ghost use Rattle.image_writing_parts.specs.Records.{slotOf, entryOf, recordsOfLevel, tableRecords, Shape};
 use crate::put;
 use state::settings;
 use tables::entry;
@@ -63,8 +63,8 @@ fn level(
 ) -> usize
     requires { ⌜ Shape (now table) 8 base depth x ⌝ }
     requires { ⌜ i < 8 ⌝ }
-    requires { ⌜ at + length (levelOf base depth (now table) x i) ≤ length (now out) ⌝ }
-    ensures { λ r. ⌜ Put (now (out .entry)) at (levelOf base depth (now (table .entry)) x i) (now (out .exit)) r ⌝ }
+    requires { ⌜ at + length (recordsOfLevel base depth (now table) x i) ≤ length (now out) ⌝ }
+    ensures { λ r. ⌜ Put (now (out .entry)) at (recordsOfLevel base depth (now (table .entry)) x i) (now (out .exit)) r ⌝ }
 {
     let mut end = at;
     let mut j = 0;

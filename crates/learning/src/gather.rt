@@ -2,22 +2,22 @@
 ghost use mathlib.Core.Path.{_≡_};
 ghost use Prim.Native.Nat.{_<_};
 ghost use Rattle.model.specs.Join as join;
-ghost use Rattle.learning.specs.Learners.{OwnerOf, ReadableTable};
-use crate::owner::Owner;
+ghost use Rattle.learning.specs.Learners.{LearnerOf, TableReadable};
+use crate::learner::Learner;
 use state::sets;
 
 // The set with the node at place p, if it is one of them.
 fn gather_place(
     state: &[u64],
-    owner: Owner,
+    owner: Learner,
     level: usize,
     told: u64,
     table: &[u8],
     p: usize,
     nodes: u64,
 ) -> u64
-    requires { ⌜ OwnerOf (now state) owner ⌝ }
-    requires { ⌜ ReadableTable (now state) (now table) ⌝ }
+    requires { ⌜ LearnerOf (now state) owner ⌝ }
+    requires { ⌜ TableReadable (now state) (now table) ⌝ }
     requires { ⌜ p < 512 ⌝ }
     ensures { λ r. ⌜ r ≡ join.gatherPlace (now (state .entry)) (owner .number) level told (now (table .entry)) p nodes ⌝ }
 {
@@ -38,9 +38,16 @@ fn gather_place(
 }
 
 // The set with every one of them in the table.
-pub fn gather(state: &[u64], owner: Owner, level: usize, told: u64, table: &[u8], nodes: u64) -> u64
-    requires { ⌜ OwnerOf (now state) owner ⌝ }
-    requires { ⌜ ReadableTable (now state) (now table) ⌝ }
+pub fn gather(
+    state: &[u64],
+    owner: Learner,
+    level: usize,
+    told: u64,
+    table: &[u8],
+    nodes: u64,
+) -> u64
+    requires { ⌜ LearnerOf (now state) owner ⌝ }
+    requires { ⌜ TableReadable (now state) (now table) ⌝ }
     ensures { λ r. ⌜ r ≡ join.gather (now (state .entry)) (owner .number) level told (now (table .entry)) nodes ⌝ }
 {
     let mut gathered = nodes;

@@ -4,8 +4,8 @@ ghost use mathlib.Core.Path.{_≡_};
 ghost use Prim.Native.Nat.{_<_};
 ghost use Rattle.model.specs.Learning as learning;
 ghost use Rattle.model.specs.Learning.{floorOf};
-ghost use Rattle.learning.specs.Learners.{Readable, LearnsAt, Learns, LearnsTable};
-use crate::owner::Owner;
+ghost use Rattle.learning.specs.Learners.{NodeReadable, LearnsAt, Learns, LearnsTable};
+use crate::learner::Learner;
 use ident::digit;
 use state::record;
 use state::status::Status;
@@ -13,7 +13,7 @@ use tables::entry;
 
 // "The floor of a settled member is 0, of a notifying one its attach level."
 fn floor(state: &[u64], u: usize) -> u64
-    requires { ⌜ Readable (now state) u ⌝ }
+    requires { ⌜ NodeReadable (now state) u ⌝ }
     ensures { λ r. ⌜ r ≡ floorOf (now (state .entry)) u ⌝ }
 {
     let node = record::load(state, u);
@@ -39,7 +39,7 @@ fn learn_at(state: &[u64], own: &mut [u8; 512], depth: usize, u: usize, i: usize
 }
 
 // The learner learns u. Levels below the floor change nothing, so the loop starts there.
-pub fn learn(state: &[u64], own: &mut [u8; 512], learner: Owner, u: usize)
+pub fn learn(state: &[u64], own: &mut [u8; 512], learner: Learner, u: usize)
     requires { ⌜ Learns (now state) learner u ⌝ }
     ensures { λ r. ⌜ now (own .exit) ≡ learning.learn (now (state .entry)) (learner .number) u (now (own .entry)) ⌝ }
 {
@@ -56,7 +56,7 @@ pub fn learn(state: &[u64], own: &mut [u8; 512], learner: Owner, u: usize)
 }
 
 // The node at place p of a table, unless there is none or it is the learner.
-fn learn_place(state: &[u64], own: &mut [u8; 512], learner: Owner, theirs: &[u8], p: usize)
+fn learn_place(state: &[u64], own: &mut [u8; 512], learner: Learner, theirs: &[u8], p: usize)
     requires { ⌜ LearnsTable (now state) learner (now theirs) ⌝ }
     requires { ⌜ p < 512 ⌝ }
     ensures { λ r. ⌜ now (own .exit) ≡ learning.learnPlace (now (state .entry)) (learner .number) (now (theirs .entry)) p (now (own .entry)) ⌝ }
@@ -73,7 +73,7 @@ fn learn_place(state: &[u64], own: &mut [u8; 512], learner: Owner, theirs: &[u8]
 
 // "Learning a table means learning each member in it but x, by level, digit and slot, rising": the places rise with these. theirs is
 // the answering node's table, a part of the lent table memory.
-pub fn learn_table(state: &[u64], own: &mut [u8; 512], learner: Owner, theirs: &[u8])
+pub fn learn_table(state: &[u64], own: &mut [u8; 512], learner: Learner, theirs: &[u8])
     requires { ⌜ LearnsTable (now state) learner (now theirs) ⌝ }
     ensures { λ r. ⌜ now (own .exit) ≡ learning.learnTable (now (state .entry)) (learner .number) (now (theirs .entry)) (now (own .entry)) ⌝ }
 {

@@ -18,7 +18,7 @@ use Rattle.model.proofs.Loops.{all-of}
 use Rattle.model.proofs.Nodes.{nodes-of}
 use Rattle.model.proofs.Ids.{settings-of}
 use Rattle.model.proofs.Sound.{Long}
-use Rattle.model.proofs.Loading.{Readable}
+use Rattle.model.proofs.Loading.{GoodImage}
 
 pub record Framed (im : List ℕ) : Type 0 where
   pub first : byteAt im 0 ≡ 4
@@ -34,7 +34,7 @@ unfolding refuse
 free false n later e z = z
 free true n later e z = absurd (true≢false e)
 
-module _ (im : List ℕ) (F : Framed im) (R : Readable im) where
+module _ (im : List ℕ) (F : Framed im) (R : GoodImage im) where
   settings-there : noSettings im ≡ false
   settings-there = ap₂ _||_ (le-ltb (length im) 5 (omega (arith, F .size))) (ap not (eq-eqb _ 4 (F .first)))
 

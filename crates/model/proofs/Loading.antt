@@ -31,7 +31,7 @@ use Rattle.model.proofs.Rules.{Entries, Addable, gap-free, append-entri
 use Rattle.model.proofs.Picked.{picked, Origin, picked-length, picked-origin, picked-first}
 
 -- what the refusals of reading leave
-pub record Readable (im : List ℕ) : Type 0 where
+pub record GoodImage (im : List ℕ) : Type 0 where
   pub range : InRange (imBase im) (imDigits im) (imDepth im)
   pub some : 1 ≤ imNodes im
   pub few : imNodes im ≤ 64
@@ -76,7 +76,7 @@ pub record Words (im s : List ℕ) : Type 0 where
   pub ids : (x : ℕ) → IsNode s x → idOf s x ≡ imId im x
   pub zero : (p : ℕ) → 4 ≤ p → p < stateLength → ((x : ℕ) → IsNode s x → p ≢ 8 * x) → getD s p 0 ≡ 0
 
-module _ (im s : List ℕ) (R : Readable im) (long : stateLength ≤ length s) where
+module _ (im s : List ℕ) (R : GoodImage im) (long : stateLength ≤ length s) where
   s₀ : List ℕ
   s₀ = withSettings (zeroed stateLength s) (imBase im) (imDigits im) (imDepth im) (imNodes im)
 
@@ -139,7 +139,7 @@ pub record Loaded (im s : List ℕ) (r : ℕ) (t : List ℕ) : Type 0 where
       → entry (depth s) (tableOf t x) i j ≡ picked r (inEntry im x i j) (recNeighbor im)
   pub rest : (p : ℕ) → 512 * nodeCount s ≤ p → p < tablesLength → getD t p 0 ≡ 0
 
-module _ (im s : List ℕ) (R : Readable im) (W : Words im s) where
+module _ (im s : List ℕ) (R : GoodImage im) (W : Words im s) where
   range : InRange (base s) (digits s) (depth s)
   range = subst₃ InRange (sym (W .settings .base)) (sym (W .settings .digits)) (sym (W .settings .depth)) (R .range)
 
@@ -481,7 +481,7 @@ module _ (im s : List ℕ) (R : Readable im) (W : Words im s) where
 
 -- ---- the whole
 
-module _ (s t im : List ℕ) (long : Long s t) (R : Readable im) where
+module _ (s t im : List ℕ) (long : Long s t) (R : GoodImage im) where
   s₂ : List ℕ
   s₂ = loaded s t im .state
 

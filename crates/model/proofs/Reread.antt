@@ -19,7 +19,7 @@ use Rattle.model.proofs.Bools.{and-left, and-right, and-intro, or-right
 use Rattle.model.proofs.Loops.{each-leads, count-same, join-same}
 use Rattle.model.proofs.Memory.{zeroed-length, zeroed-within, table-at, table-set}
 use Rattle.model.proofs.Tables.{size-is}
-use Rattle.model.proofs.Loading.{Readable}
+use Rattle.model.proofs.Loading.{GoodImage}
 use Rattle.model.proofs.Counting.{count-more, join-skip}
 use Rattle.model.proofs.Records.{placeRecord, filled-of, record-some, record-none}
 
@@ -45,7 +45,7 @@ level-of x i j k a hi hj hk e = omega arith
 digit-of : (x i j k a : ℕ) → i < 8 → j < 16 → k < 4 → 512 * (x - 1) + (64 * i + 4 * j + k) ≡ a → a % 64 / 4 ≡ j
 digit-of x i j k a hi hj hk e = omega arith
 
-module _ (im : List ℕ) (R : Readable im) where
+module _ (im : List ℕ) (R : GoodImage im) where
   -- what the rules say of record r
   record Kept (r : ℕ) : Type 0 where
     first : 1 ≤ recNode im r

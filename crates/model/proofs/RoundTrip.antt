@@ -19,7 +19,7 @@ use Rattle.model.specs.Calls.{refused, taken, readCall, writeCall}
 use Rattle.model.proofs.Nodes.{nodes-of}
 use Rattle.model.proofs.Status.{IsNode}
 use Rattle.model.proofs.Sound.{Long, Sound}
-use Rattle.model.proofs.Loading.{Readable, Words, words-loaded, loaded-ok}
+use Rattle.model.proofs.Loading.{GoodImage, Words, words-loaded, loaded-ok}
 use Rattle.model.proofs.Taken.{read-taken, write-taken, state-free}
 use Rattle.model.proofs.Calls.{taken-is}
 use Rattle.model.proofs.Counting.{join-at}
@@ -89,7 +89,7 @@ module _ (s t im : List ℕ) (byte : (a : ℕ) → byteAt im a < 256) (e : readR
   long : Long s t
   long = read-taken s t im e .0
 
-  R : Readable im
+  R : GoodImage im
   R = read-taken s t im e .1
 
   F : Framed im

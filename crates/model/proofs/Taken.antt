@@ -23,7 +23,7 @@ use Rattle.model.proofs.Status.{IsNode, is-node, is-node-of}
 use Rattle.model.proofs.Sound.{Long, Sound, sound-ok, sound-of}
 use Rattle.model.proofs.Beginning.{CanBegin}
 use Rattle.model.proofs.Delivered.{CanDeliver}
-use Rattle.model.proofs.Loading.{Readable}
+use Rattle.model.proofs.Loading.{GoodImage}
 
 ruleset parts = (and-left, and-right)
 
@@ -125,7 +125,7 @@ write-taken s t out e =
 im-node : (im : List ℕ) (x : ℕ) → imIsNode im x ≡ true → (1 ≤ x) × (x ≤ imNodes im)
 im-node im x e = (leb-true 1 x (and-left _ _ e), leb-true x (imNodes im) (and-right (leb 1 x) _ e))
 
-pub read-taken : (s t im : List ℕ) → readRefusal s t im ≡ 0 → Long s t × Readable im
+pub read-taken : (s t im : List ℕ) → readRefusal s t im ≡ 0 → Long s t × GoodImage im
 unfolding readRefusal imageRefusal recordsGood
 read-taken s t im e =
     let p1 = passed _ 0 _ e in

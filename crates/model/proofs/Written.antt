@@ -22,7 +22,7 @@ use Rattle.model.proofs.Ids.{InRange, valid-digit}
 use Rattle.model.proofs.Memory.{table-at}
 use Rattle.model.proofs.Status.{IsNode}
 use Rattle.model.proofs.Sound.{SlotOk, Sound, table-fits}
-use Rattle.model.proofs.Loading.{Readable}
+use Rattle.model.proofs.Loading.{GoodImage}
 use Rattle.model.proofs.Counting.{Ranked, count-finds, count-mono, count-rises, count-most}
 use Rattle.model.proofs.Records.{filledAt, filled-nonzero, filled-of}
 use Rattle.model.proofs.Sections.{Pictures}
@@ -369,7 +369,7 @@ module _ (im s t : List ℕ) (S : Sound s t) (P : Pictures im s t) where
         (and-intro _ _ (eq-eqb _ x a) (and-intro _ _ (eq-eqb _ i b) own))
 
   -- the whole
-  pub written-readable : Readable im
+  pub written-readable : GoodImage im
   unfolding ownHaveRecords
   written-readable = record {
     range = subst₃ InRange (sym (P .base)) (sym (P .digits)) (sym (P .depth)) (S .settings);

@@ -7,7 +7,7 @@ use native.Mathlib.Omega.{arith}
 use native.Mathlib.Nat.{pow-succ', div-div-eq-div-mul, zero-div}
 use lib.ListN.{getD}
 use Rattle.model.specs.Calls.{Outcome, beginCall, deliverCall, lookupCall, verdictCall}
-use Rattle.delivery_parts.specs.declared.answer.Answer.{Answer}
+use Rattle.answers.specs.declared.DeliverAnswer.{DeliverAnswer}
 use Rattle.delivery_parts.specs.Answers.{outcome, answerFields}
 use Rattle.engine.specs.Outcomes.{leaves}
 use Rattle.packing.specs.declared.delivered.Numbers.{Numbers}
@@ -66,7 +66,7 @@ module _ (s t s₁ t₁ : List ℕ) (id g r x : ℕ) (e : leaves s₁ t₁ (r �
 
 pub ruleset begun-fits = (begun-refusal, begun-node, zero-fits)
 
-module _ (s t s₁ t₁ : List ℕ) (x y : ℕ) (a : Answer) (n : Numbers) (e : outcome s₁ t₁ a ≡ deliverCall s t x y) (f : listed n ≡ answerFields a) where
+module _ (s t s₁ t₁ : List ℕ) (x y : ℕ) (a : DeliverAnswer) (n : Numbers) (e : outcome s₁ t₁ a ≡ deliverCall s t x y) (f : listed n ≡ answerFields a) where
   delivered-is : leaves s₁ t₁ (listed n) ≡ deliverCall s t x y
   delivered-is = ap (leaves s₁ t₁) f ∙ e
 

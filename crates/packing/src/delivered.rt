@@ -4,8 +4,8 @@ ghost use mathlib.Core.Path.{_≡_};
 ghost use Rattle.delivery_parts.specs.Answers.{answerFields};
 ghost use Rattle.packing.specs.Numbers.{listed, takenFields};
 use crate::pack::bit;
-use delivery_parts::answer::Answer;
-use delivery_parts::answer::Step;
+use answers::DeliverAnswer;
+use answers::Kind;
 
 pub struct Numbers {
     pub refusal: u64,
@@ -25,21 +25,21 @@ fn taken(kind: u64, level: u64, settled: bool) -> Numbers
     }
 }
 
-pub fn as_numbers(answer: Answer) -> Numbers
+pub fn as_numbers(answer: DeliverAnswer) -> Numbers
     ensures { λ r. ⌜ listed r ≡ answerFields answer ⌝ }
 {
     let settled = answer.settled;
-    let step = answer.step;
-    match step {
-        Step::Refused(number) => Numbers {
+    let kind = answer.kind;
+    match kind {
+        Kind::Refused(number) => Numbers {
             refusal: number,
             kind: 0,
             level: 0,
             settled: 0,
         },
-        Step::Copied => taken(1, 0, settled),
-        Step::SentOn => taken(2, 0, settled),
-        Step::Attached(level) => taken(3, level, settled),
-        Step::Notified => taken(4, 0, settled),
+        Kind::Copied => taken(1, 0, settled),
+        Kind::SentOn => taken(2, 0, settled),
+        Kind::Attached(level) => taken(3, level, settled),
+        Kind::Notified => taken(4, 0, settled),
     }
 }

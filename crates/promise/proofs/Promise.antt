@@ -28,7 +28,7 @@ use Rattle.model.proofs.Unchanged.{same-lookup, same-hops}
 use Rattle.model.proofs.Later.{node-later}
 use Rattle.model.proofs.Growing.{Onward}
 use Rattle.model.proofs.Taken.{found-taken, read-taken, lookup-free}
-use Rattle.promise.specs.Promise.{lookupIn, alreadyMatched, Passes, NodeOf, Demand3}
+use Rattle.promise.specs.Promise.{lookupIn, alreadyMatched, Passes, NodeIn, Demand3}
 use Rattle.model.proofs.Calls.{taken-is, refused-is}
 use Rattle.promise.proofs.Run.{Holds, run-goes}
 
@@ -162,7 +162,7 @@ module _ (m : Memory) (S : Sound (m .state) (m .tables)) (u z : ℕ) (nu : IsNod
 
 -- from a point where the network passes to any later one
 lookups-stay : (m m′ : Memory) → Sound (m .state) (m .tables) → Sound (m′ .state) (m′ .tables)
-    → Onward (m .state) (m .tables) (m′ .state) (m′ .tables) → Passes m → (u z : ℕ) → NodeOf m u → NodeOf m z
+    → Onward (m .state) (m .tables) (m′ .state) (m′ .tables) → Passes m → (u z : ℕ) → NodeIn m u → NodeIn m z
     → (veryHops (m′ .state) (m′ .tables) u z ≡ veryHops (m .state) (m .tables) u z) × (lookupIn m′ u z .answer ≡ lookupIn m u z .answer)
 lookups-stay m m′ S S′ on p u z a b =
     let nu = is-node (m .state) u a in
@@ -195,7 +195,7 @@ promise m c cs run =
           let w : play (after m c) cs ≡ play (play (after m c) early) late = ap (play (after m c)) e ∙ play-append (after m c) early late in
           subst
           (λ (M : Memory).
-          Passes (play (after m c) early) → (u z : ℕ) → NodeOf (play (after m c) early) u → NodeOf (play (after m c) early) z
+          Passes (play (after m c) early) → (u z : ℕ) → NodeIn (play (after m c) early) u → NodeIn (play (after m c) early) z
           → (veryHops (M .state) (M .tables) u z ≡ veryHops (play (after m c) early .state) (play (after m c) early .tables) u z)
           × (lookupIn M u z .answer ≡ lookupIn (play (after m c) early) u z .answer))
           (sym w)

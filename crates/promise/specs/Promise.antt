@@ -25,8 +25,8 @@ pub record Passes (m : Memory) : Type 0 where
   pub yes : getD (verdictCall (m .state) (m .tables) .answer) 1 0 ≡ 1
 
 -- u is a node of the network in this memory
-abbrev pub NodeOf : Memory → ℕ → Type 0
-NodeOf m u = isNode (m .state) u ≡ true
+abbrev pub NodeIn : Memory → ℕ → Type 0
+NodeIn m u = isNode (m .state) u ≡ true
 
 -- what holds of a run that started with memory m and call c, and went on with the calls cs
 pub record Promise (m : Memory) (c : Call) (cs : List Call) : Type 0 where
@@ -34,7 +34,7 @@ pub record Promise (m : Memory) (c : Call) (cs : List Call) : Type 0 where
   pub requests : (x : ℕ) → sent x (history m (c ∷ cs)) ≤ digits (play m (c ∷ cs) .state) + 1
   -- (b) a lookup from any node to any node is not refused, takes at most d hops less the digits already matched, and its very hops are
   -- one node more than the hops that it answers
-  pub lookups : (u z : ℕ) → NodeOf (play m (c ∷ cs)) u → NodeOf (play m (c ∷ cs)) z
+  pub lookups : (u z : ℕ) → NodeIn (play m (c ∷ cs)) u → NodeIn (play m (c ∷ cs)) z
       → (isTaken (lookupIn (play m (c ∷ cs)) u z .answer) ≡ true)
       × (getD (lookupIn (play m (c ∷ cs)) u z .answer) 2 0
       ≤ digits (play m (c ∷ cs) .state) - alreadyMatched (play m (c ∷ cs)) u z)
@@ -43,7 +43,7 @@ pub record Promise (m : Memory) (c : Call) (cs : List Call) : Type 0 where
   -- (c) since any point of the run at which the network passed the verdict, lookups between nodes of that time have taken the very same
   -- hops and given the same answers
   pub unchanged : (early late : List Call) → cs ≡ early ++ late → Passes (play m (c ∷ early))
-      → (u z : ℕ) → NodeOf (play m (c ∷ early)) u → NodeOf (play m (c ∷ early)) z
+      → (u z : ℕ) → NodeIn (play m (c ∷ early)) u → NodeIn (play m (c ∷ early)) z
       → (veryHops (play m (c ∷ cs) .state) (play m (c ∷ cs) .tables) u z
       ≡ veryHops (play m (c ∷ early) .state) (play m (c ∷ early) .tables) u z)
       × (lookupIn (play m (c ∷ cs)) u z .answer ≡ lookupIn (play m (c ∷ early)) u z .answer)

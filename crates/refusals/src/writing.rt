@@ -12,7 +12,7 @@ pub fn refusal(state: &[u64], tables: &[u8], out: &[u8]) -> u64
     if !sentences::all_in_system(state) {
         return 15;
     }
-    if out.len() < image_writing::length(state, tables) {
+    if out.len() < image_writing::image_length(state, tables) {
         return 16;
     }
     0

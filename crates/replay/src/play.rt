@@ -1,6 +1,6 @@
 // Each command played by the public calls, and its answer in words.
 use crate::say;
-use delivery_parts::answer::Step;
+use answers::Kind;
 use engine::beginning;
 use engine::delivering;
 use engine::founding;
@@ -26,13 +26,13 @@ pub fn begin(state: &mut [u64], tables: &mut [u8], id: u32, gateway: u64) {
 }
 
 // What a taken delivery was, and whether the sender settled.
-fn took(step: Step, settled: bool) {
-    match step {
-        Step::Refused(_) => return,
-        Step::Copied => say::text(b"deliver: copied"),
-        Step::SentOn => say::text(b"deliver: sent on"),
-        Step::Attached(level) => attached(level),
-        Step::Notified => say::text(b"deliver: notified"),
+fn took(kind: Kind, settled: bool) {
+    match kind {
+        Kind::Refused(_) => return,
+        Kind::Copied => say::text(b"deliver: copied"),
+        Kind::SentOn => say::text(b"deliver: sent on"),
+        Kind::Attached(level) => attached(level),
+        Kind::Notified => say::text(b"deliver: notified"),
     }
     if settled {
         say::text(b", settled");
@@ -47,12 +47,12 @@ fn attached(level: u64) {
 
 pub fn deliver(state: &mut [u64], tables: &mut [u8], sender: u64, receiver: u64) {
     let r = delivering::deliver(state, tables, sender, receiver);
-    let step = r.step;
-    if let Step::Refused(number) = step {
+    let kind = r.kind;
+    if let Kind::Refused(number) = kind {
         say::refused(number);
         return;
     }
-    took(step, r.settled);
+    took(kind, r.settled);
 }
 
 fn hops(n: u64) {
@@ -124,8 +124,8 @@ pub fn save(state: &[u64], tables: &[u8], path: &[u8]) {
         say::refused(r.refusal);
         return;
     }
-    let n = r.length as usize;
-    keep(path, script::words::part(&image, 0, n), r.length);
+    let n = r.image_length as usize;
+    keep(path, script::words::part(&image, 0, n), r.image_length);
 }
 
 pub fn load(state: &mut [u64], tables: &mut [u8], path: &[u8]) {

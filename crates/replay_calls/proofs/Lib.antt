@@ -1,5 +1,5 @@
 -- The laws of a run as code.
 pub mod Ones
 pub mod Runs
-pub mod Kept
+pub mod RunKept
 pub mod Forms

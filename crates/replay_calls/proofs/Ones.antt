@@ -10,7 +10,7 @@ use lib.Seq.{length-take-le, take-suc-set}
 use borrow.Author.Tests.{ne-eqb}
 use Rattle.model.specs.Calls.{foundCall, readCall, beginCall, deliverCall, lookupCall, verdictCall, writeCall}
 use Rattle.model.specs.Run.{step}
-use Rattle.delivery_parts.specs.declared.answer.Answer.{Answer}
+use Rattle.answers.specs.declared.DeliverAnswer.{DeliverAnswer}
 use Rattle.delivery_parts.specs.Answers.{outcome, answerFields}
 use Rattle.packing.specs.declared.delivered.Numbers.{Numbers}
 use Rattle.packing.specs.Numbers as numbers
@@ -86,7 +86,7 @@ module _ (s t s₁ t₁ : List ℕ) where
   unfolding playing
   begin-words id g r x e = ap playing e
 
-  pub deliver-words : (x y : ℕ) (a : Answer) (n : Numbers) → outcome s₁ t₁ a ≡ deliverCall s t x y → numbers.listed n ≡ answerFields a
+  pub deliver-words : (x y : ℕ) (a : DeliverAnswer) (n : Numbers) → outcome s₁ t₁ a ≡ deliverCall s t x y → numbers.listed n ≡ answerFields a
       → shown s₁ t₁ (record { refusal = n .refusal; first = n .kind; second = n .level; third = n .settled; fourth = 0 })
       ≡ playing (deliverCall s t x y)
   unfolding playing

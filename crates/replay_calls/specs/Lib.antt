@@ -2,4 +2,4 @@
 pub mod Coded
 pub mod Answered
 pub mod Shown
-pub mod Kept
+pub mod RunKept

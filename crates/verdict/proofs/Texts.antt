@@ -9,9 +9,9 @@ use Rattle.model.specs.Calls.{Outcome, readCall, verdictCall}
 use Rattle.model.proofs.Fields.{Bytes, read-bytes, verdict-bytes}
 use Rattle.text.specs.Numbers.{decimal}
 use Rattle.engine.specs.Outcomes.{leaves}
-use Rattle.engine.specs.declared.verdict.Judged.{Judged}
+use Rattle.answers.specs.declared.VerdictAnswer.{VerdictAnswer}
 use Rattle.verdict.specs.Lines.{refusalWord, consistentWord, atWord, space, newline, lineOne, judgement, place, lineTwo, verdictText, verdictLines}
-use Rattle.verdict.specs.Fits.{judgedFields, Fits}
+use Rattle.verdict.specs.Fits.{verdictAnswerFields, Fits}
 
 -- ---- the lines, each piece behind the one before it
 
@@ -46,12 +46,12 @@ line-two-is k x i j o a b e f = f ∙ ap (λ (l : List ℕ). l ++ place x i j) e
 
 -- ---- what they show
 
-pub judged-refused : (j : Judged) (a : List ℕ) → (j .refusal ≡ 0 → ⊥) → a ≡ lineOne (j .refusal) → a ≡ verdictText (judgedFields j)
+pub judged-refused : (j : VerdictAnswer) (a : List ℕ) → (j .refusal ≡ 0 → ⊥) → a ≡ lineOne (j .refusal) → a ≡ verdictText (verdictAnswerFields j)
 unfolding verdictText
 judged-refused j a h e = rw (ne-eqb (j .refusal) 0 h) e
 
-pub judged-taken : (j : Judged) (a b : List ℕ) → j .refusal ≡ 0 → a ≡ lineOne 0
-    → b ≡ a ++ lineTwo (cond (j .consistent) 1 0) (j .node) (j .level) (j .digit) → b ≡ verdictText (judgedFields j)
+pub judged-taken : (j : VerdictAnswer) (a b : List ℕ) → j .refusal ≡ 0 → a ≡ lineOne 0
+    → b ≡ a ++ lineTwo (cond (j .consistent) 1 0) (j .node) (j .level) (j .digit) → b ≡ verdictText (verdictAnswerFields j)
 unfolding verdictText
 judged-taken j a b h e f =
     rw (eq-eqb (j .refusal) 0 h) (f ∙ ap (λ (l : List ℕ). l ++ lineTwo (cond (j .consistent) 1 0) (j .node) (j .level) (j .digit)) e)
@@ -68,14 +68,14 @@ module _ (s t im s₁ t₁ : List ℕ) (r : ℕ) (e : leaves s₁ t₁ (r ∷ []
   unfolding verdictLines
   lines-refused a h f = rw (number, ne-eqb r 0 h) f
 
-  module _ (z : r ≡ 0) (j : Judged) (f : leaves s₁ t₁ (judgedFields j) ≡ verdictCall s₁ t₁) where
+  module _ (z : r ≡ 0) (j : VerdictAnswer) (f : leaves s₁ t₁ (verdictAnswerFields j) ≡ verdictCall s₁ t₁) where
     pub judged-fits : Fits j
     unfolding Bytes
     judged-fits =
-        let b : Bytes (judgedFields j) = subst (λ (o : Outcome). Bytes (o .answer)) (sym f) (verdict-bytes s₁ t₁) in
+        let b : Bytes (verdictAnswerFields j) = subst (λ (o : Outcome). Bytes (o .answer)) (sym f) (verdict-bytes s₁ t₁) in
         record { refusal = b .0; node = b .1 .1 .0; level = b .1 .1 .1 .0; digit = b .1 .1 .1 .1 .0 }
 
-    pub lines-judged : (a : List ℕ) → a ≡ verdictText (judgedFields j) → a ≡ verdictLines s t im
+    pub lines-judged : (a : List ℕ) → a ≡ verdictText (verdictAnswerFields j) → a ≡ verdictLines s t im
     unfolding verdictLines
     lines-judged a g =
         rw (← e, eq-eqb r 0 z) (g ∙ ap (λ (o : Outcome). verdictText (o .answer)) f)

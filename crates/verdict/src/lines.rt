@@ -6,9 +6,9 @@ ghost use mathlib.Core.List.{_++_};
 ghost use Prim.Native.Nat.{_+_, _<_, _≤_};
 ghost use lib.ListN.{length, take};
 ghost use Rattle.verdict.specs.Lines.{lineOne, judgement, place, lineTwo, verdictText, verdictLines};
-ghost use Rattle.verdict.specs.Fits.{judgedFields, Fits};
+ghost use Rattle.verdict.specs.Fits.{verdictAnswerFields, Fits};
+use answers::VerdictAnswer;
 use engine::reading;
-use engine::verdict::Judged;
 
 fn line_one(out: &mut [u8], number: u64) -> usize
     requires { ⌜ 12 ≤ length (now out) ⌝ }
@@ -45,7 +45,7 @@ fn line_end(out: &mut [u8], at: usize, x: u64, i: u64, j: u64) -> usize
     text::number_then(out, third, j, b"\n")
 }
 
-fn line_two(out: &mut [u8], at: usize, j: Judged) -> usize
+fn line_two(out: &mut [u8], at: usize, j: VerdictAnswer) -> usize
     requires { ⌜ at + 28 ≤ length (now out) ⌝ }
     requires { ⌜ Fits j ⌝ }
     ensures { λ r. ⌜ take r (now (out .exit)) ≡ take at (now (out .entry)) ++ lineTwo (cond (j .consistent) 1 0) (j .node) (j .level) (j .digit) ⌝ }
@@ -55,10 +55,10 @@ fn line_two(out: &mut [u8], at: usize, j: Judged) -> usize
     line_end(out, end, j.node, j.level, j.digit)
 }
 
-fn judged(out: &mut [u8], j: Judged) -> usize
+fn judged(out: &mut [u8], j: VerdictAnswer) -> usize
     requires { ⌜ 40 ≤ length (now out) ⌝ }
     requires { ⌜ Fits j ⌝ }
-    ensures { λ r. ⌜ take r (now (out .exit)) ≡ verdictText (judgedFields j) ⌝ }
+    ensures { λ r. ⌜ take r (now (out .exit)) ≡ verdictText (verdictAnswerFields j) ⌝ }
     ensures { λ r. ⌜ r ≤ 40 ⌝ }
 {
     if j.refusal != 0 {

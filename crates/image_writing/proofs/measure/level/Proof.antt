@@ -5,7 +5,7 @@ use native.Mathlib.Omega.{arith}
 use lib.ListN.{length}
 use borrow.Author.Needs.{needs}
 use Rattle.model.specs.Loops.{joinBelow}
-use Rattle.image_writing_parts.specs.Records.{entryOf, levelOf}
+use Rattle.image_writing_parts.specs.Records.{entryOf, recordsOfLevel}
 use Rattle.image_writing_parts.proofs.Measuring.{total-none, total-goes, total-ends}
 use Rattle.image_writing.proofs.measure.level.Statement.{statement}
 use Rattle.image_writing.proofs.measure.level.Tie as tie
@@ -35,7 +35,7 @@ loop-again : tie.Need-loop-again Inv-loop μ-loop
 loop-again c = (omega arith, omega arith, search total-goes)
 
 returns : tie.Need-returns Inv-loop μ-loop
-unfolding levelOf
+unfolding recordsOfLevel
 returns c = (search total-ends, omega arith)
 
 pub level-spec : {M : Type 1} → statement M

@@ -5,13 +5,13 @@ use native.Mathlib.Omega.{arith}
 use lib.ListN.{length}
 use borrow.Author.Needs.{needs}
 use Rattle.model.specs.Loops.{joinBelow}
-use Rattle.image_writing_parts.specs.Records.{levelOf, tableRecords}
+use Rattle.image_writing_parts.specs.Records.{recordsOfLevel, tableRecords}
 use Rattle.image_writing_parts.proofs.Measuring.{total-none, total-goes, total-ends}
 use Rattle.image_writing.proofs.measure.node.Statement.{statement}
 use Rattle.image_writing.proofs.measure.node.Tie as tie
 
 abbrev Inv-loop : tie.InvT-loop
-Inv-loop table digits base depth total₀ i₀ total i = (i ≤ digits) × (total ≤ 256 * i) × (total ≡ length (joinBelow i (levelOf base depth table 0)))
+Inv-loop table digits base depth total₀ i₀ total i = (i ≤ digits) × (total ≤ 256 * i) × (total ≡ length (joinBelow i (recordsOfLevel base depth table 0)))
 
 abbrev μ-loop : tie.MeasureT-loop
 μ-loop table digits base depth total₀ i₀ total i = digits - i

@@ -5,7 +5,7 @@ use native.Mathlib.Omega.{arith}
 use lib.ListN.{length}
 use borrow.Author.Needs.{needs}
 use Rattle.model.specs.Loops.{joinBelow}
-use Rattle.image_writing_parts.specs.Records.{entryOf, levelOf}
+use Rattle.image_writing_parts.specs.Records.{entryOf, recordsOfLevel}
 use Rattle.image_writing_parts.specs.Put.{Put}
 use Rattle.image_writing_parts.proofs.Putting.{pieces-none, pieces-goes, pieces-ends}
 use Rattle.image_writing_parts.proofs.SlotLaws.{level-room}
@@ -37,7 +37,7 @@ same-length : tie.Need-same-length Inv-loop μ-loop
 same-length c = omega arith
 
 returns : tie.Need-returns Inv-loop μ-loop
-unfolding levelOf
+unfolding recordsOfLevel
 returns c = search pieces-ends
 
 pub level-spec : {M : Type 1} → statement M

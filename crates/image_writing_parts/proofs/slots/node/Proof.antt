@@ -5,7 +5,7 @@ use native.Mathlib.Omega.{arith}
 use lib.ListN.{length}
 use borrow.Author.Needs.{needs}
 use Rattle.model.specs.Loops.{joinBelow}
-use Rattle.image_writing_parts.specs.Records.{levelOf, tableRecords}
+use Rattle.image_writing_parts.specs.Records.{recordsOfLevel, tableRecords}
 use Rattle.image_writing_parts.specs.Put.{Put}
 use Rattle.image_writing_parts.proofs.Putting.{pieces-none, pieces-goes, pieces-ends}
 use Rattle.image_writing_parts.proofs.SlotLaws.{table-room}
@@ -13,7 +13,7 @@ use Rattle.image_writing_parts.proofs.slots.node.Statement.{statement}
 use Rattle.image_writing_parts.proofs.slots.node.Tie as tie
 
 abbrev Inv-loop : tie.InvT-loop
-Inv-loop table digits base depth x out₀ at end₀ i₀ out end i = (i ≤ digits) × (length out ≡ length out₀) × Put out₀ at (joinBelow i (levelOf base depth table x)) out end
+Inv-loop table digits base depth x out₀ at end₀ i₀ out end i = (i ≤ digits) × (length out ≡ length out₀) × Put out₀ at (joinBelow i (recordsOfLevel base depth table x)) out end
 
 abbrev μ-loop : tie.MeasureT-loop
 μ-loop table digits base depth x out₀ at end₀ i₀ out end i = digits - i

@@ -4,8 +4,8 @@ use Rattle.packing.proofs.NumbersLaws.{numbers-refused, numbers-copied,
 use Rattle.packing.proofs.delivered.as_numbers.Statement.{statement}
 use Rattle.packing.proofs.delivered.as_numbers.Tie as tie
 
-enum-known-step : tie.Need-enum-known-step
-enum-known-step c = search needs
+enum-known-kind : tie.Need-enum-known-kind
+enum-known-kind c = search needs
 
 enum-told : tie.Need-enum-told
 enum-told c = search needs
@@ -19,8 +19,8 @@ enum-told-2 c = search needs
 taken-requires-2 : tie.Need-taken-requires-2
 taken-requires-2 c κs = search needs
 
-enum-known-step-2 : tie.Need-enum-known-step-2
-enum-known-step-2 c = search needs
+enum-known-kind-2 : tie.Need-enum-known-kind-2
+enum-known-kind-2 c = search needs
 
 taken-requires-3 : tie.Need-taken-requires-3
 taken-requires-3 c κs = search needs
@@ -50,12 +50,12 @@ pub as-numbers-spec : {M : Type 1} → statement M
 as-numbers-spec =
     tie.close
     (tie.spec
-    enum-known-step
+    enum-known-kind
     enum-told
     taken-requires
     enum-told-2
     taken-requires-2
-    enum-known-step-2
+    enum-known-kind-2
     taken-requires-3
     enum-told-3
     taken-requires-4

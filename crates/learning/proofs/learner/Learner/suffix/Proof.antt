@@ -6,12 +6,12 @@ use borrow.Author.Needs.{needs}
 use Rattle.model.specs.Ids.{commonSuffix}
 use Rattle.model.specs.Memory.{idOf}
 use Rattle.model.specs.Nodes.{suffixOf}
-use Rattle.learning.specs.declared.owner.Owner.{Owner}
-use Rattle.learning.specs.Learners.{OwnerOf}
-use Rattle.learning.proofs.owner.Owner.suffix.Statement.{statement}
-use Rattle.learning.proofs.owner.Owner.suffix.Tie as tie
+use Rattle.learning.specs.declared.learner.Learner.{Learner}
+use Rattle.learning.specs.Learners.{LearnerOf}
+use Rattle.learning.proofs.learner.Learner.suffix.Statement.{statement}
+use Rattle.learning.proofs.learner.Learner.suffix.Tie as tie
 
-suffix-is : (s : List ℕ) (o : Owner) (u b r : ℕ) → OwnerOf s o → b ≡ idOf s u → r ≡ commonSuffix (o .digits) (o .id) b
+suffix-is : (s : List ℕ) (o : Learner) (u b r : ℕ) → LearnerOf s o → b ≡ idOf s u → r ≡ commonSuffix (o .digits) (o .id) b
     → r ≡ suffixOf s (o .number) u
 suffix-is s o u b r w p e = cc
 

@@ -8,7 +8,7 @@ use Rattle.promise.specs.Promise.{Promise}
 use Rattle.replay_calls.specs.Answered.{answersTo}
 
 -- the memory and the words that the code left are those of a run of which demand 3 holds
-pub record Kept (m : Memory) (c : Call) (cs : List Call) (left : Memory) (words : List ℕ) : Type 0 where
+pub record RunKept (m : Memory) (c : Call) (cs : List Call) (left : Memory) (words : List ℕ) : Type 0 where
   pub left-is : left ≡ play m (c ∷ cs)
   pub words-are : words ≡ answersTo m (c ∷ cs)
   pub promise : Promise m c cs

@@ -1,8 +1,8 @@
 -- `length`: the fixed bytes, the ids and the records. Assumes nothing.
 use borrow.Author.Needs.{needs}
 use Rattle.image_writing.proofs.ImageLaws.{measured}
-use Rattle.image_writing.proofs.length.Statement.{statement}
-use Rattle.image_writing.proofs.length.Tie as tie
+use Rattle.image_writing.proofs.image_length.Statement.{statement}
+use Rattle.image_writing.proofs.image_length.Tie as tie
 
 load-requires : tie.Need-load-requires
 load-requires c κs = search needs
@@ -22,6 +22,6 @@ add-result-2 c = search needs
 returns : tie.Need-returns
 returns c = search measured
 
-pub length-spec : {M : Type 1} → statement M
-length-spec =
+pub image-length-spec : {M : Type 1} → statement M
+image-length-spec =
     tie.close (tie.spec load-requires mul-result add-result records-requires add-result-2 returns)

@@ -1,0 +1,48 @@
+// What the calls answer, each a struct with the refusal first, 0 for none: on a refusal every other field is zero or false.
+pub mod refusal;
+
+// Beginning a join: the new node's number.
+pub struct BeginAnswer {
+    pub refusal: u64,
+    pub node: u64,
+}
+
+// What a delivery was: "copied (any copying sender), sent on (a waiting sender, E full), attached with its level, or notified".
+pub enum Kind {
+    // the call was refused, with this number
+    Refused(u64),
+    Copied,
+    SentOn,
+    // at this level
+    Attached(u64),
+    Notified,
+}
+
+// A delivery: its kind, and whether the sender settled.
+pub struct DeliverAnswer {
+    pub kind: Kind,
+    pub settled: bool,
+}
+
+// A lookup: whether it arrived, its hops and its last node.
+pub struct LookupAnswer {
+    pub refusal: u64,
+    pub arrived: bool,
+    pub hops: u64,
+    pub last: u64,
+}
+
+// The verdict: whether the network is K-consistent, and if not, node, level and digit of the first entry that falls short.
+pub struct VerdictAnswer {
+    pub refusal: u64,
+    pub consistent: bool,
+    pub node: u64,
+    pub level: u64,
+    pub digit: u64,
+}
+
+// Writing: the length of the image in bytes.
+pub struct WriteAnswer {
+    pub refusal: u64,
+    pub image_length: u64,
+}
