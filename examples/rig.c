@@ -42,7 +42,7 @@ static const char *const refusals[] = {
     [OVERLAY_SHORT_OUTPUT] = "the memory for the image is too short",
 };
 
-static const char *const steps[] = {
+static const char *const kinds[] = {
     [OVERLAY_COPIED] = "copied",
     [OVERLAY_SENT_ON] = "was sent on",
     [OVERLAY_ATTACHED] = "attached",
@@ -66,8 +66,8 @@ static void print_refusal(const char *what, uint64_t answer)
 
 static void print_delivery(unsigned sender, unsigned receiver, uint64_t answer)
 {
-    printf("node %u %s at node %u", sender, steps[overlay_step(answer)], receiver);
-    if (overlay_step(answer) == OVERLAY_ATTACHED)
+    printf("node %u %s at node %u", sender, kinds[overlay_kind(answer)], receiver);
+    if (overlay_kind(answer) == OVERLAY_ATTACHED)
         printf(", level %u", overlay_attach_level(answer));
     printf("%s\n", overlay_settled(answer) ? ", and is in system" : "");
 }

@@ -60,7 +60,7 @@ uint64_t overlay_read(uint64_t *state, size_t state_len, uint8_t *tables, size_t
 uint64_t overlay_begin(uint64_t *state, size_t state_len, uint8_t *tables, size_t tables_len,
                        uint32_t id, uint64_t gateway);
 
-/* Delivers the sender's outstanding request to the receiver, with the receiver's answer. Answers what it was, by overlay_step,
+/* Delivers the sender's outstanding request to the receiver, with the receiver's answer. Answers its kind, by overlay_kind,
  * overlay_attach_level and overlay_settled. Refusals 1, 2, 9, 13, 14. */
 uint64_t overlay_deliver(uint64_t *state, size_t state_len, uint8_t *tables, size_t tables_len,
                          uint64_t sender, uint64_t receiver);
@@ -90,14 +90,14 @@ static inline unsigned overlay_refusal(uint64_t answer) { return (unsigned)(answ
 /* Of begin, bits 8 to 15: the new node, 2 to 64. */
 static inline unsigned overlay_new_node(uint64_t answer) { return (unsigned)(answer >> 8 & 0xff); }
 
-/* What a delivery was. */
+/* The kinds of delivery. */
 #define OVERLAY_COPIED 1   /* the sender was copying; it goes on asking */
 #define OVERLAY_SENT_ON 2  /* the sender was waiting and the entry was full; it goes on asking */
 #define OVERLAY_ATTACHED 3 /* the sender was waiting and is now in the receiver's table */
 #define OVERLAY_NOTIFIED 4 /* the sender was notifying */
 
-/* Of deliver, bits 8 to 15: one of the four above. */
-static inline unsigned overlay_step(uint64_t answer) { return (unsigned)(answer >> 8 & 0xff); }
+/* Of deliver, bits 8 to 15: its kind, one of the four above. */
+static inline unsigned overlay_kind(uint64_t answer) { return (unsigned)(answer >> 8 & 0xff); }
 
 /* Of deliver, bits 16 to 23: the attach level, 0 to 7, if the sender attached, else 0. */
 static inline unsigned overlay_attach_level(uint64_t answer) { return (unsigned)(answer >> 16 & 0xff); }

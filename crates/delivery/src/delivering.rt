@@ -8,8 +8,10 @@ use crate::copying::deliver_copying;
 use crate::notifying::deliver_notifying;
 use answers::DeliverAnswer;
 use answers::Kind;
+use answers::refusal::Refusal;
 use delivery_waiting::deliver_waiting;
 use state::record;
+use state::status::Status;
 
 // The delivery of an outstanding request from x to y. A settled node has none, and no other number is a status.
 pub fn deliver(state: &mut [u64], tables: &mut [u8], x: usize, y: usize) -> DeliverAnswer
@@ -19,11 +21,11 @@ pub fn deliver(state: &mut [u64], tables: &mut [u8], x: usize, y: usize) -> Deli
 {
     let status = record::status(state, x);
     match status {
-        1 => deliver_copying(state, tables, x, y),
-        2 => deliver_waiting(state, tables, x, y),
-        3 => deliver_notifying(state, tables, x, y),
-        0 | 4..=0xffff_ffff_ffff_ffff => DeliverAnswer {
-            kind: Kind::Refused(13),
+        Status::COPYING => deliver_copying(state, tables, x, y),
+        Status::WAITING => deliver_waiting(state, tables, x, y),
+        Status::NOTIFYING => deliver_notifying(state, tables, x, y),
+        Status::IN_SYSTEM | 4..=0xffff_ffff_ffff_ffff => DeliverAnswer {
+            kind: Kind::Refused(Refusal::NOT_OUTSTANDING),
             settled: false,
         },
     }

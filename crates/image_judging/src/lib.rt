@@ -4,6 +4,7 @@ ghost use mathlib.Core.Path.{_≡_};
 ghost use Rattle.model.specs.Refusals.{imageRefusal};
 ghost use Rattle.image_fields.specs.Parts.{CountsRight};
 ghost use Rattle.image_judging.specs.Judged.{laterRefusal};
+use answers::refusal::Refusal;
 use ident::settings_in_range;
 use image_fields::header;
 use image_fields::header::byte;
@@ -20,16 +21,16 @@ fn later_refusal(image: &[u8]) -> u64
 {
     let h = header::load(image);
     if !ids::valid(image, h) {
-        return 7;
+        return Refusal::BAD_ID;
     }
     if !ids::different(image, h) {
-        return 8;
+        return Refusal::ID_TAKEN;
     }
     if !passes::named(image, h) {
-        return 9;
+        return Refusal::NO_SUCH_NODE;
     }
     if !passes::good(image, h) {
-        return 10;
+        return Refusal::BAD_RECORDS;
     }
     0
 }
@@ -39,20 +40,20 @@ pub fn refusal(image: &[u8]) -> u64
     ensures { λ r. ⌜ r ≡ imageRefusal (now (image .entry)) ⌝ }
 {
     if header::no_settings(image) {
-        return 3;
+        return Refusal::NOT_AN_IMAGE;
     }
     if image[1] != 1 {
-        return 4;
+        return Refusal::IMAGE_VERSION;
     }
     if !settings_in_range(
         byte(image, 2) as u64,
         byte(image, 3) as u64,
         byte(image, 4) as u64,
     ) {
-        return 5;
+        return Refusal::BAD_SETTING;
     }
     if header::counts_wrong(image) {
-        return 6;
+        return Refusal::IMAGE_COUNTS;
     }
     later_refusal(image)
 }

@@ -3,6 +3,7 @@ ghost use mathlib.Core.Path.{_≡_};
 ghost use Rattle.model.specs.Refusals.{idTaken, beginSentences, beginRefusal};
 ghost use Rattle.model.proofs.Sound.{Sound};
 ghost use Rattle.refusals.specs.Refused.{Placed};
+use answers::refusal::Refusal;
 use ident::valid_id;
 use state::record;
 use state::settings;
@@ -30,19 +31,19 @@ fn sentences_on(state: &[u64], tables: &[u8], id: u32, gateway: u64) -> u64
 {
     let s = settings::load(state);
     if !valid_id(s.base, s.digits, id) {
-        return 7;
+        return Refusal::BAD_ID;
     }
     if id_taken(state, s.nodes, id) {
-        return 8;
+        return Refusal::ID_TAKEN;
     }
     if !sentences::is_node(state, gateway) {
-        return 9;
+        return Refusal::NO_SUCH_NODE;
     }
     if s.nodes == 64 {
-        return 11;
+        return Refusal::FULL;
     }
     if record::status(state, gateway as usize) != Status::IN_SYSTEM {
-        return 12;
+        return Refusal::GATEWAY_NOT_IN_SYSTEM;
     }
     0
 }

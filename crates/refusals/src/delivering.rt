@@ -7,6 +7,7 @@ ghost use Rattle.model.specs.Join as book;
 ghost use Rattle.model.specs.Refusals.{waitHeld, deliverRefusal};
 ghost use Rattle.state.specs.Loaded.{Placed};
 ghost use Rattle.refusals.specs.Refused.{deliverSentences};
+use answers::refusal::Refusal;
 use state::record;
 use state::record::Node;
 use state::sets;
@@ -57,10 +58,10 @@ fn sentences_on(state: &[u64], x: usize, y: usize) -> u64
     ensures { λ r. ⌜ r ≡ deliverSentences (now (state .entry)) x y ⌝ }
 {
     if !outstanding(state, x, y) {
-        return 13;
+        return Refusal::NOT_OUTSTANDING;
     }
     if wait_held(state, x, y) {
-        return 14;
+        return Refusal::HELD;
     }
     0
 }
@@ -73,10 +74,10 @@ pub fn refusal(state: &[u64], tables: &[u8], sender: u64, receiver: u64) -> u64
         return r;
     }
     if !sentences::is_node(state, sender) {
-        return 9;
+        return Refusal::NO_SUCH_NODE;
     }
     if !sentences::is_node(state, receiver) {
-        return 9;
+        return Refusal::NO_SUCH_NODE;
     }
     sentences_on(state, sender as usize, receiver as usize)
 }

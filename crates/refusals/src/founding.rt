@@ -1,6 +1,7 @@
 // The refusals of founding.
 ghost use mathlib.Core.Path.{_≡_};
 ghost use Rattle.model.specs.Refusals.{foundRefusal};
+use answers::refusal::Refusal;
 use ident::settings_in_range;
 use ident::valid_id;
 use state::lent;
@@ -9,13 +10,13 @@ pub fn refusal(state: &[u64], tables: &[u8], base: u64, digits: u64, depth: u64,
     ensures { λ r. ⌜ r ≡ foundRefusal (now (state .entry)) (now (tables .entry)) base digits depth id ⌝ }
 {
     if lent::short(state, tables) {
-        return 1;
+        return Refusal::SHORT_MEMORY;
     }
     if !settings_in_range(base, digits, depth) {
-        return 5;
+        return Refusal::BAD_SETTING;
     }
     if !valid_id(base as usize, digits as usize, id) {
-        return 7;
+        return Refusal::BAD_ID;
     }
     0
 }

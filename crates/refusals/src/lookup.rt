@@ -1,6 +1,7 @@
 // The refusals of lookup.
 ghost use mathlib.Core.Path.{_≡_};
 ghost use Rattle.model.specs.Refusals.{lookupRefusal};
+use answers::refusal::Refusal;
 
 pub fn refusal(state: &[u64], tables: &[u8], from: u64, to: u64) -> u64
     ensures { λ r. ⌜ r ≡ lookupRefusal (now (state .entry)) (now (tables .entry)) from to ⌝ }
@@ -10,10 +11,10 @@ pub fn refusal(state: &[u64], tables: &[u8], from: u64, to: u64) -> u64
         return r;
     }
     if !sentences::is_node(state, from) {
-        return 9;
+        return Refusal::NO_SUCH_NODE;
     }
     if !sentences::is_node(state, to) {
-        return 9;
+        return Refusal::NO_SUCH_NODE;
     }
     0
 }

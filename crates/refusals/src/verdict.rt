@@ -1,6 +1,7 @@
 // The refusals of the verdict.
 ghost use mathlib.Core.Path.{_≡_};
 ghost use Rattle.model.specs.Refusals.{verdictRefusal};
+use answers::refusal::Refusal;
 
 pub fn refusal(state: &[u64], tables: &[u8]) -> u64
     ensures { λ r. ⌜ r ≡ verdictRefusal (now (state .entry)) (now (tables .entry)) ⌝ }
@@ -10,7 +11,7 @@ pub fn refusal(state: &[u64], tables: &[u8]) -> u64
         return r;
     }
     if !sentences::all_in_system(state) {
-        return 15;
+        return Refusal::JOIN_IN_FLIGHT;
     }
     0
 }

@@ -1,6 +1,7 @@
 // The refusals of writing an image.
 ghost use mathlib.Core.Path.{_≡_};
 ghost use Rattle.model.specs.Refusals.{writeRefusal};
+use answers::refusal::Refusal;
 
 pub fn refusal(state: &[u64], tables: &[u8], out: &[u8]) -> u64
     ensures { λ r. ⌜ r ≡ writeRefusal (now (state .entry)) (now (tables .entry)) (now (out .entry)) ⌝ }
@@ -10,10 +11,10 @@ pub fn refusal(state: &[u64], tables: &[u8], out: &[u8]) -> u64
         return r;
     }
     if !sentences::all_in_system(state) {
-        return 15;
+        return Refusal::JOIN_IN_FLIGHT;
     }
     if out.len() < image_writing::image_length(state, tables) {
-        return 16;
+        return Refusal::SHORT_OUTPUT;
     }
     0
 }

@@ -1,4 +1,5 @@
 // Pieces of the output, and the refusals in words.
+use answers::refusal::Refusal;
 use libc::STDOUT_FILENO;
 
 pub fn text(piece: &[u8]) {
@@ -23,26 +24,26 @@ pub fn line(piece: &[u8], n: u64) {
 
 fn sentence_to_8(refusal: u64) {
     match refusal {
-        1 => text(b"the lent memory is too short"),
-        2 => text(b"the state is not sound"),
-        3 => text(b"the image has fewer than 5 bytes or does not begin with 4"),
-        4 => text(b"the image's version is not 1"),
-        5 => text(b"a setting is out of range"),
-        6 => text(b"the image's node count is wrong, or its length differs from its counts"),
-        7 => text(b"an id has a digit not below the base, or a bit above its digits"),
+        Refusal::SHORT_MEMORY => text(b"the lent memory is too short"),
+        Refusal::UNSOUND => text(b"the state is not sound"),
+        Refusal::NOT_AN_IMAGE => text(b"the image has fewer than 5 bytes or does not begin with 4"),
+        Refusal::IMAGE_VERSION => text(b"the image's version is not 1"),
+        Refusal::BAD_SETTING => text(b"a setting is out of range"),
+        Refusal::IMAGE_COUNTS => text(b"the image's node count is wrong, or its length differs from its counts"),
+        Refusal::BAD_ID => text(b"an id has a digit not below the base, or a bit above its digits"),
         _ => text(b"an id is taken already"),
     }
 }
 
 fn sentence_from_9(refusal: u64) {
     match refusal {
-        9 => text(b"a node number is 0 or above the number of nodes"),
-        10 => text(b"the image's records break their order or the table rules"),
-        11 => text(b"there are 64 nodes already"),
-        12 => text(b"the gateway is not settled"),
-        13 => text(b"no request from the first node to the second is outstanding"),
-        14 => text(b"the receiver of a wait request is not settled"),
-        15 => text(b"a node is not settled"),
+        Refusal::NO_SUCH_NODE => text(b"a node number is 0 or above the number of nodes"),
+        Refusal::BAD_RECORDS => text(b"the image's records break their order or the table rules"),
+        Refusal::FULL => text(b"there are 64 nodes already"),
+        Refusal::GATEWAY_NOT_IN_SYSTEM => text(b"the gateway is not settled"),
+        Refusal::NOT_OUTSTANDING => text(b"no request from the first node to the second is outstanding"),
+        Refusal::HELD => text(b"the receiver of a wait request is not settled"),
+        Refusal::JOIN_IN_FLIGHT => text(b"a node is not settled"),
         _ => text(b"the memory for the image is too short"),
     }
 }

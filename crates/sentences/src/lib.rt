@@ -7,6 +7,7 @@ ghost use Rattle.model.specs.Sound as book;
 ghost use Rattle.model.specs.Refusals.{stateRefusal};
 ghost use Rattle.model.specs.Nodes.{allNodes};
 ghost use Rattle.sentences.specs.Counted.{Counted};
+use answers::refusal::Refusal;
 use soundness::sound;
 use state::lent;
 use state::record;
@@ -18,10 +19,10 @@ pub fn state_refusal(state: &[u64], tables: &[u8]) -> u64
     ensures { λ r. ⌜ r ≡ stateRefusal (now (state .entry)) (now (tables .entry)) 0 ⌝ }
 {
     if lent::short(state, tables) {
-        return 1;
+        return Refusal::SHORT_MEMORY;
     }
     if !sound(state, tables) {
-        return 2;
+        return Refusal::UNSOUND;
     }
     0
 }

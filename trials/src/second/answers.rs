@@ -25,20 +25,20 @@ fn packed(refusal: u8, fields: &[u64]) -> u64 {
 
 /// Founding and reading.
 #[derive(Clone, Copy, Debug, Default, PartialEq, Eq)]
-pub struct Found {
+pub struct FoundAnswer {
     pub refusal: u8,
 }
 
 /// Beginning a join: the new node's number.
 #[derive(Clone, Copy, Debug, Default, PartialEq, Eq)]
-pub struct Begun {
+pub struct BeginAnswer {
     pub refusal: u8,
     pub node: u64,
 }
 
 /// A delivery: 1 copied, 2 sent on, 3 attached with its level, 4 notified; and whether the sender settled.
 #[derive(Clone, Copy, Debug, Default, PartialEq, Eq)]
-pub struct Delivered {
+pub struct DeliverAnswer {
     pub refusal: u8,
     pub kind: u64,
     pub level: u64,
@@ -47,7 +47,7 @@ pub struct Delivered {
 
 /// A lookup.
 #[derive(Clone, Copy, Debug, Default, PartialEq, Eq)]
-pub struct Looked {
+pub struct LookupAnswer {
     pub refusal: u8,
     pub arrived: bool,
     pub hops: u64,
@@ -56,7 +56,7 @@ pub struct Looked {
 
 /// A verdict; on a no, the first entry that falls short.
 #[derive(Clone, Copy, Debug, Default, PartialEq, Eq)]
-pub struct Consistency {
+pub struct VerdictAnswer {
     pub refusal: u8,
     pub consistent: bool,
     pub node: u64,
@@ -66,14 +66,14 @@ pub struct Consistency {
 
 /// Writing: the image's length.
 #[derive(Clone, Copy, Debug, Default, PartialEq, Eq)]
-pub struct Written {
+pub struct WriteAnswer {
     pub refusal: u8,
     pub length: u64,
 }
 
-impl Answer for Found {
-    fn refused(refusal: Refusal) -> Found {
-        Found {
+impl Answer for FoundAnswer {
+    fn refused(refusal: Refusal) -> FoundAnswer {
+        FoundAnswer {
             refusal: refusal as u8,
         }
     }
@@ -83,11 +83,11 @@ impl Answer for Found {
     }
 }
 
-impl Answer for Begun {
-    fn refused(refusal: Refusal) -> Begun {
-        Begun {
+impl Answer for BeginAnswer {
+    fn refused(refusal: Refusal) -> BeginAnswer {
+        BeginAnswer {
             refusal: refusal as u8,
-            ..Begun::default()
+            ..BeginAnswer::default()
         }
     }
 
@@ -96,11 +96,11 @@ impl Answer for Begun {
     }
 }
 
-impl Answer for Delivered {
-    fn refused(refusal: Refusal) -> Delivered {
-        Delivered {
+impl Answer for DeliverAnswer {
+    fn refused(refusal: Refusal) -> DeliverAnswer {
+        DeliverAnswer {
             refusal: refusal as u8,
-            ..Delivered::default()
+            ..DeliverAnswer::default()
         }
     }
 
@@ -109,11 +109,11 @@ impl Answer for Delivered {
     }
 }
 
-impl Answer for Looked {
-    fn refused(refusal: Refusal) -> Looked {
-        Looked {
+impl Answer for LookupAnswer {
+    fn refused(refusal: Refusal) -> LookupAnswer {
+        LookupAnswer {
             refusal: refusal as u8,
-            ..Looked::default()
+            ..LookupAnswer::default()
         }
     }
 
@@ -122,11 +122,11 @@ impl Answer for Looked {
     }
 }
 
-impl Answer for Consistency {
-    fn refused(refusal: Refusal) -> Consistency {
-        Consistency {
+impl Answer for VerdictAnswer {
+    fn refused(refusal: Refusal) -> VerdictAnswer {
+        VerdictAnswer {
             refusal: refusal as u8,
-            ..Consistency::default()
+            ..VerdictAnswer::default()
         }
     }
 
@@ -139,11 +139,11 @@ impl Answer for Consistency {
     }
 }
 
-impl Answer for Written {
-    fn refused(refusal: Refusal) -> Written {
-        Written {
+impl Answer for WriteAnswer {
+    fn refused(refusal: Refusal) -> WriteAnswer {
+        WriteAnswer {
             refusal: refusal as u8,
-            ..Written::default()
+            ..WriteAnswer::default()
         }
     }
 

@@ -1,14 +1,14 @@
 //! Beginning a join: one more node, copying, that knows itself and its gateway.
 
-use super::answers::{Answer, Begun};
+use super::answers::{Answer, BeginAnswer};
 use super::memory::{self, MOST_NODES};
 use super::network::{Network, Node, Status};
 use super::refusal::Refusal;
 use super::soundness::lent_and_sound;
 use super::table::Table;
 
-pub fn begin(state: &mut [u64], tables: &mut [u8], id: u32, gateway: u64) -> Begun {
-    Begun::of(try_begin(state, tables, id, gateway))
+pub fn begin(state: &mut [u64], tables: &mut [u8], id: u32, gateway: u64) -> BeginAnswer {
+    BeginAnswer::of(try_begin(state, tables, id, gateway))
 }
 
 fn try_begin(
@@ -16,13 +16,13 @@ fn try_begin(
     tables: &mut [u8],
     id: u32,
     gateway: u64,
-) -> Result<Begun, Refusal> {
+) -> Result<BeginAnswer, Refusal> {
     lent_and_sound(state, tables)?;
     let (state, tables) = memory::lent_mut(state, tables).ok_or(Refusal::ShortMemory)?;
     let mut network = Network::decode(state);
     let settings = network.settings;
     Refusal::BadId.when(!settings.valid(id))?;
-    Refusal::RepeatedId.when(network.iter().any(|(_, node)| node.id == id))?;
+    Refusal::IdTaken.when(network.iter().any(|(_, node)| node.id == id))?;
     let gateway = network.number(gateway)?;
     Refusal::Full.when(network.count() == MOST_NODES)?;
     Refusal::GatewayNotInSystem.when(!network.node(gateway).in_system())?;
@@ -31,7 +31,7 @@ fn try_begin(
     let number = network.add(Node { id, status });
     network.encode(state);
     Table::own_entries(settings, number, id).encode(memory::table_bytes_mut(tables, number));
-    Ok(Begun {
+    Ok(BeginAnswer {
         refusal: 0,
         node: number as u64,
     })

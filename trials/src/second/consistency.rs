@@ -1,6 +1,6 @@
 //! The verdict: is the network K-consistent, and if not, which entry falls short first?
 
-use super::answers::{Answer, Consistency};
+use super::answers::{Answer, VerdictAnswer};
 use super::memory::{self, TableBytes};
 use super::network::Network;
 use super::refusal::Refusal;
@@ -8,11 +8,11 @@ use super::settings::digit;
 use super::soundness::lent_and_sound;
 use super::table::Entry;
 
-pub fn verdict(state: &[u64], tables: &[u8]) -> Consistency {
-    Consistency::of(try_verdict(state, tables))
+pub fn verdict(state: &[u64], tables: &[u8]) -> VerdictAnswer {
+    VerdictAnswer::of(try_verdict(state, tables))
 }
 
-fn try_verdict(state: &[u64], tables: &[u8]) -> Result<Consistency, Refusal> {
+fn try_verdict(state: &[u64], tables: &[u8]) -> Result<VerdictAnswer, Refusal> {
     let (state, tables) = lent_and_sound(state, tables)?;
     let network = Network::decode(state);
     Refusal::JoinInFlight.when(!network.all_in_system())?;
@@ -22,15 +22,15 @@ fn try_verdict(state: &[u64], tables: &[u8]) -> Result<Consistency, Refusal> {
         short_entry(&network, number, table).map(|(level, digit)| (number, level, digit))
     });
     Ok(match short {
-        None => Consistency {
+        None => VerdictAnswer {
             consistent: true,
-            ..Consistency::default()
+            ..VerdictAnswer::default()
         },
-        Some((node, level, digit)) => Consistency {
+        Some((node, level, digit)) => VerdictAnswer {
             node: node as u64,
             level: level as u64,
             digit: digit as u64,
-            ..Consistency::default()
+            ..VerdictAnswer::default()
         },
     })
 }

@@ -1,6 +1,6 @@
 //! Delivering one outstanding request. What it does is decided by the sender's status.
 
-use super::answers::{Answer, Delivered};
+use super::answers::{Answer, DeliverAnswer};
 use super::learning::{learn_node, learn_table};
 use super::memory;
 use super::network::{Network, Status};
@@ -27,8 +27,8 @@ struct Delivery {
     receiver_table: Table,
 }
 
-pub fn deliver(state: &mut [u64], tables: &mut [u8], sender: u64, receiver: u64) -> Delivered {
-    Delivered::of(try_deliver(state, tables, sender, receiver))
+pub fn deliver(state: &mut [u64], tables: &mut [u8], sender: u64, receiver: u64) -> DeliverAnswer {
+    DeliverAnswer::of(try_deliver(state, tables, sender, receiver))
 }
 
 fn try_deliver(
@@ -36,7 +36,7 @@ fn try_deliver(
     tables: &mut [u8],
     sender: u64,
     receiver: u64,
-) -> Result<Delivered, Refusal> {
+) -> Result<DeliverAnswer, Refusal> {
     lent_and_sound(state, tables)?;
     let (state, tables) = memory::lent_mut(state, tables).ok_or(Refusal::ShortMemory)?;
     let network = Network::decode(state);
@@ -67,14 +67,14 @@ fn try_deliver(
 }
 
 impl Kind {
-    fn answer(self, settled: bool) -> Delivered {
+    fn answer(self, settled: bool) -> DeliverAnswer {
         let (kind, level) = match self {
             Kind::Copied => (1, 0),
             Kind::SentOn => (2, 0),
             Kind::Attached(level) => (3, level as u64),
             Kind::Notified => (4, 0),
         };
-        Delivered {
+        DeliverAnswer {
             refusal: 0,
             kind,
             level,

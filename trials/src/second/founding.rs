@@ -1,6 +1,6 @@
 //! Founding: a network of one node.
 
-use super::answers::{Answer, Found};
+use super::answers::{Answer, FoundAnswer};
 use super::memory::{self, State, Tables};
 use super::network::Network;
 use super::refusal::Refusal;
@@ -14,8 +14,8 @@ pub fn found(
     digits: u64,
     depth: u64,
     id: u32,
-) -> Found {
-    Found::of(try_found(state, tables, (base, digits, depth), id))
+) -> FoundAnswer {
+    FoundAnswer::of(try_found(state, tables, (base, digits, depth), id))
 }
 
 fn try_found(
@@ -23,9 +23,9 @@ fn try_found(
     tables: &mut [u8],
     (base, digits, depth): (u64, u64, u64),
     id: u32,
-) -> Result<Found, Refusal> {
+) -> Result<FoundAnswer, Refusal> {
     let (state, tables) = memory::lent_mut(state, tables).ok_or(Refusal::ShortMemory)?;
-    let settings = Settings::new(base, digits, depth).ok_or(Refusal::Setting)?;
+    let settings = Settings::new(base, digits, depth).ok_or(Refusal::BadSetting)?;
     Refusal::BadId.when(!settings.valid(id))?;
 
     let network = Network::settled(settings, &[id]);
@@ -35,7 +35,7 @@ fn try_found(
         state,
         tables,
     );
-    Ok(Found::default())
+    Ok(FoundAnswer::default())
 }
 
 /// Decides every word and byte of the lent memory: node n's table is at n−1 of `all`.

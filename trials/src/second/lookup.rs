@@ -2,7 +2,7 @@
 
 use std::iter;
 
-use super::answers::{Answer, Looked};
+use super::answers::{Answer, LookupAnswer};
 use super::memory::{self, Tables};
 use super::network::Network;
 use super::refusal::Refusal;
@@ -10,11 +10,11 @@ use super::settings::digit;
 use super::soundness::lent_and_sound;
 use super::table::Entry;
 
-pub fn lookup(state: &[u64], tables: &[u8], from: u64, to: u64) -> Looked {
-    Looked::of(try_lookup(state, tables, from, to))
+pub fn lookup(state: &[u64], tables: &[u8], from: u64, to: u64) -> LookupAnswer {
+    LookupAnswer::of(try_lookup(state, tables, from, to))
 }
 
-fn try_lookup(state: &[u64], tables: &[u8], from: u64, to: u64) -> Result<Looked, Refusal> {
+fn try_lookup(state: &[u64], tables: &[u8], from: u64, to: u64) -> Result<LookupAnswer, Refusal> {
     let (state, tables) = lent_and_sound(state, tables)?;
     let network = Network::decode(state);
     let (from, to) = (network.number(from)?, network.number(to)?);
@@ -23,7 +23,7 @@ fn try_lookup(state: &[u64], tables: &[u8], from: u64, to: u64) -> Result<Looked
         .zip(very_hops(&network, tables, from, to))
         .last()
         .expect("a lookup goes through its start");
-    Ok(Looked {
+    Ok(LookupAnswer {
         refusal: 0,
         arrived: last == to,
         hops,

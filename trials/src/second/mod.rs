@@ -20,7 +20,9 @@ mod soundness;
 pub mod table;
 mod writing;
 
-pub use answers::{Answer, Begun, Consistency, Delivered, Found, Looked, Written};
+pub use answers::{
+    Answer, BeginAnswer, DeliverAnswer, FoundAnswer, LookupAnswer, VerdictAnswer, WriteAnswer,
+};
 pub use beginning::begin;
 pub use consistency::verdict;
 pub use delivering::deliver;

@@ -1,6 +1,6 @@
 //! Reading an image: judged sentence by sentence, each over the whole image, then taken as a settled network.
 
-use super::answers::{Answer, Found};
+use super::answers::{Answer, FoundAnswer};
 use super::founding::encode_all;
 use super::memory::{self, MOST_NODES};
 use super::network::Network;
@@ -26,11 +26,11 @@ struct Record {
     neighbor: usize,
 }
 
-pub fn read(state: &mut [u64], tables: &mut [u8], image: &[u8]) -> Found {
-    Found::of(try_read(state, tables, image))
+pub fn read(state: &mut [u64], tables: &mut [u8], image: &[u8]) -> FoundAnswer {
+    FoundAnswer::of(try_read(state, tables, image))
 }
 
-fn try_read(state: &mut [u64], tables: &mut [u8], image: &[u8]) -> Result<Found, Refusal> {
+fn try_read(state: &mut [u64], tables: &mut [u8], image: &[u8]) -> Result<FoundAnswer, Refusal> {
     let (state, tables) = memory::lent_mut(state, tables).ok_or(Refusal::ShortMemory)?;
     let image = Image::parse(image)?;
     image.judge_ids()?;
@@ -43,20 +43,20 @@ fn try_read(state: &mut [u64], tables: &mut [u8], image: &[u8]) -> Result<Found,
         state,
         tables,
     );
-    Ok(Found::default())
+    Ok(FoundAnswer::default())
 }
 
 impl Image {
     /// Sentences 3 to 6.
     fn parse(image: &[u8]) -> Result<Image, Refusal> {
         let ([start, version, base, digits, depth], rest) =
-            image.split_first_chunk().ok_or(Refusal::NoImage)?;
-        Refusal::NoImage.when(*start != 4)?;
-        Refusal::Version.when(*version != 1)?;
+            image.split_first_chunk().ok_or(Refusal::NotAnImage)?;
+        Refusal::NotAnImage.when(*start != 4)?;
+        Refusal::ImageVersion.when(*version != 1)?;
         let settings = Settings::new((*base).into(), (*digits).into(), (*depth).into())
-            .ok_or(Refusal::Setting)?;
-        Refusal::Length.when(image.len() > LONGEST_READ)?;
-        let (ids, records) = Image::sections(rest).ok_or(Refusal::Length)?;
+            .ok_or(Refusal::BadSetting)?;
+        Refusal::ImageCounts.when(image.len() > LONGEST_READ)?;
+        let (ids, records) = Image::sections(rest).ok_or(Refusal::ImageCounts)?;
         Ok(Image {
             settings,
             ids,
@@ -88,7 +88,7 @@ impl Image {
         Refusal::BadId.when(!self.ids.iter().all(|&id| self.settings.valid(id)))?;
         let mut sorted = self.ids.clone();
         sorted.sort_unstable();
-        Refusal::RepeatedId.when(sorted.windows(2).any(|pair| pair[0] == pair[1]))
+        Refusal::IdTaken.when(sorted.windows(2).any(|pair| pair[0] == pair[1]))
     }
 
     /// Sentence 9.

@@ -4,12 +4,12 @@
 pub enum Refusal {
     ShortMemory = 1,
     Unsound = 2,
-    NoImage = 3,
-    Version = 4,
-    Setting = 5,
-    Length = 6,
+    NotAnImage = 3,
+    ImageVersion = 4,
+    BadSetting = 5,
+    ImageCounts = 6,
     BadId = 7,
-    RepeatedId = 8,
+    IdTaken = 8,
     NoSuchNode = 9,
     BadRecords = 10,
     Full = 11,
@@ -21,6 +21,26 @@ pub enum Refusal {
 }
 
 impl Refusal {
+    /// Every refusal, in the order of the numbers.
+    pub const ALL: [Refusal; 16] = [
+        Refusal::ShortMemory,
+        Refusal::Unsound,
+        Refusal::NotAnImage,
+        Refusal::ImageVersion,
+        Refusal::BadSetting,
+        Refusal::ImageCounts,
+        Refusal::BadId,
+        Refusal::IdTaken,
+        Refusal::NoSuchNode,
+        Refusal::BadRecords,
+        Refusal::Full,
+        Refusal::GatewayNotInSystem,
+        Refusal::NotOutstanding,
+        Refusal::Held,
+        Refusal::JoinInFlight,
+        Refusal::ShortOutput,
+    ];
+
     /// Declines when `so` holds; a call's sentences stand one below the other as `refusal.when(..)?`.
     pub fn when(self, so: bool) -> Result<(), Refusal> {
         if so {

@@ -1,6 +1,6 @@
 //! Writing a network's image: settings, ids and records, each after its count.
 
-use super::answers::{Answer, Written};
+use super::answers::{Answer, WriteAnswer};
 use super::memory::{self, Tables};
 use super::network::Network;
 use super::refusal::Refusal;
@@ -11,11 +11,11 @@ use super::table::Table;
 /// and 8 own entries of 4.
 pub const LONGEST_IMAGE: usize = 8 + 64 * 4 + 64 * (63 + 8 * 4) * 4;
 
-pub fn write(state: &[u64], tables: &[u8], out: &mut [u8]) -> Written {
-    Written::of(try_write(state, tables, out))
+pub fn write(state: &[u64], tables: &[u8], out: &mut [u8]) -> WriteAnswer {
+    WriteAnswer::of(try_write(state, tables, out))
 }
 
-fn try_write(state: &[u64], tables: &[u8], out: &mut [u8]) -> Result<Written, Refusal> {
+fn try_write(state: &[u64], tables: &[u8], out: &mut [u8]) -> Result<WriteAnswer, Refusal> {
     let (state, tables) = lent_and_sound(state, tables)?;
     let network = Network::decode(state);
     Refusal::JoinInFlight.when(!network.all_in_system())?;
@@ -23,7 +23,7 @@ fn try_write(state: &[u64], tables: &[u8], out: &mut [u8]) -> Result<Written, Re
     Refusal::ShortOutput.when(out.len() < image.len())?;
 
     out[..image.len()].copy_from_slice(&image);
-    Ok(Written {
+    Ok(WriteAnswer {
         refusal: 0,
         length: image.len() as u64,
     })

@@ -8,7 +8,7 @@ use trials::random::{run, run_from_built, run_in, seeds, Rng};
 use trials::script::{Call, Line, Script};
 use trials::second::memory::Tables;
 use trials::second::network::Network;
-use trials::second::{lookup, sound, verdict, very_hops, Looked, Settings};
+use trials::second::{lookup, sound, verdict, very_hops, LookupAnswer, Settings};
 
 /// What is known of a run from its history alone, and what must not change any more.
 #[derive(Default)]
@@ -88,7 +88,7 @@ impl Watch {
         };
         let (from, to) = (hops[0] as u64, hops[hops.len() - 1] as u64);
         let answer = lookup(&memory.state, &memory.tables, from, to);
-        let arrived = Looked {
+        let arrived = LookupAnswer {
             refusal: 0,
             arrived: true,
             hops: hops.len() as u64 - 1,

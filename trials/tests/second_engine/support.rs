@@ -2,7 +2,9 @@
 
 use trials::lent::Lent;
 use trials::second::network::Network;
-use trials::second::{self, Begun, Consistency, Delivered, Found, Looked, Written};
+use trials::second::{
+    self, BeginAnswer, DeliverAnswer, FoundAnswer, LookupAnswer, VerdictAnswer, WriteAnswer,
+};
 
 pub struct Trial {
     pub memory: Lent,
@@ -28,35 +30,35 @@ impl Trial {
         trial
     }
 
-    pub fn found(&mut self, [base, digits, depth]: [u64; 3], id: u32) -> Found {
+    pub fn found(&mut self, [base, digits, depth]: [u64; 3], id: u32) -> FoundAnswer {
         let Lent { state, tables, .. } = &mut self.memory;
         second::found(state, tables, base, digits, depth, id)
     }
 
-    pub fn read(&mut self, image: &[u8]) -> Found {
+    pub fn read(&mut self, image: &[u8]) -> FoundAnswer {
         let Lent { state, tables, .. } = &mut self.memory;
         second::read(state, tables, image)
     }
 
-    pub fn begin(&mut self, id: u32, gateway: u64) -> Begun {
+    pub fn begin(&mut self, id: u32, gateway: u64) -> BeginAnswer {
         let Lent { state, tables, .. } = &mut self.memory;
         second::begin(state, tables, id, gateway)
     }
 
-    pub fn deliver(&mut self, sender: u64, receiver: u64) -> Delivered {
+    pub fn deliver(&mut self, sender: u64, receiver: u64) -> DeliverAnswer {
         let Lent { state, tables, .. } = &mut self.memory;
         second::deliver(state, tables, sender, receiver)
     }
 
-    pub fn lookup(&self, from: u64, to: u64) -> Looked {
+    pub fn lookup(&self, from: u64, to: u64) -> LookupAnswer {
         second::lookup(&self.memory.state, &self.memory.tables, from, to)
     }
 
-    pub fn verdict(&self) -> Consistency {
+    pub fn verdict(&self) -> VerdictAnswer {
         second::verdict(&self.memory.state, &self.memory.tables)
     }
 
-    pub fn write(&mut self) -> Written {
+    pub fn write(&mut self) -> WriteAnswer {
         let Lent {
             state, tables, out, ..
         } = &mut self.memory;
@@ -74,7 +76,7 @@ impl Trial {
     }
 
     /// Delivers the first request that is not held, until none is outstanding; answers what was taken.
-    pub fn settle(&mut self) -> Vec<Delivered> {
+    pub fn settle(&mut self) -> Vec<DeliverAnswer> {
         let mut taken = vec![];
         loop {
             let outstanding = self.network().outstanding();

@@ -1,0 +1,56 @@
+//! A refusal has one name: in the header, in the proved code and in the second engine.
+
+use std::fs;
+use trials::second::Refusal;
+
+/// `ShortMemory` as `SHORT_MEMORY`.
+fn upper(name: &str) -> String {
+    let mut out = String::new();
+    for c in name.chars() {
+        if c.is_uppercase() && !out.is_empty() {
+            out.push('_');
+        }
+        out.push(c.to_ascii_uppercase());
+    }
+    out
+}
+
+fn read(path: &str) -> String {
+    let path = format!("{}/../{path}", env!("CARGO_MANIFEST_DIR"));
+    fs::read_to_string(&path).unwrap_or_else(|error| panic!("{path}: {error}"))
+}
+
+/// The name and number of a line such as `#define OVERLAY_FULL 11 /* .. */`, or `pub const FULL: u64 = 11;`.
+fn named(line: &str, before: &str, between: &str) -> Option<(String, u64)> {
+    let (name, rest) = line.trim().strip_prefix(before)?.split_once(between)?;
+    let digits: String = rest.chars().take_while(char::is_ascii_digit).collect();
+    Some((name.to_string(), digits.parse().ok()?))
+}
+
+fn in_second_engine() -> Vec<(String, u64)> {
+    let name = |refusal: &Refusal| (upper(&format!("{refusal:?}")), *refusal as u64);
+    Refusal::ALL.iter().map(name).collect()
+}
+
+#[test]
+fn the_header_names_the_refusals_as_the_second_engine_does() {
+    let header = read("include/overlay.h");
+    let section = header
+        .split("/* ---- ")
+        .find(|part| part.starts_with("refusals"));
+    let lines = section.expect("a section of refusals").lines();
+    let names: Vec<_> = lines
+        .filter_map(|l| named(l, "#define OVERLAY_", " "))
+        .collect();
+    assert_eq!(names, in_second_engine());
+}
+
+#[test]
+fn the_proved_code_names_the_refusals_as_the_second_engine_does() {
+    let code = read("crates/answers/src/refusal.rt");
+    let names: Vec<_> = code
+        .lines()
+        .filter_map(|l| named(l, "pub const ", ": u64 = "))
+        .collect();
+    assert_eq!(names, in_second_engine());
+}
