@@ -29,7 +29,9 @@ fn sentence_to_8(refusal: u64) {
         Refusal::NOT_AN_IMAGE => text(b"the image has fewer than 5 bytes or does not begin with 4"),
         Refusal::IMAGE_VERSION => text(b"the image's version is not 1"),
         Refusal::BAD_SETTING => text(b"a setting is out of range"),
-        Refusal::IMAGE_COUNTS => text(b"the image's node count is wrong, or its length differs from its counts"),
+        Refusal::IMAGE_COUNTS => text(
+            b"the image's node count is wrong, or its length differs from its counts",
+        ),
         Refusal::BAD_ID => text(b"an id has a digit not below the base, or a bit above its digits"),
         _ => text(b"an id is taken already"),
     }
@@ -41,7 +43,9 @@ fn sentence_from_9(refusal: u64) {
         Refusal::BAD_RECORDS => text(b"the image's records break their order or the table rules"),
         Refusal::FULL => text(b"there are 64 nodes already"),
         Refusal::GATEWAY_NOT_IN_SYSTEM => text(b"the gateway is not settled"),
-        Refusal::NOT_OUTSTANDING => text(b"no request from the first node to the second is outstanding"),
+        Refusal::NOT_OUTSTANDING => text(
+            b"no request from the first node to the second is outstanding",
+        ),
         Refusal::HELD => text(b"the receiver of a wait request is not settled"),
         Refusal::JOIN_IN_FLIGHT => text(b"a node is not settled"),
         _ => text(b"the memory for the image is too short"),

@@ -3,7 +3,7 @@ ghost use mathlib.Core.Path.{_≡_};
 ghost use Prim.Native.Nat.{_≤_};
 ghost use lib.ListN.{length};
 ghost use Rattle.model.specs.Memory.{isInSystem, stateLength};
-ghost use Rattle.model.specs.Sound as book;
+ghost use Rattle.model.specs.Nodes as book;
 ghost use Rattle.model.specs.Refusals.{stateRefusal};
 ghost use Rattle.model.specs.Nodes.{allNodes};
 ghost use Rattle.sentences.specs.Counted.{Counted};

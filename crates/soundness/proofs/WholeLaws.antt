@@ -18,7 +18,7 @@ use Rattle.model.proofs.Zero.{part-zero-at, part-zero-of}
 use Rattle.model.specs.Nodes.{allNodes}
 use Rattle.state.specs.Loaded.{SettingsOf}
 use Rattle.state.specs.declared.settings.Settings.{Settings}
-use Rattle.soundness_ids.specs.Checked.{Ranged, Identified}
+use Rattle.state.specs.Checked.{Ranged, Identified}
 use Rattle.soundness.specs.Clauses.{tablesPast}
 
 pub settings-are : (s : List ℕ) (v : Settings) (r : Bool) → SettingsOf s v → r ≡ settingsInRange (v .base) (v .digits) (v .depth)

@@ -7,7 +7,7 @@ ghost use Rattle.model.specs.Sound as book;
 ghost use Rattle.model.specs.Refusals.{memoryShort};
 ghost use Rattle.model.specs.Memory.{stateLength, tablesLength};
 ghost use Rattle.state.specs.Loaded.{SettingsOf};
-ghost use Rattle.soundness_ids.specs.Checked.{Ranged};
+ghost use Rattle.state.specs.Checked.{Ranged};
 ghost use Rattle.soundness.specs.Clauses.{nodesSound};
 use state::lent;
 use state::settings;

@@ -8,11 +8,11 @@ ghost use Rattle.state.specs.Loaded.{SettingsOf};
 ghost use Rattle.model.proofs.Status.{IsNode};
 ghost use Rattle.model.specs.Nodes.{allNodes};
 ghost use Rattle.model.specs.Memory.{tablesLength};
-ghost use Rattle.soundness_ids.specs.Checked.{Ranged};
+ghost use Rattle.state.specs.Checked.{Ranged};
 ghost use Rattle.soundness.specs.Clauses.{tablesPast};
-use soundness_ids::zero;
 use state::lent::STATE_LENGTH;
 use state::settings::Settings;
+use state::zero;
 
 // The two spare words of the record of node x.
 fn spare(state: &[u64], x: usize) -> bool

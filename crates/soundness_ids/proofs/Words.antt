@@ -20,7 +20,8 @@ use Rattle.model.proofs.Loops.{all-same, all-goes, all-leaves}
 use Rattle.model.proofs.Nodes.{nodes-at}
 use Rattle.model.proofs.Status.{IsNode}
 use Rattle.model.specs.Nodes.{allNodes}
-use Rattle.soundness_ids.specs.Checked.{Identified, InRow, differsAt}
+use Rattle.state.specs.Checked.{Identified}
+use Rattle.soundness_ids.specs.Rows.{InRow, differsAt}
 
 pub valid-fits : (b d id : ℕ) → d ≤ 8 → validId b d id ≡ true → id < 2 ^ 32
 valid-fits b d id l e =
@@ -30,10 +31,6 @@ valid-fits b d id l e =
 pub word-invalid : (b d id : ℕ) → d ≤ 8 → 4294967295 < id → false ≡ validId b d id
 word-invalid b d id l h =
     is-false (validId b d id) (λ e. let g : id < 4294967296 = valid-fits b d id l e in omega arith)
-
-pub word-fits : (s : List ℕ) → Identified s → (x : ℕ) → IsNode s x → idOf s x < 2 ^ 32
-word-fits s w x h =
-    valid-fits (base s) (digits s) (idOf s x) (w .ranged .digits) (nodes-at (nodeCount s) (hasValidId s) (w .ids) x (h .low) (h .high))
 
 -- ---- the ids in one row
 

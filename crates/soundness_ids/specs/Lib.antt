@@ -1,2 +1,2 @@
 -- What the check of the ids hands to the checks that lean on it.
-pub mod Checked
+pub mod Rows

@@ -1,17 +1,15 @@
-// "valid, different ids", and what the other checks share.
+// "valid, different ids".
 ghost use mathlib.Core.Path.{_≡_};
 ghost use Rattle.model.specs.Loops.{node};
 ghost use Rattle.model.specs.Sound.{hasValidId, hasNewId};
 ghost use Rattle.state.specs.Loaded.{SettingsOf};
 ghost use Rattle.model.proofs.Status.{IsNode};
 ghost use Rattle.model.specs.Nodes.{allNodes};
-ghost use Rattle.soundness_ids.specs.Checked.{Ranged, Identified};
+ghost use Rattle.state.specs.Checked.{Ranged, Identified};
 use state::record;
 use state::settings::Settings;
 
-pub mod node;
 mod row;
-pub mod zero;
 
 const LARGEST: u64 = 0xffff_ffff;
 

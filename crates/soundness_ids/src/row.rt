@@ -5,8 +5,9 @@ ghost use Prim.Native.Nat.{_<_};
 ghost use lib.Dec.{eqb};
 ghost use Rattle.model.specs.Loops.{allBelow};
 ghost use Rattle.state.specs.Loaded.{SettingsOf};
-ghost use Rattle.soundness_ids.specs.Checked.{Identified, InRow, differsAt};
-use crate::node;
+ghost use Rattle.state.specs.Checked.{Identified};
+ghost use Rattle.soundness_ids.specs.Rows.{InRow, differsAt};
+use state::node;
 use state::settings::Settings;
 
 // The id of node k + 1 at place k.

@@ -4,7 +4,7 @@ ghost use Rattle.model.specs.Sound.{statusSound};
 ghost use Rattle.state.specs.Loaded.{SettingsOf};
 ghost use Rattle.model.proofs.Status.{IsNode};
 ghost use Rattle.model.specs.Nodes.{allNodes};
-ghost use Rattle.soundness_ids.specs.Checked.{Identified};
+ghost use Rattle.state.specs.Checked.{Identified};
 ghost use Rattle.soundness_status.specs.StatusFacts.{atRest};
 use state::record;
 use state::record::Node;

@@ -14,8 +14,8 @@ use Rattle.model.proofs.Bools.{and-leaves, and-goes}
 use Rattle.model.proofs.Early.{eq-goes, eq-leaves}
 use Rattle.model.proofs.Ids.{valid-digit}
 use Rattle.model.proofs.Nodes.{nodes-at}
-use Rattle.soundness_ids.specs.Checked.{Identified, OwnerOf}
-use Rattle.soundness_ids.specs.declared.node.Owner.{Owner}
+use Rattle.state.specs.Checked.{Identified, OwnerOf}
+use Rattle.state.specs.declared.node.Owner.{Owner}
 use Rattle.soundness_tables.specs.declared.rows.Row.{Row}
 use Rattle.soundness_tables.specs.TableFacts.{filledAt, RowMade, entryExact, levelExact}
 use Rattle.soundness_tables.proofs.AloneLaws.{alone-sound}

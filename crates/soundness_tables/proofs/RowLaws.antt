@@ -16,8 +16,8 @@ use Rattle.model.specs.Memory.{idOf}
 use Rattle.model.specs.Tables.{qualified}
 use Rattle.model.proofs.Bools.{same-test, and-left, and-right, and-intro}
 use Rattle.model.proofs.Ids.{power-bits, low-suc, mask-low, low-lt}
-use Rattle.soundness_ids.specs.Checked.{OwnerOf}
-use Rattle.soundness_ids.specs.declared.node.Owner.{Owner}
+use Rattle.state.specs.Checked.{OwnerOf}
+use Rattle.state.specs.declared.node.Owner.{Owner}
 use Rattle.soundness_tables.specs.declared.rows.Row.{Row}
 use Rattle.soundness_tables.specs.TableFacts.{RowMade, RowOf}
 

@@ -15,7 +15,7 @@ use Rattle.model.specs.Sound.{slotSound, entrySound, levelSound, ownerFirst, pl
 use Rattle.model.proofs.Bools.{same-test, le-or-lt, and-left, and-right, and-intro, or-cases, or-intro-left, or-intro-right, and-leaves, and-goes}
 use Rattle.model.proofs.Loops.{all-at, all-of}
 use Rattle.model.proofs.Zero.{part-zero-at, part-zero-of}
-use Rattle.soundness_ids.specs.Checked.{Ranged, Identified}
+use Rattle.state.specs.Checked.{Ranged, Identified}
 use Rattle.soundness_tables.specs.TableFacts.{slotExact, entryExact, digitsRestZero, levelExact, levelsRestZero}
 
 -- ---- unused places: those that are no slot of the settings

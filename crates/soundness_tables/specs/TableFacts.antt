@@ -12,7 +12,7 @@ use Rattle.model.specs.Memory.{base, digits, depth, nodeCount, idOf}
 use Rattle.model.specs.Tables.{slotAt}
 use Rattle.model.specs.Nodes.{qualifies}
 use Rattle.model.specs.Sound.{mayStand, noGapBefore, slotDiffers, ownerFirst, allZero}
-use Rattle.soundness_ids.specs.declared.node.Owner.{Owner}
+use Rattle.state.specs.declared.node.Owner.{Owner}
 use Rattle.soundness_tables.specs.declared.rows.Row.{Row}
 
 -- entry (i, j) stands in the table

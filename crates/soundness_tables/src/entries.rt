@@ -8,12 +8,12 @@ ghost use Rattle.model.specs.Memory as memory;
 ghost use Rattle.model.specs.Sound.{mayStand};
 ghost use Rattle.state.specs.Loaded.{SettingsOf};
 ghost use Rattle.model.proofs.Status.{IsNode};
-ghost use Rattle.soundness_ids.specs.Checked.{Ranged};
+ghost use Rattle.state.specs.Checked.{Ranged};
 ghost use Rattle.soundness_tables.specs.TableFacts.{EntryIn, RowOf, slotExact, entryExact};
 use crate::rows;
 use crate::rows::Row;
 use crate::slots;
-use soundness_ids::node;
+use state::node;
 use state::settings::Settings;
 
 // In x's table stand x and attached nodes; most nodes are attached.

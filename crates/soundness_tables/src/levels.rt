@@ -5,14 +5,14 @@ ghost use lib.ListN.{length};
 ghost use Rattle.model.specs.Loops.{allBelow};
 ghost use Rattle.model.specs.Memory as memory;
 ghost use Rattle.state.specs.Loaded.{SettingsOf};
-ghost use Rattle.soundness_ids.specs.Checked.{Identified, OwnerOf};
+ghost use Rattle.state.specs.Checked.{Identified, OwnerOf};
 ghost use Rattle.soundness_tables.specs.TableFacts.{levelExact};
 use crate::entries;
 use crate::rows;
 use crate::slots;
-use soundness_ids::node::Owner;
-use soundness_ids::zero;
+use state::node::Owner;
 use state::settings::Settings;
+use state::zero;
 
 // Level i: its owner first in its own entry and, where that is not all it holds, its entries and the unused ones from digit b on.
 fn level(state: &[u64], table: &[u8], s: Settings, o: Owner, i: usize) -> bool

@@ -7,11 +7,11 @@ ghost use Rattle.model.specs.Memory.{nodeCount, tablesLength};
 ghost use Rattle.model.specs.Sound.{tableSound, hasSoundTable};
 ghost use Rattle.model.specs.Nodes.{allNodes};
 ghost use Rattle.state.specs.Loaded.{SettingsOf};
-ghost use Rattle.soundness_ids.specs.Checked.{Identified, OwnerOf};
-use soundness_ids::node;
-use soundness_ids::node::Owner;
-use soundness_ids::zero;
+ghost use Rattle.state.specs.Checked.{Identified, OwnerOf};
+use state::node;
+use state::node::Owner;
 use state::settings::Settings;
+use state::zero;
 
 mod entries;
 mod levels;

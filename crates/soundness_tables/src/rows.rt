@@ -4,9 +4,9 @@ ghost use mathlib.Core.Path.{_≡_};
 ghost use Prim.Native.Nat.{_<_};
 ghost use Rattle.model.specs.Nodes.{qualifies};
 ghost use Rattle.model.proofs.Status.{IsNode};
-ghost use Rattle.soundness_ids.specs.Checked.{Ranged};
+ghost use Rattle.state.specs.Checked.{Ranged};
 ghost use Rattle.soundness_tables.specs.TableFacts.{RowOf, RowMade};
-use soundness_ids::node::Owner;
+use state::node::Owner;
 use state::record;
 
 // A level of the owner's table: the number that the owner's low digits make, the weight of the level's digit, and the mask of both.

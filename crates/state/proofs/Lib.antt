@@ -1,2 +1,3 @@
 -- Laws of loads, for callers.
 pub mod Loads
+pub mod Words

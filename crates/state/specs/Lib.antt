@@ -1,3 +1,4 @@
 -- What the contracts of the lent words cite.
 pub mod Lent
 pub mod Loaded
+pub mod Checked

@@ -4,7 +4,7 @@ use mathlib.Core.Path.{_≡_}
 use lib.Dec.{eqb}
 use Rattle.model.specs.Loops.{allBelow}
 use Rattle.model.proofs.Zero.{gather-none, gather-goes, gather-ends}
-use Rattle.soundness_ids.specs.Checked.{differsAt}
+use Rattle.soundness_ids.specs.Rows.{differsAt}
 use native.Mathlib.Omega.{arith}
 use borrow.Author.Needs.{needs}
 use Rattle.soundness_ids.proofs.row.is_new.Statement.{statement}

@@ -1,14 +1,15 @@
--- `zero::bytes`: what is gathered below `i` is zero exactly when every place below `i` is. Assumes nothing.
+-- `zero::words`: what is gathered below `i` is zero exactly when every place below `i` is. Assumes nothing.
 use Prim.Native.Nat.{_≤_, _-_}
 use mathlib.Core.Path.{_≡_, refl}
 use native.Mathlib.Omega.{arith}
 use denote.Ref.{now}
 use lib.ListN.{length, getD}
 use lib.Dec.{eqb}
+use borrow.Author.Needs.{needs}
 use Rattle.model.specs.Loops.{allBelow}
 use Rattle.model.proofs.Zero.{zeroAt, gather-none, gather-goes, zero-ends}
-use Rattle.soundness_ids.proofs.zero.bytes.Statement.{statement}
-use Rattle.soundness_ids.proofs.zero.bytes.Tie as tie
+use Rattle.state.proofs.zero.words.Statement.{statement}
+use Rattle.state.proofs.zero.words.Tie as tie
 
 abbrev Inv-loop : tie.InvT-loop
 Inv-loop part gathered₀ i₀ gathered i = (i ≤ length part) × (eqb gathered 0 ≡ allBelow i (zeroAt part))
@@ -18,6 +19,9 @@ abbrev μ-loop : tie.MeasureT-loop
 
 loop-holds : tie.Need-loop-holds Inv-loop μ-loop
 loop-holds c = (omega arith, gather-none _)
+
+mul-gathered : tie.Need-mul-gathered Inv-loop μ-loop
+mul-gathered c = search needs
 
 shared-slice-read-gathered : tie.Need-shared-slice-read-gathered Inv-loop μ-loop
 shared-slice-read-gathered c = omega arith
@@ -37,13 +41,14 @@ loop-again c =
 returns : tie.Need-returns Inv-loop μ-loop
 returns c = let l = c .before .loop in zero-ends _ (l .i) (l .gathered) (l .inv .1) (l .inv .0) (c .loop-test .left)
 
-pub bytes-spec : {M : Type 1} → statement M
-bytes-spec =
+pub words-spec : {M : Type 1} → statement M
+words-spec =
     tie.close
     (tie.spec
     Inv-loop
     μ-loop
     loop-holds
+    mul-gathered
     shared-slice-read-gathered
     add-i
     loop-less

@@ -2,9 +2,9 @@
 ghost use mathlib.Core.Path.{_≡_};
 ghost use Rattle.model.specs.Memory.{idOf, isInSystem, isAttached};
 ghost use Rattle.model.proofs.Status.{IsNode};
-ghost use Rattle.soundness_ids.specs.Checked.{Ranged, Identified};
-use state::record;
-use state::status::Status;
+ghost use Rattle.state.specs.Checked.{Ranged, Identified};
+use crate::record;
+use crate::status::Status;
 
 // Whose table or record is looked at: a node's number and its id.
 pub struct Owner {

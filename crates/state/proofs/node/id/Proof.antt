@@ -1,9 +1,9 @@
 -- `id`: a valid id fits 32 bits. Assumes nothing.
 use native.Mathlib.Omega.{arith}
 use borrow.Author.Needs.{needs}
-use Rattle.soundness_ids.proofs.Words.{word-fits}
-use Rattle.soundness_ids.proofs.node.id.Statement.{statement}
-use Rattle.soundness_ids.proofs.node.id.Tie as tie
+use Rattle.state.proofs.Words.{word-fits}
+use Rattle.state.proofs.node.id.Statement.{statement}
+use Rattle.state.proofs.node.id.Tie as tie
 
 id-requires : tie.Need-id-requires
 id-requires c κs = search needs

@@ -3,8 +3,8 @@ use Prim.Native.Nat.{ℕ}
 use mathlib.Core.Path.{ap}
 use lib.Dec.{eqb}
 use borrow.Author.Needs.{needs}
-use Rattle.soundness_ids.proofs.node.in_system.Statement.{statement}
-use Rattle.soundness_ids.proofs.node.in_system.Tie as tie
+use Rattle.state.proofs.node.in_system.Statement.{statement}
+use Rattle.state.proofs.node.in_system.Tie as tie
 
 status-requires : tie.Need-status-requires
 status-requires c κs = search needs

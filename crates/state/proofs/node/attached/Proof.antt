@@ -1,7 +1,7 @@
 -- `attached`: the status that was read is asked. Assumes nothing.
 use borrow.Author.Needs.{needs}
-use Rattle.soundness_ids.proofs.node.attached.Statement.{statement}
-use Rattle.soundness_ids.proofs.node.attached.Tie as tie
+use Rattle.state.proofs.node.attached.Statement.{statement}
+use Rattle.state.proofs.node.attached.Tie as tie
 
 status-requires : tie.Need-status-requires
 status-requires c κs = search needs

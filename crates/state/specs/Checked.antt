@@ -1,14 +1,13 @@
--- What the check knows of a state on its way, in the order in which it learns it. s is the state.
-use Prim.Native.Nat.{ℕ, _+_, _≤_, _<_}
+-- What a check of the state knows on its way, in the order in which it learns it. s is the state.
+use Prim.Native.Nat.{ℕ, _≤_}
 use mathlib.Core.Path.{_≡_}
-use mathlib.Core.Bool.{Bool, true, not}
+use mathlib.Core.Bool.{true}
 use mathlib.Core.List.{List}
-use lib.ListN.{length, getD}
-use lib.Dec.{eqb}
+use lib.ListN.{length}
 use Rattle.model.specs.Memory.{base, digits, depth, nodeCount, idOf, stateLength}
-use Rattle.model.specs.Sound.{hasValidId}
 use Rattle.model.specs.Nodes.{allNodes}
-use Rattle.soundness_ids.specs.declared.node.Owner.{Owner}
+use Rattle.model.specs.Sound.{hasValidId}
+use Rattle.state.specs.declared.node.Owner.{Owner}
 
 -- the settings and the number of nodes are in range
 pub record Ranged (s : List ℕ) : Type 0 where
@@ -29,10 +28,3 @@ pub record OwnerOf (s : List ℕ) (o : Owner) : Type 0 where
   pub first : 1 ≤ o .number
   pub last : o .number ≤ nodeCount s
   pub id : o .id ≡ idOf s (o .number)
-
--- the ids in one row, from node 1 on
-pub record InRow (s ids : List ℕ) : Type 0 where
-  pub each : (k : ℕ) → k < nodeCount s → getD ids k 0 ≡ idOf s (k + 1)
-
-abbrev pub differsAt : List ℕ → ℕ → ℕ → Bool
-differsAt ids k e = not (eqb (getD ids e 0) (getD ids k 0))
