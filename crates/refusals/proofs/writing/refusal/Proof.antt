@@ -18,8 +18,8 @@ all-in-system-requires c κs = search counted
 returns-2 : tie.Need-returns-2
 returns-2 c = search write-15
 
-length-requires : tie.Need-length-requires
-length-requires c κs = search state-sound
+image-length-requires : tie.Need-image-length-requires
+image-length-requires c κs = search state-sound
 
 returns-3 : tie.Need-returns-3
 returns-3 c = search write-16
@@ -35,6 +35,6 @@ refusal-spec =
     returns
     all-in-system-requires
     returns-2
-    length-requires
+    image-length-requires
     returns-3
     returns-4)
