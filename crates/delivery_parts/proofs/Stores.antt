@@ -1,10 +1,9 @@
 -- Stores of one step: a record stored twice, a table put back as it was, and what is gathered in either state. Assumes nothing.
-use Prim.Native.Nat.{ℕ, zero, suc, _+_, _*_, _-_, _≤_, _<_}
+use Prim.Native.Nat.{ℕ, _+_, _*_, _-_, _≤_, _<_}
 use mathlib.Core.Path.{_≡_, sym, ap, subst, _∙_}
 use mathlib.Core.Logic.{_⊎_, inl, inr}
 use mathlib.Core.List.{List}
 use mathlib.Core.Bool.{cond, not, _&&_}
-use native.Mathlib.Nat.{add-zero}
 use native.Mathlib.Decide.{decLt}
 use native.Mathlib.Omega.{arith}
 use lib.Dec.{leb, eqb}
@@ -13,7 +12,7 @@ use lib.Seq.{ext-getD}
 use Rattle.model.specs.Memory.{Node, idOf, withNode, hasNode, addNode, tableStart, tableOf, withTable}
 use Rattle.model.specs.Join.{gather, gatherPlace}
 use Rattle.model.proofs.Loops.{each-same}
-use Rattle.model.proofs.Memory.{Stored, node-length, node-stored, node-outside, table-length, table-at, stored-length, stored-outside, stored-same}
+use Rattle.model.proofs.Memory.{node-at, node-length, node-outside, table-length, table-at, stored-length, stored-outside, stored-same}
 use Rattle.model.proofs.Status.{IsNode}
 use Rattle.delivery_parts.specs.Delivers.{Network}
 use Rattle.delivery_parts.proofs.Readers.{suffix-same}
@@ -23,22 +22,8 @@ module _ (s : List ℕ) (x : ℕ) (a b : Node) (fits : 8 * x + 6 ≤ length s) w
   fits′ : 8 * x + 6 ≤ length (withNode s x a)
   fits′ = omega (arith, node-length s x a fits)
 
-  both : Stored (withNode (withNode s x a) x b) x b
-  both = node-stored (withNode s x a) x b fits′
-
-  one : Stored (withNode s x b) x b
-  one = node-stored s x b fits
-
   within : (k : ℕ) → k < 6 → getD (withNode (withNode s x a) x b) (8 * x + k) 0 ≡ getD (withNode s x b) (8 * x + k) 0
-  within zero h =
-      subst (λ (p : ℕ). getD (withNode (withNode s x a) x b) p 0 ≡ getD (withNode s x b) p 0) (sym (add-zero (8 * x)))
-      (both .id ∙ sym (one .id))
-  within (suc zero) h = both .status ∙ sym (one .status)
-  within (suc (suc zero)) h = both .level ∙ sym (one .level)
-  within (suc (suc (suc zero))) h = both .target ∙ sym (one .target)
-  within (suc (suc (suc (suc zero)))) h = both .pending ∙ sym (one .pending)
-  within (suc (suc (suc (suc (suc zero))))) h = both .notified ∙ sym (one .notified)
-  within (suc (suc (suc (suc (suc (suc k)))))) h = absurd (omega arith)
+  within k h = node-at (withNode s x a) x b fits′ k h ∙ sym (node-at s x b fits k h)
 
   outside : (p : ℕ) → (p < 8 * x) ⊎ (8 * x + 6 ≤ p) → getD (withNode (withNode s x a) x b) p 0 ≡ getD (withNode s x b) p 0
   outside p h = node-outside (withNode s x a) x b fits′ p h ∙ node-outside s x a fits p h ∙ sym (node-outside s x b fits p h)
@@ -82,11 +67,11 @@ table-back t x fits =
         subst (λ (p : ℕ). getD (withTable t x (tableOf t x)) p 0 ≡ getD t p 0) w (inside (p - tableStart x) (omega arith))
 
 -- gathering reads ids and digits, which a new record for x with its id keeps
-pub gather-same : (s : List ℕ) → Network s → (x : ℕ) → IsNode s x → (r : Node) → r .id ≡ idOf s x → (k told : ℕ) (T : List ℕ) (nodes : ℕ)
-    → gather (withNode s x r) x k told T nodes ≡ gather s x k told T nodes
+pub gather-same : (s : List ℕ) → Network s → (x : ℕ) → IsNode s x → (r : Node) → r .id ≡ idOf s x → (k notified : ℕ) (T : List ℕ) (nodes : ℕ)
+    → gather (withNode s x r) x k notified T nodes ≡ gather s x k notified T nodes
 unfolding gather
-gather-same s n x nx r e k told T nodes =
-    each-same 512 (gatherPlace (withNode s x r) x k told T) (gatherPlace s x k told T) nodes
+gather-same s n x nx r e k notified T nodes =
+    each-same 512 (gatherPlace (withNode s x r) x k notified T) (gatherPlace s x k notified T) nodes
     (λ p a l.
-    ap (λ (m : ℕ). cond (not (eqb (getD T p 0) 0) && (not (eqb (getD T p 0) x) && (leb k m && not (hasNode told (getD T p 0))))) (addNode a (getD T p 0)) a)
+    ap (λ (m : ℕ). cond (not (eqb (getD T p 0) 0) && (not (eqb (getD T p 0) x) && (leb k m && not (hasNode notified (getD T p 0))))) (addNode a (getD T p 0)) a)
     (suffix-same s n x nx r e x (getD T p 0)))

@@ -7,7 +7,7 @@ use mathlib.Core.List.{List}
 use lib.Dec.{ltb}
 use lib.ListN.{length, getD}
 use Rattle.model.specs.Ids.{digitOf}
-use Rattle.model.specs.Memory.{depth, nodeCount, Node, idOf, notifying, tableOf, withTable}
+use Rattle.model.specs.Memory.{depth, nodeCount, idOf, tableOf, withTable}
 use Rattle.model.specs.Tables.{entrySize}
 use Rattle.model.specs.Sound.{suffixOf}
 use Rattle.model.specs.Learning.{learn, learnTable}
@@ -59,14 +59,9 @@ abbrev pub exchanged : List ℕ → List ℕ → ℕ → ℕ → List ℕ
 exchanged s t x y = withTable (withTable t y (learn s y x (tableOf t y))) x (learnTable s x (tableOf t y) (tableOf t x))
 
 -- and after y has learned x, and x then y's table
-abbrev pub told : List ℕ → List ℕ → ℕ → ℕ → List ℕ
-told s t x y =
+abbrev pub notifiedTables : List ℕ → List ℕ → ℕ → ℕ → List ℕ
+notifiedTables s t x y =
     withTable (withTable t y (learn s y x (tableOf t y))) x (learnTable s x (learn s y x (tableOf t y)) (tableOf t x))
-
--- x's record when it has become notifying, before its asked set is known
-abbrev pub attaching : ℕ → ℕ → ℕ → Node
-attaching id level told =
-    record { id = id; status = notifying; level = level; target = 0; pending = 0; notified = told }
 
 -- level i of a table of depth K
 pub record Level (T : List ℕ) (K i : ℕ) : Type 0 where

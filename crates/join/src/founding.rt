@@ -4,12 +4,10 @@ ghost use Prim.Native.Nat.{_≤_};
 ghost use lib.ListN.{length};
 ghost use Rattle.model.specs.Join.{founded};
 ghost use Rattle.records.specs.Lent.{memory};
+use records::nodes::new_node;
 use records::record;
-use records::record::Node;
-use records::sets;
 use records::settings;
 use records::settings::Settings;
-use records::status::Status;
 use tables::own;
 
 pub fn found(
@@ -36,17 +34,6 @@ pub fn found(
             nodes: 1,
         },
     );
-    record::store(
-        state,
-        1,
-        Node {
-            id: id as u64,
-            status: Status::IN_SYSTEM,
-            level: 0,
-            target: 0,
-            pending: sets::EMPTY,
-            notified: sets::EMPTY,
-        },
-    );
+    record::store(state, 1, new_node(id));
     own::write_own(tables, digits, id, 1);
 }

@@ -10,15 +10,15 @@ use lib.Dec.{eqb}
 use lib.ListN.{length, getD, set, length-set}
 use lib.Seq.{getD-set-same, getD-set-other}
 use Rattle.model.specs.Ids.{validId}
-use Rattle.model.specs.Memory.{tablesLength, base, digits, depth, nodeCount, idOf, isInSystem, copying, tableStart, tableOf}
+use Rattle.model.specs.Memory.{tablesLength, base, digits, depth, nodeCount, nodeOf, idOf, isInSystem, copying, tableStart, tableOf}
 use Rattle.model.specs.Tables.{ownTable}
-use Rattle.model.specs.Join.{joiningNode, begun}
-use Rattle.model.proofs.Memory.{Stored, node-length, node-stored, node-outside, stored-length, stored-outside, stored-same, stored-other}
+use Rattle.model.specs.Join.{newNode, joiningNode, begun}
+use Rattle.model.proofs.Memory.{same-id, same-status, same-level, same-target, same-pending, same-notified, node-same, node-length, node-stored, node-outside, stored-length, stored-outside, stored-same, stored-other}
 use Rattle.model.proofs.Status.{IsNode, StatusOk, is-copying}
 use Rattle.model.proofs.Ids.{InRange}
 use Rattle.model.proofs.Sound.{TableOk, Long, Sound}
 use Rattle.model.proofs.Own.{own-long, own-table}
-use Rattle.model.proofs.Later.{Later, Kept, node-later, table-later, status-later}
+use Rattle.model.proofs.Later.{Later, node-later, table-later, status-later}
 
 -- what the refusals of a beginning leave
 pub record CanBegin (s : List ℕ) (id gateway : ℕ) : Type 0 where
@@ -42,21 +42,21 @@ module _ (s t : List ℕ) (id gateway : ℕ) (S : Sound s t) (c : CanBegin s id 
   unfolding s₀
   fits = omega (arith, length-set s 3 (nodeCount s + 1), S .long .state, c .room)
 
-  stored : Stored s₁ (nodeCount s + 1) (joiningNode id copying gateway)
+  stored : nodeOf s₁ (nodeCount s + 1) ≡ joiningNode (newNode id) copying gateway
   unfolding s₁ begun s₀
-  stored = node-stored s₀ (nodeCount s + 1) (joiningNode id copying gateway) fits
+  stored = node-stored s₀ (nodeCount s + 1) (joiningNode (newNode id) copying gateway) fits
 
   -- every word but the count and the new record's is as it was
   same : (p : ℕ) → p ≢ 3 → (p < 8 * (nodeCount s + 1)) ⊎ (8 * (nodeCount s + 1) + 6 ≤ p) → getD s₁ p 0 ≡ getD s p 0
   unfolding s₁ begun s₀
   same p ne h =
-      node-outside s₀ (nodeCount s + 1) (joiningNode id copying gateway) fits p h
+      node-outside s₀ (nodeCount s + 1) (joiningNode (newNode id) copying gateway) fits p h
       ∙ getD-set-other s 3 p (nodeCount s + 1) 0 ne
 
   count : nodeCount s₁ ≡ nodeCount s + 1
   unfolding s₁ begun s₀
   count =
-      node-outside s₀ (nodeCount s + 1) (joiningNode id copying gateway) fits 3 (inl (omega arith))
+      node-outside s₀ (nodeCount s + 1) (joiningNode (newNode id) copying gateway) fits 3 (inl (omega arith))
       ∙ getD-set-same s 3 (nodeCount s + 1) 0 (omega (arith, S .long .state))
 
   pub begun-count : nodeCount (begun s t id gateway .state) ≡ nodeCount s + 1
@@ -70,21 +70,9 @@ module _ (s t : List ℕ) (id gateway : ℕ) (S : Sound s t) (c : CanBegin s id 
       let g : y ≤ nodeCount s = n .high in
       same (8 * y + k) (omega arith) (inl (omega arith))
 
-  same-id : (y : ℕ) → IsNode s y → idOf s₁ y ≡ idOf s y
-  same-id y n =
-      let l : 1 ≤ y = n .low in
-      let g : y ≤ nodeCount s = n .high in
-      same (8 * y) (omega arith) (inl (omega arith))
-
-  pub begun-kept : (y : ℕ) → IsNode s y → Kept s (begun s t id gateway .state) y
+  pub begun-kept : (y : ℕ) → IsNode s y → nodeOf (begun s t id gateway .state) y ≡ nodeOf s y
   unfolding s₁
-  begun-kept y n = record {
-    status = same-record y 1 n (omega arith);
-    level = same-record y 2 n (omega arith);
-    target = same-record y 3 n (omega arith);
-    pending = same-record y 4 n (omega arith);
-    notified = same-record y 5 n (omega arith);
-  }
+  begun-kept y n = node-same s s₁ y (λ k. same-record y k n)
 
   pub begun-later : Later s (begun s t id gateway .state)
   unfolding s₁
@@ -93,14 +81,14 @@ module _ (s t : List ℕ) (id gateway : ℕ) (S : Sound s t) (c : CanBegin s id 
     digits = same 1 (omega arith) (inl (omega arith));
     depth = same 2 (omega arith) (inl (omega arith));
     more = omega (arith, count);
-    ids = same-id;
-    attached = λ y n e. ap (λ (q : ℕ). eqb q 0 || eqb q 3) (begun-kept y n .status) ∙ e;
-    in-system = λ y n e. ap (λ (q : ℕ). eqb q 0) (begun-kept y n .status) ∙ e;
+    ids = λ y n. same-id (begun-kept y n);
+    attached = λ y n e. ap (λ (q : ℕ). eqb q 0 || eqb q 3) (same-status (begun-kept y n)) ∙ e;
+    in-system = λ y n e. ap (λ (q : ℕ). eqb q 0) (same-status (begun-kept y n)) ∙ e;
   }
 
-  kept₁ : (y : ℕ) → IsNode s y → Kept s s₁ y
+  kept : (y : ℕ) → IsNode s y → nodeOf s₁ y ≡ nodeOf s y
   unfolding s₁
-  kept₁ = begun-kept
+  kept = begun-kept
 
   later : Later s s₁
   unfolding s₁
@@ -116,19 +104,19 @@ module _ (s t : List ℕ) (id gateway : ℕ) (S : Sound s t) (c : CanBegin s id 
   range = subst₃ InRange (sym (later .base)) (sym (later .digits)) (sym (later .depth)) (S .settings)
 
   valid : (y : ℕ) → IsNode s₁ y → validId (base s₁) (digits s₁) (idOf s₁ y) ≡ true
-  valid y n = ⊎-elim (λ e. with-id (ap (idOf s₁) e ∙ stored .id) (c .valid)) (λ o. with-id (same-id y o) (S .ids y o)) (which y n)
+  valid y n = ⊎-elim (λ e. with-id (ap (idOf s₁) e ∙ same-id stored) (c .valid)) (λ o. with-id (same-id (kept y o)) (S .ids y o)) (which y n)
     where
       with-id : {id : ℕ} → idOf s₁ y ≡ id → validId (base s) (digits s) id ≡ true → validId (base s₁) (digits s₁) (idOf s₁ y) ≡ true
       with-id e =
           subst₃ (λ (b d id : ℕ). validId b d id ≡ true) (sym (later .base)) (sym (later .digits)) (sym e)
 
   distinct : (y z : ℕ) → IsNode s₁ y → 1 ≤ z → z < y → idOf s₁ z ≢ idOf s₁ y
-  distinct y z n l h e = ⊎-elim newest (λ o. S .new y z o l h (sym (same-id z (record { low = l; high = omega (arith, o .high) })) ∙ e ∙ same-id y o)) (which y n)
+  distinct y z n l h e = ⊎-elim newest (λ o. S .new y z o l h (sym (same-id (kept z (record { low = l; high = omega (arith, o .high) }))) ∙ e ∙ same-id (kept y o))) (which y n)
     where
       newest : y ≡ nodeCount s + 1 → ⊥
       newest q =
           let o : IsNode s z = record { low = l; high = omega arith } in
-          c .new z o (sym (same-id z o) ∙ e ∙ ap (idOf s₁) q ∙ stored .id)
+          c .new z o (sym (same-id (kept z o)) ∙ e ∙ ap (idOf s₁) q ∙ same-id stored)
 
   is-new : IsNode s₁ (nodeCount s + 1)
   is-new = record { low = omega arith; high = omega (arith, count) }
@@ -147,7 +135,7 @@ module _ (s t : List ℕ) (id gateway : ℕ) (S : Sound s t) (c : CanBegin s id 
       newest e =
           subst (λ (y : ℕ). TableOk s₁ y (tableOf t₁ y)) (sym e)
           (rw (stored-same t (nodeCount s + 1) (ownTable (digits s) id (nodeCount s + 1)) own-size table-fits)
-          (subst₂ (λ (d id : ℕ). TableOk s₁ (nodeCount s + 1) (ownTable d id (nodeCount s + 1))) (later .digits) (stored .id)
+          (subst₂ (λ (d id : ℕ). TableOk s₁ (nodeCount s + 1) (ownTable d id (nodeCount s + 1))) (later .digits) (same-id stored)
           (own-table s₁ (nodeCount s + 1) range is-new (valid (nodeCount s + 1) is-new) .rules)))
 
       older : IsNode s y → TableOk s₁ y (tableOf t₁ y)
@@ -158,13 +146,13 @@ module _ (s t : List ℕ) (id gateway : ℕ) (S : Sound s t) (c : CanBegin s id 
           (table-later s s₁ later y (tableOf t y) o (S .tables y o))
 
   status : (y : ℕ) → IsNode s₁ y → StatusOk s₁ y
-  status y n = ⊎-elim newest (λ o. status-later s s₁ later y o (kept₁ y o) (S .statuses y o)) (which y n)
+  status y n = ⊎-elim newest (λ o. status-later s s₁ later y o (kept y o) (S .statuses y o)) (which y n)
     where
       newest : y ≡ nodeCount s + 1 → StatusOk s₁ y
-      newest e = subst (StatusOk s₁) (sym e) (is-copying (stored .status) record {
-        is-node = rw (stored .target) (node-later s s₁ later gateway (c .is-node));
-        settled = rw (stored .target) (later .in-system gateway (c .is-node) (c .settled));
-        rest = record { level = stored .level; pending = stored .pending; notified = stored .notified };
+      newest e = subst (StatusOk s₁) (sym e) (is-copying (same-status stored) record {
+        is-node = rw (same-target stored) (node-later s s₁ later gateway (c .is-node));
+        settled = rw (same-target stored) (later .in-system gateway (c .is-node) (c .settled));
+        rest = record { level = same-level stored; pending = same-pending stored; notified = same-notified stored };
       })
 
   spare : (y : ℕ) → IsNode s₁ y → (k : ℕ) → 6 ≤ k → k < 8 → getD s₁ (8 * y + k) 0 ≡ 0
@@ -180,7 +168,7 @@ module _ (s t : List ℕ) (id gateway : ℕ) (S : Sound s t) (c : CanBegin s id 
     state =
         omega (
           arith,
-          node-length s₀ (nodeCount s + 1) (joiningNode id copying gateway) fits,
+          node-length s₀ (nodeCount s + 1) (joiningNode (newNode id) copying gateway) fits,
           length-set s 3 (nodeCount s + 1),
           S .long .state,
         );

@@ -4,7 +4,7 @@ use mathlib.Core.Path.{_≡_, refl, sym, ap, subst}
 use mathlib.Core.Bool.{Bool, true, false, cond}
 use mathlib.Core.List.{List}
 use lib.Dec.{eqb}
-use Rattle.model.specs.Memory.{idOf, statusOf, copying, waiting, notifying, isInSystem, isAttached, withNode, tableOf, withTable}
+use Rattle.model.specs.Memory.{nodeOf, statusOf, copying, waiting, notifying, isInSystem, isAttached, withNode, tableOf, withTable}
 use Rattle.model.specs.Sound.{suffixOf}
 use Rattle.model.specs.Join.{Delivery, joiningNode, roomAtSuffix, firstAtSuffix, outstanding, deliverCopying, deliverSentOn, deliverAttached, deliverWaiting, deliverNotifying, delivery, delivered}
 use Rattle.model.specs.Learning.{learnTable}
@@ -30,7 +30,7 @@ module _ (s t : List ℕ) (S : Sound s t) (x y : ℕ) (nx : IsNode s x) (ny : Is
 
   module _ (away : isAttached s x ≡ false) where
     asks : (status z : ℕ) → Next s status z
-        → Sound (withNode s x (joiningNode (idOf s x) status z)) (withTable (withTable t y (tableOf t y)) x (learnTable s x (tableOf t y) (tableOf t x)))
+        → Sound (withNode s x (joiningNode (nodeOf s x) status z)) (withTable (withTable t y (tableOf t y)) x (learnTable s x (tableOf t y) (tableOf t x)))
     asks = asking-ok s t S x y nx ny (r .other) away (r .attached)
 
     first : room ≡ false → IsNode s next × (isAttached s next ≡ true) × (suffixOf s x y + 1 ≤ suffixOf s x next)
@@ -42,7 +42,7 @@ module _ (s t : List ℕ) (S : Sound s t) (x y : ℕ) (nx : IsNode s x) (ny : Is
     copied-ok = go room (isInSystem s next) refl refl
       where
         go : (a b : Bool) → room ≡ a → isInSystem s next ≡ b
-            → Sound (withNode s x (cond a (joiningNode (idOf s x) waiting y) (joiningNode (idOf s x) (cond b copying waiting) next)))
+            → Sound (withNode s x (cond a (joiningNode (nodeOf s x) waiting y) (joiningNode (nodeOf s x) (cond b copying waiting) next)))
             (withTable (withTable t y (tableOf t y)) x (learnTable s x (tableOf t y) (tableOf t x)))
         go true b e q = asks waiting y (wait refl ny (r .attached))
         go false true e q = asks copying next (copy refl (first e .0) q)

@@ -10,14 +10,14 @@ use lib.Dec.{eqb}
 use lib.ListN.{length, getD}
 use borrow.Author.Tests.{eqb-true, ltb-false}
 use Rattle.model.specs.Ids.{validId, digitOf, commonSuffix}
-use Rattle.model.specs.Memory.{base, digits, depth, Node, idOf, withNode, copying, waiting, isInSystem, isAttached, tableOf, withTable}
+use Rattle.model.specs.Memory.{base, digits, depth, Node, nodeOf, idOf, withNode, copying, waiting, isInSystem, isAttached, tableOf, withTable}
 use Rattle.model.specs.Tables.{qualified, slotPlace, entrySize}
 use Rattle.model.specs.Sound.{suffixOf}
 use Rattle.model.specs.Learning.{learnTable}
 use Rattle.model.specs.Join.{joiningNode, roomAtSuffix, firstAtSuffix}
 use Rattle.model.proofs.Bools.{or-cases, or-intro-right, not-both}
 use Rattle.model.proofs.Ids.{InRange, suffix-sym, suffix-other, next-hop, valid-digit}
-use Rattle.model.proofs.Memory.{Stored, node-stored, table-length}
+use Rattle.model.proofs.Memory.{same-status, same-level, same-target, same-pending, same-notified, node-stored, table-length}
 use Rattle.model.proofs.Tables.{size-filled}
 use Rattle.model.proofs.Status.{IsNode, StatusOk, is-copying, is-waiting}
 use Rattle.model.proofs.Sound.{SlotOk, standing, Sound, node-fits, table-fits}
@@ -101,35 +101,35 @@ module _ (s t : List ℕ) (S : Sound s t) (x y : ℕ) (nx : IsNode s x) (ny : Is
       (λ q. absurd (not-both (isAttached s x) q away))
       (λ q. absurd (not-both (isAttached s x) (attached-in-system s x q) away))
 
-  asking-status : (status z : ℕ) → Next s status z → StatusOk (withNode s x (joiningNode (idOf s x) status z)) x
+  asking-status : (status z : ℕ) → Next s status z → StatusOk (withNode s x (joiningNode (nodeOf s x) status z)) x
   asking-status status z n = go n
     where
       r : Node
-      r = joiningNode (idOf s x) status z
+      r = joiningNode (nodeOf s x) status z
 
       l : Later s (withNode s x r)
       l = joining-later r refl
 
-      st : Stored (withNode s x r) x r
+      st : nodeOf (withNode s x r) x ≡ r
       st = node-stored s x r fits
 
       go : Next s status z → StatusOk (withNode s x r) x
-      go (copy e n i) = is-copying (st .status ∙ e) record {
-        is-node = rw (st .target) (node-later s (withNode s x r) l z n);
-        settled = ap (isInSystem (withNode s x r)) (st .target) ∙ l .in-system z n i;
-        rest = record { level = st .level; pending = st .pending; notified = st .notified };
+      go (copy e n i) = is-copying (same-status st ∙ e) record {
+        is-node = rw (same-target st) (node-later s (withNode s x r) l z n);
+        settled = ap (isInSystem (withNode s x r)) (same-target st) ∙ l .in-system z n i;
+        rest = record { level = same-level st; pending = same-pending st; notified = same-notified st };
       }
-      go (wait e n i) = is-waiting (st .status ∙ e) record {
-        is-node = rw (st .target) (node-later s (withNode s x r) l z n);
-        attached = ap (isAttached (withNode s x r)) (st .target) ∙ l .attached z n i;
-        rest = record { level = st .level; pending = st .pending; notified = st .notified };
+      go (wait e n i) = is-waiting (same-status st ∙ e) record {
+        is-node = rw (same-target st) (node-later s (withNode s x r) l z n);
+        attached = ap (isAttached (withNode s x r)) (same-target st) ∙ l .attached z n i;
+        rest = record { level = same-level st; pending = same-pending st; notified = same-notified st };
       }
 
   pub asking-ok : (status z : ℕ) → Next s status z
-      → Sound (withNode s x (joiningNode (idOf s x) status z))
+      → Sound (withNode s x (joiningNode (nodeOf s x) status z))
       (withTable (withTable t y (tableOf t y)) x (learnTable s x (tableOf t y) (tableOf t x)))
   asking-ok status z n =
-      let r : Node = joiningNode (idOf s x) status z in
+      let r : Node = joiningNode (nodeOf s x) status z in
       let l : Later s (withNode s x r) = joining-later r refl in
       replaced-ok s t x y r (learnTable s x (tableOf t y) (tableOf t x)) (tableOf t y) S nx ny ne refl l
       (own-later s (withNode s x r) l x (learnTable s x (tableOf t y) (tableOf t x)) nx

@@ -9,11 +9,11 @@ use lib.ListN.{length, getD, length-set}
 use lib.Seq.{getD-set-other}
 use borrow.Author.Tests.{eq-eqb}
 use Rattle.model.specs.Ids.{validId}
-use Rattle.model.specs.Memory.{stateLength, tablesLength, base, digits, depth, nodeCount, idOf, isInSystem, zeroed, tableStart, tableOf}
+use Rattle.model.specs.Memory.{stateLength, tablesLength, base, digits, depth, nodeCount, nodeOf, idOf, isInSystem, zeroed, tableStart, tableOf}
 use Rattle.model.specs.Tables.{ownTable}
 use Rattle.model.specs.Sound.{sound}
-use Rattle.model.specs.Join.{withSettings, inSystemNode, founded}
-use Rattle.model.proofs.Memory.{Stored, node-length, node-stored, node-outside, stored-length, stored-outside, stored-same, zeroed-length, zeroed-within}
+use Rattle.model.specs.Join.{withSettings, newNode, founded}
+use Rattle.model.proofs.Memory.{same-id, same-status, same-level, same-target, same-pending, same-notified, node-length, node-stored, node-outside, stored-length, stored-outside, stored-same, zeroed-length, zeroed-within}
 use Rattle.model.proofs.Status.{IsNode, StatusOk, is-in-system}
 use Rattle.model.proofs.Ids.{InRange}
 use Rattle.model.proofs.Sound.{TableOk, Long, Sound, sound-of}
@@ -63,14 +63,14 @@ module _ (s t : List ℕ) (b d K id : ℕ) (long : Long s t) (range : InRange b 
       let l : stateLength ≤ length s = long .state in
       omega arith
 
-  stored : Stored s₁ 1 (inSystemNode id)
+  stored : nodeOf s₁ 1 ≡ newNode id
   unfolding s₁ founded s₀
-  stored = node-stored s₀ 1 (inSystemNode id) (omega (arith, long₀))
+  stored = node-stored s₀ 1 (newNode id) (omega (arith, long₀))
 
   -- a word outside the record of node 1 is that of the settings
   outside : (p : ℕ) → (p < 8) ⊎ (14 ≤ p) → getD s₁ p 0 ≡ getD s₀ p 0
   unfolding s₁ founded s₀
-  outside p h = node-outside s₀ 1 (inSystemNode id) (omega (arith, long₀)) p h
+  outside p h = node-outside s₀ 1 (newNode id) (omega (arith, long₀)) p h
 
   -- past the settings and outside that record every word of the fixed length is zero
   zero : (p : ℕ) → 4 ≤ p → (p < 8) ⊎ (14 ≤ p) → p < stateLength → getD s₁ p 0 ≡ 0
@@ -94,7 +94,7 @@ module _ (s t : List ℕ) (b d K id : ℕ) (long : Long s t) (range : InRange b 
 
   valid₁ : validId (base s₁) (digits s₁) (idOf s₁ 1) ≡ true
   valid₁ =
-      subst₃ (λ (b d id : ℕ). validId b d id ≡ true) (sym (settings .base)) (sym (settings .digits)) (sym (stored .id)) valid
+      subst₃ (λ (b d id : ℕ). validId b d id ≡ true) (sym (settings .base)) (sym (settings .digits)) (sym (same-id stored)) valid
 
   -- node 1 is the only one
   only : (x : ℕ) → IsNode s₁ x → 1 ≡ x
@@ -113,12 +113,12 @@ module _ (s t : List ℕ) (b d K id : ℕ) (long : Long s t) (range : InRange b 
   unfolding t₁ founded
   table =
       stored-same (zeroed tablesLength t) 1 (ownTable d id 1) own-size fits
-      ∙ sym (ap₂ (λ (d id : ℕ). ownTable d id 1) (settings .digits) (stored .id))
+      ∙ sym (ap₂ (λ (d id : ℕ). ownTable d id 1) (settings .digits) (same-id stored))
 
   long₁ : Long s₁ t₁
   unfolding s₁ t₁ founded s₀
   long₁ = record {
-    state = omega (arith, node-length s₀ 1 (inSystemNode id) (omega (arith, long₀)), long₀);
+    state = omega (arith, node-length s₀ 1 (newNode id) (omega (arith, long₀)), long₀);
     tables =
         omega (
           arith,
@@ -144,11 +144,11 @@ module _ (s t : List ℕ) (b d K id : ℕ) (long : Long s t) (range : InRange b 
     ids = λ x i. subst (λ (x : ℕ). validId (base s₁) (digits s₁) (idOf s₁ x) ≡ true) (only x i) valid₁;
     new = λ x y i l h. absurd (omega (arith, only x i));
     tables = λ x i. subst (λ (x : ℕ). TableOk s₁ x (tableOf t₁ x)) (only x i) (rw table (own-table s₁ 1 range₁ first valid₁ .rules));
-    statuses = λ x i. subst (StatusOk s₁) (only x i) (is-in-system (stored .status) (record {
-      level = stored .level;
-      target = stored .target;
-      pending = stored .pending;
-      notified = stored .notified;
+    statuses = λ x i. subst (StatusOk s₁) (only x i) (is-in-system (same-status stored) (record {
+      level = same-level stored;
+      target = same-target stored;
+      pending = same-pending stored;
+      notified = same-notified stored;
     }));
     spare = λ x i k l h. zero (8 * x + k) (omega arith) (inr (omega (arith, only x i))) (omega (arith, only x i));
     head = λ p l h. zero p l (inl h) (omega arith);
@@ -158,7 +158,7 @@ module _ (s t : List ℕ) (b d K id : ℕ) (long : Long s t) (range : InRange b 
 
   pub founded-in-system : (x : ℕ) → IsNode (founded s t b d K id .state) x → isInSystem (founded s t b d K id .state) x ≡ true
   unfolding s₁
-  founded-in-system x i = subst (λ (x : ℕ). isInSystem s₁ x ≡ true) (only x i) (eq-eqb _ 0 (stored .status))
+  founded-in-system x i = subst (λ (x : ℕ). isInSystem s₁ x ≡ true) (only x i) (eq-eqb _ 0 (same-status stored))
 
   pub founded-sound : sound (founded s t b d K id .state) (founded s t b d K id .tables) ≡ true
   founded-sound = sound-of (founded s t b d K id .state) (founded s t b d K id .tables) founded-ok

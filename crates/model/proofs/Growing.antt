@@ -8,11 +8,11 @@ use native.Mathlib.Decide.{ℕ-discrete}
 use native.Mathlib.Omega.{arith}
 use lib.Dec.{eqb}
 use lib.ListN.{length}
-use Rattle.model.specs.Memory.{digits, nodeCount, Node, idOf, statusOf, inSystem, copying, waiting, notifying, isAttached, isInSystem, withNode, tableStart, tableOf, withTable}
+use Rattle.model.specs.Memory.{digits, nodeCount, Node, nodeOf, idOf, statusOf, inSystem, copying, waiting, notifying, isAttached, isInSystem, withNode, tableStart, tableOf, withTable}
 use Rattle.model.specs.Tables.{ownTable}
 use Rattle.model.specs.Join.{Delivery, inSystemNode, joiningNode, notifyingNode, settle, begun, roomAtSuffix, firstAtSuffix, deliverCopying, deliverSentOn, deliverAttached, deliverWaiting, deliverNotifying, delivery, delivered}
 use Rattle.model.proofs.Bools.{not-both}
-use Rattle.model.proofs.Memory.{node-stored, table-length, stored-length, stored-same, stored-other}
+use Rattle.model.proofs.Memory.{same-status, node-stored, table-length, stored-length, stored-same, stored-other}
 use Rattle.model.proofs.Tables.{Grows, grows-refl, grows-trans}
 use Rattle.model.proofs.Learning.{learn-grows, learn-table-grows}
 use Rattle.model.proofs.Status.{IsNode, attached-by}
@@ -77,7 +77,7 @@ record Does (s t : List ℕ) (x y : ℕ) (d : Delivery) : Type 0 where
   their : Grows (tableOf t y) (d .receiverTable)
 
 module _ (s t : List ℕ) (x y : ℕ) where
-  asks : (status z : ℕ) (d : Delivery) → isAttached s x ≡ false → d .sender ≡ joiningNode (idOf s x) status z
+  asks : (status z : ℕ) (d : Delivery) → isAttached s x ≡ false → d .sender ≡ joiningNode (nodeOf s x) status z
       → Grows (tableOf t x) (d .senderTable) → d .receiverTable ≡ tableOf t y → Does s t x y d
   asks status z d away e g q = record {
     id = ap (λ (r : Node). r .id) e;
@@ -86,7 +86,7 @@ module _ (s t : List ℕ) (x y : ℕ) where
     their = rw q (grows-refl (tableOf t y));
   }
 
-  notifies-does : (k pend told : ℕ) (d : Delivery) → d .sender ≡ notifyingNode (idOf s x) k pend told
+  notifies-does : (k pend told : ℕ) (d : Delivery) → d .sender ≡ settle (notifyingNode (nodeOf s x) k pend told)
       → Grows (tableOf t x) (d .senderTable) → Grows (tableOf t y) (d .receiverTable) → Does s t x y d
   unfolding settle
   notifies-does k pend told d e g h = record {
@@ -97,13 +97,13 @@ module _ (s t : List ℕ) (x y : ℕ) where
   }
     where
       full : Node
-      full = record { id = idOf s x; status = notifying; level = k; target = 0; pending = pend; notified = told }
+      full = notifyingNode (nodeOf s x) k pend told
 
-      same-id : (b : Bool) → cond b (inSystemNode (idOf s x)) full .id ≡ idOf s x
+      same-id : (b : Bool) → cond b (inSystemNode (nodeOf s x)) full .id ≡ idOf s x
       same-id true = refl
       same-id false = refl
 
-      same-status : (b : Bool) → (eqb (cond b (inSystemNode (idOf s x)) full .status) inSystem || eqb (cond b (inSystemNode (idOf s x)) full .status) notifying) ≡ true
+      same-status : (b : Bool) → (eqb (cond b (inSystemNode (nodeOf s x)) full .status) inSystem || eqb (cond b (inSystemNode (nodeOf s x)) full .status) notifying) ≡ true
       same-status true = refl
       same-status false = refl
 
@@ -121,8 +121,8 @@ module _ (s t : List ℕ) (x y : ℕ) where
       status = cond (isInSystem s next) copying waiting
 
       sender : (a : Bool) → roomAtSuffix s (tableOf t y) x y ≡ a
-          → d .sender ≡ cond a (joiningNode (idOf s x) waiting y) (joiningNode (idOf s x) status next)
-      sender a e = ap (λ (a : Bool). cond a (joiningNode (idOf s x) waiting y) (joiningNode (idOf s x) status next)) e
+          → d .sender ≡ cond a (joiningNode (nodeOf s x) waiting y) (joiningNode (nodeOf s x) status next)
+      sender a e = ap (λ (a : Bool). cond a (joiningNode (nodeOf s x) waiting y) (joiningNode (nodeOf s x) status next)) e
 
       go : (a : Bool) → roomAtSuffix s (tableOf t y) x y ≡ a → Does s t x y d
       go true e = asks waiting y d away (sender true e) (learn-table-grows s x (tableOf t y) (tableOf t x)) refl
@@ -228,7 +228,7 @@ module _ (s t : List ℕ) (S : Sound s t) (x y : ℕ) (c : CanDeliver s x y) whe
     later =
         agree-later x s (withNode s x (d .sender)) (agree-node s x fits (d .sender) (does .id)) (nx .low)
         (λ q.
-        ap (λ (v : ℕ). eqb v inSystem || eqb v notifying) (node-stored s x (d .sender) fits .status) ∙ does .attached q)
+        ap (λ (v : ℕ). eqb v inSystem || eqb v notifying) (same-status (node-stored s x (d .sender) fits)) ∙ does .attached q)
         (λ q. absurd (not-both (isInSystem s x) q not-in-system));
     grows = λ z n. tables-grow z n (ℕ-discrete z x) (ℕ-discrete z y);
   }

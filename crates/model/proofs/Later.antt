@@ -10,10 +10,11 @@ use native.Mathlib.Omega.{arith}
 use lib.Dec.{eqb}
 use lib.Pow.{pow-mono}
 use Rattle.model.specs.Ids.{commonSuffix, digitOf}
-use Rattle.model.specs.Memory.{base, digits, depth, nodeCount, idOf, statusOf, levelOf, targetOf, pendingOf, notifiedOf, hasNode, isAttached, isInSystem}
+use Rattle.model.specs.Memory.{base, digits, depth, nodeCount, nodeOf, idOf, targetOf, pendingOf, notifiedOf, hasNode, isAttached, isInSystem}
 use Rattle.model.specs.Tables.{qualified, slotAt, firstOf}
 use Rattle.model.specs.Sound.{mayStand, suffixOf, placeUsed}
 use Rattle.model.proofs.Bools.{or-cases, or-intro-left, or-intro-right}
+use Rattle.model.proofs.Memory.{same-status, same-level, same-target, same-pending, same-notified}
 use Rattle.model.proofs.Sets.{has-within}
 use Rattle.model.proofs.Status.{IsNode, JoiningOk, PendingOk, NotifiedOk, NotifyingOk, StatusOk, is-in-system, is-copying, is-waiting, is-notifying}
 use Rattle.model.proofs.Sound.{SlotOk, TableOk}
@@ -26,14 +27,6 @@ pub record Later (s s′ : List ℕ) : Type 0 where
   pub ids : (x : ℕ) → IsNode s x → idOf s′ x ≡ idOf s x
   pub attached : (x : ℕ) → IsNode s x → isAttached s x ≡ true → isAttached s′ x ≡ true
   pub in-system : (x : ℕ) → IsNode s x → isInSystem s x ≡ true → isInSystem s′ x ≡ true
-
--- node y's record did not change
-pub record Kept (s s′ : List ℕ) (y : ℕ) : Type 0 where
-  pub status : statusOf s′ y ≡ statusOf s y
-  pub level : levelOf s′ y ≡ levelOf s y
-  pub target : targetOf s′ y ≡ targetOf s y
-  pub pending : pendingOf s′ y ≡ pendingOf s y
-  pub notified : notifiedOf s′ y ≡ notifiedOf s y
 
 module _ (s s′ : List ℕ) (l : Later s s′) where
   pub node-later : (x : ℕ) → IsNode s x → IsNode s′ x
@@ -75,30 +68,30 @@ module _ (s s′ : List ℕ) (l : Later s s′) where
     unused = λ p h e. o .unused p h (sym (used-later p) ∙ e);
   }
 
-  -- ---- a record
+  -- ---- a record that did not change
 
-  module _ (y : ℕ) (n : IsNode s y) (k : Kept s s′ y) where
+  module _ (y : ℕ) (n : IsNode s y) (k : nodeOf s′ y ≡ nodeOf s y) where
     joining-later : JoiningOk s y → JoiningOk s′ y
-    joining-later o = record { level = k .level ∙ o .level; pending = k .pending ∙ o .pending; notified = k .notified ∙ o .notified }
+    joining-later o = record { level = same-level k ∙ o .level; pending = same-pending k ∙ o .pending; notified = same-notified k ∙ o .notified }
 
     target-later : IsNode s (targetOf s y) → IsNode s′ (targetOf s′ y)
-    target-later o = rw (k .target) (node-later (targetOf s y) o)
+    target-later o = rw (same-target k) (node-later (targetOf s y) o)
 
     pending-later : NotifyingOk s y → (u : ℕ) → IsNode s′ u → hasNode (pendingOf s′ y) u ≡ true → PendingOk s′ y u
     pending-later o u nu h =
-        let h₀ : hasNode (pendingOf s y) u ≡ true = sym (ap (λ (q : ℕ). hasNode q u) (k .pending)) ∙ h in
+        let h₀ : hasNode (pendingOf s y) u ≡ true = sym (ap (λ (q : ℕ). hasNode q u) (same-pending k)) ∙ h in
         let nu₀ : IsNode s u = record { low = nu .low; high = has-within (pendingOf s y) (nodeCount s) u (o .pending-within) h₀ } in
         let r : PendingOk s y u = o .pending u nu₀ h₀ in
         record {
           attached = l .attached u nu₀ (r .attached);
-          suffix = omega (arith, k .level, suffix-later y u n nu₀, r .suffix);
+          suffix = omega (arith, same-level k, suffix-later y u n nu₀, r .suffix);
           other = r .other;
-          new = ap (λ (q : ℕ). hasNode q u) (k .notified) ∙ r .new;
+          new = ap (λ (q : ℕ). hasNode q u) (same-notified k) ∙ r .new;
         }
 
     notified-later : NotifyingOk s y → (u : ℕ) → IsNode s′ u → hasNode (notifiedOf s′ y) u ≡ true → NotifiedOk s′ y u
     notified-later o u nu h =
-        let h₀ : hasNode (notifiedOf s y) u ≡ true = sym (ap (λ (q : ℕ). hasNode q u) (k .notified)) ∙ h in
+        let h₀ : hasNode (notifiedOf s y) u ≡ true = sym (ap (λ (q : ℕ). hasNode q u) (same-notified k)) ∙ h in
         let nu₀ : IsNode s u = record { low = nu .low; high = has-within (notifiedOf s y) (nodeCount s) u (o .notified-within) h₀ } in
         let r : NotifiedOk s y u = o .notified u nu₀ h₀ in
         record { attached = l .attached u nu₀ (r .attached); other = r .other }
@@ -107,28 +100,28 @@ module _ (s s′ : List ℕ) (l : Later s s′) where
     within-later e h = rw e (lt-of-lt-of-le h (pow-mono (l .more)))
 
     pub status-later : StatusOk s y → StatusOk s′ y
-    status-later (is-in-system e o) = is-in-system (k .status ∙ e) record {
-      level = k .level ∙ o .level;
-      target = k .target ∙ o .target;
-      pending = k .pending ∙ o .pending;
-      notified = k .notified ∙ o .notified;
+    status-later (is-in-system e o) = is-in-system (same-status k ∙ e) record {
+      level = same-level k ∙ o .level;
+      target = same-target k ∙ o .target;
+      pending = same-pending k ∙ o .pending;
+      notified = same-notified k ∙ o .notified;
     }
-    status-later (is-copying e o) = is-copying (k .status ∙ e) record {
+    status-later (is-copying e o) = is-copying (same-status k ∙ e) record {
       is-node = target-later (o .is-node);
-      settled = ap (isInSystem s′) (k .target) ∙ l .in-system (targetOf s y) (o .is-node) (o .settled);
+      settled = ap (isInSystem s′) (same-target k) ∙ l .in-system (targetOf s y) (o .is-node) (o .settled);
       rest = joining-later (o .rest);
     }
-    status-later (is-waiting e o) = is-waiting (k .status ∙ e) record {
+    status-later (is-waiting e o) = is-waiting (same-status k ∙ e) record {
       is-node = target-later (o .is-node);
-      attached = ap (isAttached s′) (k .target) ∙ l .attached (targetOf s y) (o .is-node) (o .attached);
+      attached = ap (isAttached s′) (same-target k) ∙ l .attached (targetOf s y) (o .is-node) (o .attached);
       rest = joining-later (o .rest);
     }
-    status-later (is-notifying e o) = is-notifying (k .status ∙ e) record {
-      target = k .target ∙ o .target;
-      level = omega (arith, k .level, l .digits, o .level);
-      some = omega (arith, k .pending, o .some);
-      pending-within = within-later (k .pending) (o .pending-within);
-      notified-within = within-later (k .notified) (o .notified-within);
+    status-later (is-notifying e o) = is-notifying (same-status k ∙ e) record {
+      target = same-target k ∙ o .target;
+      level = omega (arith, same-level k, l .digits, o .level);
+      some = omega (arith, same-pending k, o .some);
+      pending-within = within-later (same-pending k) (o .pending-within);
+      notified-within = within-later (same-notified k) (o .notified-within);
       pending = pending-later o;
       notified = notified-later o;
     }

@@ -22,6 +22,7 @@ pub mod Later
 pub mod Beginning
 pub mod Replaced
 pub mod Gather
+pub mod Settling
 pub mod Sender
 pub mod Delivering
 pub mod Notifying

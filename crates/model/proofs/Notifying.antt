@@ -11,14 +11,14 @@ use lib.Dec.{eqb, ltb}
 use lib.ListN.{length, getD}
 use lib.Pow.{pow-pos}
 use borrow.Author.Tests.{eqb-true, eqb-false, lt-ltb}
-use Rattle.model.specs.Memory.{base, digits, depth, nodeCount, Node, idOf, statusOf, levelOf, pendingOf, notifiedOf, withNode, inSystem, notifying, isInSystem, isAttached, hasNode, addNode, removeNode, tableOf, withTable}
+use Rattle.model.specs.Memory.{base, digits, depth, nodeCount, Node, nodeOf, idOf, statusOf, levelOf, pendingOf, notifiedOf, withNode, inSystem, notifying, isInSystem, isAttached, hasNode, addNode, removeNode, tableOf, withTable}
 use Rattle.model.specs.Sound.{suffixOf}
 use Rattle.model.specs.Learning.{learn, learnTable}
 use Rattle.model.specs.Join.{inSystemNode, notifyingNode, settle, hasRoom, roomAtSuffix, belowOrRoom, roomFrom, attachLevel, gather}
 use Rattle.model.proofs.Bools.{back-false, or-cases, or-intro-left, or-intro-right, not-both, true-or-false}
 use Rattle.model.proofs.Loops.{all-of, first-min}
 use Rattle.model.proofs.Sets.{has-none, has-add, has-add-other, has-remove, add-within, remove-le}
-use Rattle.model.proofs.Memory.{Stored, node-stored}
+use Rattle.model.proofs.Memory.{same-status, same-level, same-target, same-pending, same-notified, node-stored}
 use Rattle.model.proofs.Status.{IsNode, StatusOk, NotifyingOk, is-in-system, is-notifying}
 use Rattle.model.proofs.Ids.{InRange}
 use Rattle.model.proofs.Sound.{standing, Sound, node-fits}
@@ -54,7 +54,7 @@ module _ (s t : List ℕ) (S : Sound s t) (x y : ℕ) (nx : IsNode s x) (ny : Is
 
   -- a record of x that is attached leads to a later state, from s and from s′
   attached-of : (r : Node) → (eqb (r .status) inSystem || eqb (r .status) notifying) ≡ true → isAttached (withNode s x r) x ≡ true
-  attached-of r e = ap (λ (v : ℕ). eqb v inSystem || eqb v notifying) (node-stored s x r fits .status) ∙ e
+  attached-of r e = ap (λ (v : ℕ). eqb v inSystem || eqb v notifying) (same-status (node-stored s x r fits)) ∙ e
 
   later : (r : Node) → r .id ≡ idOf s x → (eqb (r .status) inSystem || eqb (r .status) notifying) ≡ true → Later s (withNode s x r)
   later r e h =
@@ -77,50 +77,50 @@ module _ (s t : List ℕ) (S : Sound s t) (x y : ℕ) (nx : IsNode s x) (ny : Is
       (own-later s′ (withNode s x r) (later′ r e h) y Ty (there y ny) oy) ok
 
   full : Node
-  full = record { id = idOf s x; status = notifying; level = k; target = 0; pending = pend; notified = told }
+  full = notifyingNode (nodeOf s x) k pend told
 
   notifying-status : 0 < pend → StatusOk (withNode s x full) x
   unfolding full
   notifying-status some =
-      let st : Stored (withNode s x full) x full = node-stored s x full fits in
+      let st : nodeOf (withNode s x full) x ≡ full = node-stored s x full fits in
       let l : Later s (withNode s x full) = later full refl refl in
       let count : nodeCount (withNode s x full) ≡ nodeCount s = agree-count x s (withNode s x full) (agree-node s x fits full refl) (nx .low) in
       let back : (u : ℕ) → IsNode (withNode s x full) u → IsNode s u = λ u n. record { low = n .low; high = omega (arith, count, n .high) } in
-      is-notifying (st .status) record {
-        target = st .target;
-        level = omega (arith, st .level, l .digits, sets .level);
-        some = omega (arith, st .pending, some);
-        pending-within = subst₂ (λ (p n : ℕ). p < 2 ^ n) (sym (st .pending)) (sym count) (sets .pend-within);
-        notified-within = subst₂ (λ (p n : ℕ). p < 2 ^ n) (sym (st .notified)) (sym count) (sets .told-within);
+      is-notifying (same-status st) record {
+        target = same-target st;
+        level = omega (arith, same-level st, l .digits, sets .level);
+        some = omega (arith, same-pending st, some);
+        pending-within = subst₂ (λ (p n : ℕ). p < 2 ^ n) (sym (same-pending st)) (sym count) (sets .pend-within);
+        notified-within = subst₂ (λ (p n : ℕ). p < 2 ^ n) (sym (same-notified st)) (sym count) (sets .told-within);
         pending =
             λ u n h.
-            let d : Due s x k told u = sets .due u (back u n) (sym (ap (λ (q : ℕ). hasNode q u) (st .pending)) ∙ h) in
+            let d : Due s x k told u = sets .due u (back u n) (sym (ap (λ (q : ℕ). hasNode q u) (same-pending st)) ∙ h) in
             record {
               attached = l .attached u (back u n) (d .attached);
-              suffix = omega (arith, st .level, suffix-later s (withNode s x full) l x u nx (back u n), d .suffix);
+              suffix = omega (arith, same-level st, suffix-later s (withNode s x full) l x u nx (back u n), d .suffix);
               other = d .other;
-              new = ap (λ (q : ℕ). hasNode q u) (st .notified) ∙ d .new;
+              new = ap (λ (q : ℕ). hasNode q u) (same-notified st) ∙ d .new;
             };
         notified =
             λ u n h.
-            let d = sets .done u (back u n) (sym (ap (λ (q : ℕ). hasNode q u) (st .notified)) ∙ h) in
+            let d = sets .done u (back u n) (sym (ap (λ (q : ℕ). hasNode q u) (same-notified st)) ∙ h) in
             record { attached = l .attached u (back u n) (d .0); other = d .1 };
       }
 
-  in-system-status : StatusOk (withNode s x (inSystemNode (idOf s x))) x
+  in-system-status : StatusOk (withNode s x (inSystemNode (nodeOf s x))) x
   in-system-status =
-      let st : Stored (withNode s x (inSystemNode (idOf s x))) x (inSystemNode (idOf s x)) = node-stored s x (inSystemNode (idOf s x)) fits in
-      is-in-system (st .status) record { level = st .level; target = st .target; pending = st .pending; notified = st .notified }
+      let st : nodeOf (withNode s x (inSystemNode (nodeOf s x))) x ≡ inSystemNode (nodeOf s x) = node-stored s x (inSystemNode (nodeOf s x)) fits in
+      is-in-system (same-status st) record { level = same-level st; target = same-target st; pending = same-pending st; notified = same-notified st }
 
-  pub notifying-ok : Sound (withNode s x (notifyingNode (idOf s x) k pend told)) (withTable (withTable t y Ty) x Tx)
+  pub notifying-ok : Sound (withNode s x (settle (notifyingNode (nodeOf s x) k pend told))) (withTable (withTable t y Ty) x Tx)
   unfolding settle full
   notifying-ok = go (true-or-false (eqb pend 0))
     where
-      went : (b : Bool) → eqb pend 0 ≡ b → notifyingNode (idOf s x) k pend told ≡ cond b (inSystemNode (idOf s x)) full
-      went b e = ap (λ (b : Bool). cond b (inSystemNode (idOf s x)) full) e
+      went : (b : Bool) → eqb pend 0 ≡ b → settle (notifyingNode (nodeOf s x) k pend told) ≡ cond b (inSystemNode (nodeOf s x)) full
+      went b e = ap (λ (b : Bool). cond b (inSystemNode (nodeOf s x)) full) e
 
-      go : (eqb pend 0 ≡ true) ⊎ (eqb pend 0 ≡ false) → Sound (withNode s x (notifyingNode (idOf s x) k pend told)) (withTable (withTable t y Ty) x Tx)
-      go (inl e) = subst (λ (r : Node). Sound (withNode s x r) (withTable (withTable t y Ty) x Tx)) (sym (went true e)) (step (inSystemNode (idOf s x)) refl refl in-system-status)
+      go : (eqb pend 0 ≡ true) ⊎ (eqb pend 0 ≡ false) → Sound (withNode s x (settle (notifyingNode (nodeOf s x) k pend told))) (withTable (withTable t y Ty) x Tx)
+      go (inl e) = subst (λ (r : Node). Sound (withNode s x r) (withTable (withTable t y Ty) x Tx)) (sym (went true e)) (step (inSystemNode (nodeOf s x)) refl refl in-system-status)
       go (inr e) =
           let nz = eqb-false pend 0 e in
           subst (λ (r : Node). Sound (withNode s x r) (withTable (withTable t y Ty) x Tx)) (sym (went false e)) (step full refl refl (notifying-status (omega (arith, nz))))
@@ -143,7 +143,7 @@ module _ (s : List ℕ) (x : ℕ) (nx : IsNode s x) (s′ : List ℕ) (a : Agree
       let n : ToNotify s x k told u = g .to-notify in
       let f = standing s′ range z T (o .rules) (g .place) (g .within) (λ e. n .some (sym (g .stands) ∙ e)) in
       let may : (eqb u z || isAttached s′ u) ≡ true = rw (g .stands) at (f .1) in
-      let same : isAttached s′ u ≡ isAttached s u = ap (λ (v : ℕ). eqb v inSystem || eqb v notifying) (agree-kept x s s′ a u (n .other) .status) in
+      let same : isAttached s′ u ≡ isAttached s u = ap (λ (v : ℕ). eqb v inSystem || eqb v notifying) (same-status (agree-kept x s s′ a u (n .other))) in
       record {
         attached =
             ⊎-elim
@@ -178,7 +178,7 @@ module _ (s t : List ℕ) (S : Sound s t) (x y : ℕ) (nx : IsNode s x) (ny : Is
   told = addNode 0 y
 
   abbrev first : Node
-  first = record { id = idOf s x; status = notifying; level = k; target = 0; pending = 0; notified = told }
+  first = notifyingNode (nodeOf s x) k 0 told
 
   abbrev s′ : List ℕ
   s′ = withNode s x first
@@ -187,7 +187,7 @@ module _ (s t : List ℕ) (S : Sound s t) (x y : ℕ) (nx : IsNode s x) (ny : Is
   fits₁ = node-fits s t S x nx
 
   status′ : statusOf s′ x ≡ notifying
-  status′ = node-stored s x first fits₁ .status
+  status′ = same-status (node-stored s x first fits₁)
 
   agree′ : Agree x s s′
   agree′ = agree-node s x fits₁ first refl
@@ -245,7 +245,7 @@ module _ (s t : List ℕ) (S : Sound s t) (x y : ℕ) (nx : IsNode s x) (ny : Is
         (has-add 0 y u (ny .low) (n .low) h);
   }
 
-  pub attached-ok : Sound (withNode s x (notifyingNode (idOf s x) k pend told)) (withTable (withTable t y Ty′) x Tx′)
+  pub attached-ok : Sound (withNode s x (settle (notifyingNode (nodeOf s x) k pend told))) (withTable (withTable t y Ty′) x Tx′)
   attached-ok =
       notifying-ok s t S x y nx ny ne s′ agree′ outside (ap (λ (v : ℕ). eqb v inSystem) status′)
       (λ r e. agree-nodes s x fits₁ first r e) k pend told sets Tx′ Ty′ ox oy
@@ -318,7 +318,7 @@ module _ (s t : List ℕ) (S : Sound s t) (x y : ℕ) (nx : IsNode s x) (ny : Is
         (λ q. let r = o .notified u n q in (r .attached, r .other)) (has-add (notifiedOf s x) y u (ny .low) (n .low) h);
   }
 
-  pub notified-ok : Sound (withNode s x (notifyingNode (idOf s x) k₂ pend₂ told₂)) (withTable (withTable t y Ty₂) x Tx₂)
+  pub notified-ok : Sound (withNode s x (settle (notifyingNode (nodeOf s x) k₂ pend₂ told₂))) (withTable (withTable t y Ty₂) x Tx₂)
   notified-ok =
       let out : isInSystem s x ≡ false = ap (λ (v : ℕ). eqb v inSystem) status in
       notifying-ok s t S x y nx ny ne s agree₂ out out (λ r e. agree-node s x fits₂ r e) k₂ pend₂ told₂ sets₂ Tx₂ Ty₂ ox₂ oy₂

@@ -10,13 +10,13 @@ use native.Mathlib.Omega.{arith}
 use lib.Dec.{eqb}
 use lib.ListN.{length, getD}
 use Rattle.model.specs.Ids.{validId}
-use Rattle.model.specs.Memory.{tablesLength, base, digits, depth, nodeCount, Node, idOf, isAttached, isInSystem, withNode, tableStart, tableOf, withTable}
-use Rattle.model.proofs.Memory.{node-length, node-stored, node-outside, stored-length, stored-outside, stored-same, stored-other}
+use Rattle.model.specs.Memory.{tablesLength, base, digits, depth, nodeCount, Node, nodeOf, idOf, isAttached, isInSystem, withNode, tableStart, tableOf, withTable}
+use Rattle.model.proofs.Memory.{same-id, same-status, node-same, node-length, node-stored, node-outside, stored-length, stored-outside, stored-same, stored-other}
 use Rattle.model.proofs.Status.{IsNode, StatusOk}
 use Rattle.model.proofs.Ids.{InRange}
 use Rattle.model.proofs.Sound.{TableOk, Long, Sound, node-fits, table-fits}
 use Rattle.model.proofs.Rules.{OwnTable}
-use Rattle.model.proofs.Later.{Later, Kept, table-later, status-later}
+use Rattle.model.proofs.Later.{Later, table-later, status-later}
 
 -- two states that agree but for node x's record, in which x has the same id
 pub record Agree (x : ℕ) (s s′ : List ℕ) : Type 0 where
@@ -25,12 +25,12 @@ pub record Agree (x : ℕ) (s s′ : List ℕ) : Type 0 where
 
 module _ (s : List ℕ) (x : ℕ) (fits : 8 * x + 6 ≤ length s) where
   pub agree-node : (r : Node) → r .id ≡ idOf s x → Agree x s (withNode s x r)
-  agree-node r e = record { words = node-outside s x r fits; id = node-stored s x r fits .id ∙ e }
+  agree-node r e = record { words = node-outside s x r fits; id = same-id (node-stored s x r fits) ∙ e }
 
   pub agree-nodes : (a b : Node) → b .id ≡ a .id → Agree x (withNode s x a) (withNode s x b)
   agree-nodes a b e = record {
     words = λ p h. node-outside s x b fits p h ∙ sym (node-outside s x a fits p h);
-    id = node-stored s x b fits .id ∙ e ∙ sym (node-stored s x a fits .id);
+    id = same-id (node-stored s x b fits) ∙ e ∙ sym (same-id (node-stored s x a fits));
   }
 
 module _ (x : ℕ) (s s′ : List ℕ) (a : Agree x s s′) where
@@ -42,23 +42,15 @@ module _ (x : ℕ) (s s′ : List ℕ) (a : Agree x s s′) where
       apart (yes l) = inl (omega arith)
       apart (no g) = inr (omega arith)
 
+  pub agree-kept : (y : ℕ) → y ≢ x → nodeOf s′ y ≡ nodeOf s y
+  agree-kept y e = node-same s s′ y (λ k. agree-record y k e)
+
   pub agree-id : (y : ℕ) → idOf s′ y ≡ idOf s y
   agree-id y = go (ℕ-discrete y x)
     where
       go : Dec (y ≡ x) → idOf s′ y ≡ idOf s y
       go (yes e) = subst (λ (y : ℕ). idOf s′ y ≡ idOf s y) (sym e) (a .id)
-      go (no e) =
-          let w : 8 * y ≡ 8 * y + 0 = omega arith in
-          subst (λ (p : ℕ). getD s′ p 0 ≡ getD s p 0) (sym w) (agree-record y 0 e (omega arith))
-
-  pub agree-kept : (y : ℕ) → y ≢ x → Kept s s′ y
-  agree-kept y e = record {
-    status = agree-record y 1 e (omega arith);
-    level = agree-record y 2 e (omega arith);
-    target = agree-record y 3 e (omega arith);
-    pending = agree-record y 4 e (omega arith);
-    notified = agree-record y 5 e (omega arith);
-  }
+      go (no e) = same-id (agree-kept y e)
 
   pub agree-count : 1 ≤ x → nodeCount s′ ≡ nodeCount s
   agree-count h = a .words 3 (inl (omega arith))
@@ -77,11 +69,11 @@ module _ (x : ℕ) (s s′ : List ℕ) (a : Agree x s s′) where
     where
       attached : (y : ℕ) → Dec (y ≡ x) → isAttached s y ≡ true → isAttached s′ y ≡ true
       attached y (yes e) = subst (λ (y : ℕ). isAttached s y ≡ true → isAttached s′ y ≡ true) (sym e) f
-      attached y (no e) = λ q. ap (λ (v : ℕ). eqb v 0 || eqb v 3) (agree-kept y e .status) ∙ q
+      attached y (no e) = λ q. ap (λ (v : ℕ). eqb v 0 || eqb v 3) (same-status (agree-kept y e)) ∙ q
 
       in-system : (y : ℕ) → Dec (y ≡ x) → isInSystem s y ≡ true → isInSystem s′ y ≡ true
       in-system y (yes e) = subst (λ (y : ℕ). isInSystem s y ≡ true → isInSystem s′ y ≡ true) (sym e) g
-      in-system y (no e) = λ q. ap (λ (v : ℕ). eqb v 0) (agree-kept y e .status) ∙ q
+      in-system y (no e) = λ q. ap (λ (v : ℕ). eqb v 0) (same-status (agree-kept y e)) ∙ q
 
 -- ---- the step
 

@@ -8,15 +8,15 @@ use mathlib.Core.List.{List}
 use native.Mathlib.Omega.{arith}
 use lib.Dec.{eqb}
 use lib.ListN.{length}
-use Rattle.model.specs.Memory.{digits, Node, idOf, statusOf, targetOf, inSystem, copying, waiting, notifying, isAttached, isInSystem, withNode, tableOf}
+use Rattle.model.specs.Memory.{digits, Node, nodeOf, idOf, statusOf, targetOf, inSystem, copying, waiting, notifying, isAttached, isInSystem, withNode, tableOf}
 use Rattle.model.specs.Sound.{suffixOf}
 use Rattle.model.specs.Join.{Delivery, inSystemNode, joiningNode, notifyingNode, settle, roomAtSuffix, firstAtSuffix, deliverCopying, deliverSentOn, deliverAttached, deliverWaiting, deliverNotifying, delivery}
 use Rattle.model.specs.Run.{keepsAsking}
 use Rattle.model.proofs.Bools.{not-both}
-use Rattle.model.proofs.Memory.{Stored, node-stored}
+use Rattle.model.proofs.Memory.{same-status, same-target, node-stored}
 use Rattle.model.proofs.Status.{IsNode, StatusOk, is-in-system, is-copying, is-waiting, is-notifying}
 use Rattle.model.proofs.Sound.{Sound, node-fits}
-use Rattle.model.proofs.Later.{Later, Kept, suffix-later}
+use Rattle.model.proofs.Later.{Later, suffix-later}
 use Rattle.model.proofs.Replaced.{Agree, agree-node, agree-id, agree-kept}
 use Rattle.model.proofs.Sender.{Sending, copies, waits, notifies, Receiver, attached-in-system}
 use Rattle.model.proofs.Delivering.{suffix-below, first-node}
@@ -63,30 +63,30 @@ module _ (s t : List ℕ) (S : Sound s t) (x : ℕ) (nx : IsNode s x) where
   limit-node : (r : Node) → r .id ≡ idOf s x → limit (withNode s x r) x ≡ limitOf (digits s) (r .status) (suffixOf s x (r .target))
   unfolding limit
   limit-node r e =
-      let st : Stored (withNode s x r) x r = node-stored s x r fits in
+      let st : nodeOf (withNode s x r) x ≡ r = node-stored s x r fits in
       let a : Agree x s (withNode s x r) = agree-node s x fits r e in
       let d : digits (withNode s x r) ≡ digits s = a .words 1 (inl (omega (arith, nx .low))) in
-      simp (st .status, st .target, agree-id x s (withNode s x r) a, d)
+      simp (same-status st, same-target st, agree-id x s (withNode s x r) a, d)
 
   -- another node's limit is as it was
   pub limit-other : (r : Node) → r .id ≡ idOf s x → (z : ℕ) → z ≢ x → limit (withNode s x r) z ≡ limit s z
   unfolding limit
   limit-other r e z ne =
       let a : Agree x s (withNode s x r) = agree-node s x fits r e in
-      let k : Kept s (withNode s x r) z = agree-kept x s (withNode s x r) a z ne in
+      let k : nodeOf (withNode s x r) z ≡ nodeOf s z = agree-kept x s (withNode s x r) a z ne in
       let d : digits (withNode s x r) ≡ digits s = a .words 1 (inl (omega (arith, nx .low))) in
-      simp (k .status, k .target, agree-id x s (withNode s x r) a, d)
+      simp (same-status k, same-target k, agree-id x s (withNode s x r) a, d)
 
   -- a node that notifies or has settled is at the highest limit
-  limit-notifying : (k pend told : ℕ) → limit (withNode s x (notifyingNode (idOf s x) k pend told)) x ≡ digits s + 1
+  limit-notifying : (k pend told : ℕ) → limit (withNode s x (settle (notifyingNode (nodeOf s x) k pend told))) x ≡ digits s + 1
   unfolding settle
   limit-notifying k pend told = go (eqb pend 0) refl
     where
       full : Node
-      full = record { id = idOf s x; status = notifying; level = k; target = 0; pending = pend; notified = told }
+      full = notifyingNode (nodeOf s x) k pend told
 
-      go : (b : Bool) → eqb pend 0 ≡ b → limit (withNode s x (cond b (inSystemNode (idOf s x)) full)) x ≡ digits s + 1
-      go true e = limit-node (inSystemNode (idOf s x)) refl
+      go : (b : Bool) → eqb pend 0 ≡ b → limit (withNode s x (cond b (inSystemNode (nodeOf s x)) full)) x ≡ digits s + 1
+      go true e = limit-node (inSystemNode (nodeOf s x)) refl
       go false e = limit-node full refl
 
 -- ---- a taken delivery
@@ -98,15 +98,15 @@ pub record Rises (s : List ℕ) (x : ℕ) (d : Delivery) : Type 0 where
 
 module _ (s t : List ℕ) (S : Sound s t) (x y : ℕ) (nx : IsNode s x) (ny : IsNode s y) (r : Receiver s x y) where
   -- a delivery that leaves x asking, by its new status and target
-  asking-rises : (status z : ℕ) (d : Delivery) → d .sender ≡ joiningNode (idOf s x) status z
+  asking-rises : (status z : ℕ) (d : Delivery) → d .sender ≡ joiningNode (nodeOf s x) status z
       → limit s x + 1 ≤ limitOf (digits s) status (suffixOf s x z) → Rises s x d
   asking-rises status z d e h =
       let w : limit (withNode s x (d .sender)) x ≡ limitOf (digits s) status (suffixOf s x z) =
-      ap (λ (n : Node). limit (withNode s x n) x) e ∙ limit-node s t S x nx (joiningNode (idOf s x) status z) refl in
+      ap (λ (n : Node). limit (withNode s x n) x) e ∙ limit-node s t S x nx (joiningNode (nodeOf s x) status z) refl in
       record { asks = λ q. omega (arith, w, h); keeps = omega (arith, w, h) }
 
   -- a delivery that leaves x notifying or in the system sends no request
-  settled-rises : (k pend told : ℕ) (d : Delivery) → d .sender ≡ notifyingNode (idOf s x) k pend told → keepsAsking (d .kind) ≡ false → Rises s x d
+  settled-rises : (k pend told : ℕ) (d : Delivery) → d .sender ≡ settle (notifyingNode (nodeOf s x) k pend told) → keepsAsking (d .kind) ≡ false → Rises s x d
   settled-rises k pend told d e f =
       let w : limit (withNode s x (d .sender)) x ≡ digits s + 1 =
       ap (λ (n : Node). limit (withNode s x n) x) e ∙ limit-notifying s t S x nx k pend told in
@@ -127,9 +127,9 @@ module _ (s t : List ℕ) (S : Sound s t) (x y : ℕ) (nx : IsNode s x) (ny : Is
         next = firstAtSuffix s (tableOf t y) x y
 
         sender : (a b : Bool) → roomAtSuffix s (tableOf t y) x y ≡ a → isInSystem s next ≡ b
-            → d .sender ≡ cond a (joiningNode (idOf s x) waiting y) (joiningNode (idOf s x) (cond b copying waiting) next)
+            → d .sender ≡ cond a (joiningNode (nodeOf s x) waiting y) (joiningNode (nodeOf s x) (cond b copying waiting) next)
         sender a b e q =
-            ap₂ (λ (a b : Bool). cond a (joiningNode (idOf s x) waiting y) (joiningNode (idOf s x) (cond b copying waiting) next)) e q
+            ap₂ (λ (a b : Bool). cond a (joiningNode (nodeOf s x) waiting y) (joiningNode (nodeOf s x) (cond b copying waiting) next)) e q
 
         go : (a b : Bool) → roomAtSuffix s (tableOf t y) x y ≡ a → isInSystem s next ≡ b → Rises s x d
         go true b e q = asking-rises waiting y d (sender true b e q) (omega (arith, w))
@@ -168,21 +168,21 @@ pub record Moves (s : List ℕ) (x y : ℕ) (d : Delivery) : Type 0 where
 
 module _ (s t : List ℕ) (S : Sound s t) (x y : ℕ) (nx : IsNode s x) (ny : IsNode s y) (r : Receiver s x y) where
   -- to a node that it matches in more digits
-  nearer : (status z : ℕ) (d : Delivery) → d .sender ≡ joiningNode (idOf s x) status z → suffixOf s x y + 1 ≤ suffixOf s x z → Moves s x y d
+  nearer : (status z : ℕ) (d : Delivery) → d .sender ≡ joiningNode (nodeOf s x) status z → suffixOf s x y + 1 ≤ suffixOf s x z → Moves s x y d
   nearer status z d e h = record { on = λ q. inl (subst (λ (z : ℕ). suffixOf s x y < suffixOf s x z) (sym (ap (λ (n : Node). n .target) e)) (omega (arith, h))) }
 
   -- it asks no more
-  ends : (k pend told : ℕ) (d : Delivery) → d .sender ≡ notifyingNode (idOf s x) k pend told → Moves s x y d
+  ends : (k pend told : ℕ) (d : Delivery) → d .sender ≡ settle (notifyingNode (nodeOf s x) k pend told) → Moves s x y d
   unfolding settle
   ends k pend told d e = record { on = λ q. absurd (go (eqb pend 0) (⊎-elim (λ w. inl (sym here ∙ w)) (λ w. inr (sym here ∙ w)) q)) }
     where
       full : Node
-      full = record { id = idOf s x; status = notifying; level = k; target = 0; pending = pend; notified = told }
+      full = notifyingNode (nodeOf s x) k pend told
 
-      here : d .sender .status ≡ cond (eqb pend 0) (inSystemNode (idOf s x)) full .status
+      here : d .sender .status ≡ cond (eqb pend 0) (inSystemNode (nodeOf s x)) full .status
       here = ap (λ (n : Node). n .status) e
 
-      go : (b : Bool) → (cond b (inSystemNode (idOf s x)) full .status ≡ copying) ⊎ (cond b (inSystemNode (idOf s x)) full .status ≡ waiting) → ⊥
+      go : (b : Bool) → (cond b (inSystemNode (nodeOf s x)) full .status ≡ copying) ⊎ (cond b (inSystemNode (nodeOf s x)) full .status ≡ waiting) → ⊥
       go true (inl w) = omega arith
       go true (inr w) = omega arith
       go false (inl w) = omega arith
@@ -199,9 +199,9 @@ module _ (s t : List ℕ) (S : Sound s t) (x y : ℕ) (nx : IsNode s x) (ny : Is
       next = firstAtSuffix s (tableOf t y) x y
 
       sender : (a : Bool) → roomAtSuffix s (tableOf t y) x y ≡ a
-          → d .sender ≡ cond a (joiningNode (idOf s x) waiting y) (joiningNode (idOf s x) (cond (isInSystem s next) copying waiting) next)
+          → d .sender ≡ cond a (joiningNode (nodeOf s x) waiting y) (joiningNode (nodeOf s x) (cond (isInSystem s next) copying waiting) next)
       sender a e =
-          ap (λ (a : Bool). cond a (joiningNode (idOf s x) waiting y) (joiningNode (idOf s x) (cond (isInSystem s next) copying waiting) next)) e
+          ap (λ (a : Bool). cond a (joiningNode (nodeOf s x) waiting y) (joiningNode (nodeOf s x) (cond (isInSystem s next) copying waiting) next)) e
 
       go : (a : Bool) → roomAtSuffix s (tableOf t y) x y ≡ a → Moves s x y d
       go true e = record { on = λ q. inr (c, ap (λ (n : Node). n .status) (sender true e), ap (λ (n : Node). n .target) (sender true e)) }
@@ -229,17 +229,17 @@ module _ (s t : List ℕ) (S : Sound s t) (x y : ℕ) (nx : IsNode s x) (ny : Is
 
 -- ---- a later state in which z's record did not change
 
-pub limit-later : (s t s′ : List ℕ) → Sound s t → Later s s′ → (z : ℕ) → IsNode s z → Kept s s′ z → limit s′ z ≡ limit s z
+pub limit-later : (s t s′ : List ℕ) → Sound s t → Later s s′ → (z : ℕ) → IsNode s z → nodeOf s′ z ≡ nodeOf s z → limit s′ z ≡ limit s z
 limit-later s t s′ S l z nz k = go (S .statuses z nz)
   where
     same : IsNode s (targetOf s z) → suffixOf s′ z (targetOf s′ z) ≡ suffixOf s z (targetOf s z)
-    same n = ap (suffixOf s′ z) (k .target) ∙ suffix-later s s′ l z (targetOf s z) nz n
+    same n = ap (suffixOf s′ z) (same-target k) ∙ suffix-later s s′ l z (targetOf s z) nz n
 
     go : StatusOk s z → limit s′ z ≡ limit s z
-    go (is-in-system e o) = limit-at s′ z inSystem (k .status ∙ e) ∙ ap (λ (d : ℕ). d + 1) (l .digits) ∙ sym (limit-at s z inSystem e)
-    go (is-copying e o) = limit-at s′ z copying (k .status ∙ e) ∙ ap (λ (m : ℕ). m + 1) (same (o .is-node)) ∙ sym (limit-at s z copying e)
-    go (is-waiting e o) = limit-at s′ z waiting (k .status ∙ e) ∙ ap (λ (m : ℕ). m + 2) (same (o .is-node)) ∙ sym (limit-at s z waiting e)
-    go (is-notifying e o) = limit-at s′ z notifying (k .status ∙ e) ∙ ap (λ (d : ℕ). d + 1) (l .digits) ∙ sym (limit-at s z notifying e)
+    go (is-in-system e o) = limit-at s′ z inSystem (same-status k ∙ e) ∙ ap (λ (d : ℕ). d + 1) (l .digits) ∙ sym (limit-at s z inSystem e)
+    go (is-copying e o) = limit-at s′ z copying (same-status k ∙ e) ∙ ap (λ (m : ℕ). m + 1) (same (o .is-node)) ∙ sym (limit-at s z copying e)
+    go (is-waiting e o) = limit-at s′ z waiting (same-status k ∙ e) ∙ ap (λ (m : ℕ). m + 2) (same (o .is-node)) ∙ sym (limit-at s z waiting e)
+    go (is-notifying e o) = limit-at s′ z notifying (same-status k ∙ e) ∙ ap (λ (d : ℕ). d + 1) (l .digits) ∙ sym (limit-at s z notifying e)
 
 -- every limit is at least 1
 pub limit-some : (s : List ℕ) (x : ℕ) → 1 ≤ limit s x

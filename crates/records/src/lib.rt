@@ -1,6 +1,7 @@
 // The lent memory: its lengths, and of its words the settings, a node's record, the status of a node, sets of nodes.
 pub mod clear;
 pub mod lent;
+pub mod nodes;
 pub mod record;
 pub mod sets;
 pub mod settings;

@@ -5,14 +5,14 @@ use mathlib.Core.Bool.{Bool, true, false, not, _&&_, _||_}
 use mathlib.Core.List.{List}
 use lib.Dec.{eqb}
 use borrow.Author.Tests.{not-true, not-false}
-use Rattle.model.specs.Memory.{statusOf, targetOf, pendingOf, copying, waiting, hasNode, isInSystem, isJoining}
+use Rattle.model.specs.Memory.{Node as Record, nodeOf, statusOf, targetOf, pendingOf, copying, waiting, hasNode, isInSystem, isJoining}
 use Rattle.model.specs.Sound.{isNode}
 use Rattle.model.specs.Join.{outstanding}
 use Rattle.model.specs.Refusals.{refuse, areNodes, waitHeld, stateRefusal, deliverRefusal}
 use Rattle.model.proofs.Early.{true-or-leaves, false-or-goes, eq-goes, eq-leaves}
 use Rattle.model.proofs.Refusals.{refuse-leaves, refuse-goes, refuse-not-leaves, refuse-not-goes}
 use Rattle.records.specs.declared.record.Node.{Node}
-use Rattle.records.specs.Loaded.{Placed, NodeOf}
+use Rattle.records.specs.Loaded.{Placed, bookNode}
 use Rattle.refusals.specs.Refused.{deliverSentences}
 use Rattle.sentences.proofs.State.{state-refused, state-later, state-sound}
 use Rattle.refusals.proofs.BeginLaws.{gateway-placed}
@@ -23,9 +23,9 @@ use Rattle.refusals.proofs.BeginLaws.{gateway-placed}
 abbrev asksTarget : Node → ℕ → Bool
 asksTarget n y = (eqb (n .status) copying || eqb (n .status) waiting) && eqb (n .target) y
 
-module _ (s : List ℕ) (x y : ℕ) (n : Node) (o : NodeOf s x n) (a : Bool) (e : a ≡ asksTarget n y) where
+module _ (s : List ℕ) (x y : ℕ) (n : Node) (o : bookNode n ≡ nodeOf s x) (a : Bool) (e : a ≡ asksTarget n y) where
   asks-is : a ≡ (isJoining s x && eqb (targetOf s x) y)
-  asks-is = e ∙ ap₂ (λ (v w : ℕ). (eqb v copying || eqb v waiting) && eqb w y) (o .status) (o .target)
+  asks-is = e ∙ ap (λ (n : Record). (eqb (n .status) copying || eqb (n .status) waiting) && eqb (n .target) y) o
 
   pub asks-target : a ≡ true → true ≡ outstanding s x y
   unfolding outstanding
@@ -35,7 +35,7 @@ module _ (s : List ℕ) (x y : ℕ) (n : Node) (o : NodeOf s x n) (a : Bool) (e 
   unfolding outstanding
   asks-pending b h q =
       false-or-goes (isJoining s x && eqb (targetOf s x) y) (hasNode (pendingOf s x) y) b (sym asks-is ∙ h)
-      (q ∙ ap (λ (p : ℕ). hasNode p y) (o .pending))
+      (q ∙ ap (λ (n : Record). hasNode (n .pending) y) o)
 
 module _ (s : List ℕ) (x y v : ℕ) (e : v ≡ statusOf s x) where
   pub not-waiting : (v ≡ 2 → ⊥) → false ≡ waitHeld s x y

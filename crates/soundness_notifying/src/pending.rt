@@ -2,9 +2,9 @@
 // told set".
 ghost use mathlib.Core.Path.{_≡_};
 ghost use Rattle.model.specs.Loops.{allBelow, node};
-ghost use Rattle.model.specs.Memory.{nodeCount};
+ghost use Rattle.model.specs.Memory.{nodeCount, nodeOf};
 ghost use Rattle.model.specs.Sound.{pendingSound};
-ghost use Rattle.records.specs.Loaded.{SettingsOf, NodeOf};
+ghost use Rattle.records.specs.Loaded.{SettingsOf, bookNode};
 ghost use Rattle.model.proofs.Status.{IsNode};
 ghost use Rattle.soundness_ids.specs.Checked.{Identified, OwnerOf};
 use records::record::Node;
@@ -18,7 +18,7 @@ fn one(state: &[u64], s: Settings, o: Owner, r: Node, u: usize) -> bool
     requires { ⌜ Identified (now state) ⌝ }
     requires { ⌜ SettingsOf (now state) s ⌝ }
     requires { ⌜ OwnerOf (now state) o ⌝ }
-    requires { ⌜ NodeOf (now state) (o .number) r ⌝ }
+    requires { ⌜ bookNode r ≡ nodeOf (now state) (o .number) ⌝ }
     requires { ⌜ IsNode (now state) u ⌝ }
     ensures { λ q. ⌜ q ≡ pendingSound (now (state .entry)) (o .number) u ⌝ }
 {
@@ -41,7 +41,7 @@ pub fn all(state: &[u64], s: Settings, o: Owner, r: Node) -> bool
     requires { ⌜ Identified (now state) ⌝ }
     requires { ⌜ SettingsOf (now state) s ⌝ }
     requires { ⌜ OwnerOf (now state) o ⌝ }
-    requires { ⌜ NodeOf (now state) (o .number) r ⌝ }
+    requires { ⌜ bookNode r ≡ nodeOf (now state) (o .number) ⌝ }
     ensures { λ q. ⌜ q ≡ allBelow (nodeCount (now (state .entry))) (node (pendingSound (now (state .entry)) (o .number))) ⌝ }
 {
     let mut k = 0;

@@ -3,7 +3,7 @@ ghost use mathlib.Core.Path.{_≡_};
 ghost use Rattle.model.specs.Loops.{allBelow, node};
 ghost use Rattle.model.specs.Memory.{nodeCount};
 ghost use Rattle.model.specs.Sound.{statusSound};
-ghost use Rattle.records.specs.Loaded.{SettingsOf};
+ghost use Rattle.records.specs.Loaded.{SettingsOf, bookNode};
 ghost use Rattle.model.proofs.Status.{IsNode};
 ghost use Rattle.soundness_ids.specs.Checked.{Identified};
 ghost use Rattle.soundness_status.specs.StatusFacts.{atRest};
@@ -17,7 +17,7 @@ mod joining;
 
 // "a settled member's attach level, target and sets are zero"
 fn in_system(r: Node) -> bool
-    ensures { λ q. ⌜ q ≡ atRest r ⌝ }
+    ensures { λ q. ⌜ q ≡ atRest (bookNode r) ⌝ }
 {
     if r.level != 0 {
         return false;
