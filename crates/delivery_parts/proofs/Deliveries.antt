@@ -7,15 +7,15 @@ use native.Mathlib.Omega.{arith}
 use lib.Dec.{eqb}
 use lib.ListN.{length}
 use borrow.Author.Tests.{eq-eqb, ne-eqb}
-use Rattle.model.specs.Memory.{Node as Record, nodeOf, statusOf, levelOf, pendingOf, notifiedOf, withNode, inSystem, copying, waiting, notifying, isInSystem, addNode, removeNode, tableStart, tableOf, withTable}
+use Rattle.model.specs.Memory.{Node as Record, nodeOf, statusOf, levelOf, pendingOf, notifiedOf, withNode, inSystem, copying, waiting, isInSystem, addNode, removeNode, tableStart, tableOf, withTable}
 use Rattle.model.specs.Sound.{suffixOf}
 use Rattle.model.specs.Learning.{learn, learnTable}
 use Rattle.model.specs.Join.{Delivery, joiningNode, notifyingNode, settle, roomAtSuffix, firstAtSuffix, attachLevel, gather, delivered, delivery}
 use Rattle.model.specs.Join.{deliverCopying, deliverSentOn, deliverAttached, deliverWaiting, deliverNotifying}
 use Rattle.model.specs.Calls.{Outcome, taken, deliveryFields}
 use Rattle.model.proofs.Sound.{Sound}
-use Rattle.model.proofs.Sender.{Sending, copies, waits, notifies, sending, receiver}
-use Rattle.model.proofs.Delivered.{CanDeliver}
+use Rattle.model.proofs.Sender.{CanDeliver, Sending, copies, waits, notifies, sends, Receiver}
+use Rattle.model.proofs.DeliveryDid.{to-receiver}
 use Rattle.model.proofs.Memory.{same-level, same-pending, same-notified}
 use Rattle.model.proofs.Settling.{settled-is}
 use Rattle.records.specs.declared.record.Node.{Node}
@@ -209,21 +209,15 @@ module _ (s t : List ℕ) (x y : ℕ) (o : Outcome) where
 
 -- ---- what the refusals of a delivery leave
 
-sends : (s t : List ℕ) (x y : ℕ) → Sound s t → CanDeliver s x y → Sending s x y
-sends s t x y S c = sending s x y (S .statuses x (c .sender)) (c .asked) (c .free)
-
 pub delivers : (s t : List ℕ) (x y : ℕ) → Sound s t → CanDeliver s x y → Delivers s t x y
-delivers s t x y S c = record {
-  sound = S;
-  sender = c .sender;
-  receiver = c .receiver;
-  other = receiver s x y (c .receiver) (sends s t x y S c) .other;
-}
+delivers s t x y S c =
+    let r : Receiver s x y = to-receiver s t S x y c in
+    record { sound = S; sender = c .sender; receiver = c .receiver; attached = r .attached; other = r .other }
 
 -- x copies, waits or notifies
 module _ (s t : List ℕ) (x y n : ℕ) (S : Sound s t) (c : CanDeliver s x y) (e : n ≡ statusOf s x) (o p : Outcome) where
   pub other-asks-nothing : (n ≡ 1 → ⊥) → (n ≡ 2 → ⊥) → (n ≡ 3 → ⊥) → o ≡ p
-  other-asks-nothing a b d = go (sends s t x y S c)
+  other-asks-nothing a b d = go (sends s t S x y c)
     where
       go : Sending s x y → o ≡ p
       go (copies q f h) = absurd (a (e ∙ q))

@@ -18,7 +18,7 @@ use Rattle.model.proofs.Tables.{append-length, append-here, append-away}
 use Rattle.model.proofs.Learning.{learn-at-cases, learn-place-cases}
 use Rattle.model.proofs.Status.{IsNode}
 use Rattle.model.proofs.Sound.{standing, Sound, id-fits}
-use Rattle.model.proofs.Delivering.{own, suffix-below}
+use Rattle.model.proofs.SoundNodes.{own, suffix-below}
 use Rattle.model.proofs.Replaced.{Agree, agree-node, agree-id, agree-count}
 use Rattle.model.proofs.Memory.{node-length}
 use Rattle.records.specs.Loaded.{Placed}

@@ -2,12 +2,12 @@
 use Prim.Native.Nat.{ℕ, _^_, _≤_, _<_}
 use mathlib.Core.Path.{_≡_}
 use mathlib.Core.Logic.{_≢_}
-use mathlib.Core.Bool.{Bool}
+use mathlib.Core.Bool.{Bool, true}
 use mathlib.Core.List.{List}
 use lib.Dec.{ltb}
 use lib.ListN.{length, getD}
 use Rattle.model.specs.Ids.{digitOf}
-use Rattle.model.specs.Memory.{depth, nodeCount, idOf, tableOf, withTable}
+use Rattle.model.specs.Memory.{depth, nodeCount, idOf, isAttached, tableOf, withTable}
 use Rattle.model.specs.Tables.{entrySize}
 use Rattle.model.specs.Sound.{suffixOf}
 use Rattle.model.specs.Learning.{learn, learnTable}
@@ -16,11 +16,12 @@ use Rattle.model.proofs.Status.{IsNode}
 use Rattle.model.proofs.Sound.{Sound}
 use Rattle.delivery_parts.specs.declared.room.SuffixEntry.{SuffixEntry}
 
--- a sound state, and two of its nodes
+-- a sound state, and two of its nodes, the receiver attached
 pub record Delivers (s t : List ℕ) (x y : ℕ) : Type 0 where
   pub sound : Sound s t
   pub sender : IsNode s x
   pub receiver : IsNode s y
+  pub attached : isAttached s y ≡ true
   pub other : y ≢ x
 
 -- a state whose nodes can be read and have different ids

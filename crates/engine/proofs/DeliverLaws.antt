@@ -8,7 +8,7 @@ use Rattle.model.specs.Refusals.{deliverRefusal}
 use Rattle.model.specs.Calls.{Outcome, refused, deliverCall}
 use Rattle.model.proofs.Calls.{taken-is, refused-is}
 use Rattle.model.proofs.Sound.{Sound}
-use Rattle.model.proofs.Delivered.{CanDeliver}
+use Rattle.model.proofs.Sender.{CanDeliver}
 use Rattle.model.proofs.Taken.{deliver-taken}
 use Rattle.delivery_parts.specs.declared.answer.Step.the-variants.{Refused}
 use Rattle.delivery_parts.specs.Answers.{outcome, tookDelivery}

@@ -23,7 +23,7 @@ use Rattle.model.proofs.Bools.{back-false, or-right, and-left, and-righ
 use Rattle.model.proofs.Loops.{all-at, any-at, any-false, any-found, count-some, each-leads}
 use Rattle.model.proofs.Ids.{InRange, valid-digit}
 use Rattle.model.proofs.Memory.{zeroed-length, zeroed-within, table-length, table-at, stored-length, stored-outside, stored-same, stored-other}
-use Rattle.model.proofs.Founding.{Settings, settings-length, settings-stored, settings-outside}
+use Rattle.model.proofs.FoundingIsSound.{Settings, settings-length, settings-stored, settings-outside}
 use Rattle.model.proofs.Status.{IsNode, is-in-system}
 use Rattle.model.proofs.Sound.{Long, Sound}
 use Rattle.model.proofs.Tables.{entry-length, entry-at, entry-none, holds-none, gap-rest, append-length, append-entry, append-apart}

@@ -20,8 +20,8 @@ use Rattle.model.proofs.Nodes.{nodes-at, no-node-at}
 use Rattle.model.proofs.Ids.{InRange, settings-range}
 use Rattle.model.proofs.Status.{IsNode, is-node, is-node-of}
 use Rattle.model.proofs.Sound.{Long, Sound, sound-ok, sound-of}
-use Rattle.model.proofs.Beginning.{CanBegin}
-use Rattle.model.proofs.Delivered.{CanDeliver}
+use Rattle.model.proofs.BeginningKeepsSound.{CanBegin}
+use Rattle.model.proofs.Sender.{CanDeliver}
 use Rattle.model.proofs.Loading.{Readable}
 
 ruleset parts = (and-left, and-right)

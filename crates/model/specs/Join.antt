@@ -13,26 +13,22 @@ use Rattle.model.specs.Tables.{entrySize, firstOf, ownTable}
 use Rattle.model.specs.Sound.{suffixOf}
 use Rattle.model.specs.Learning.{learn, learnTable}
 
--- ---- founding and beginning
+-- ---- the records that a step gives a node; r is its record before
 
--- the settings and the number of nodes, in words 0 to 3
-abbrev pub withSettings : List ℕ → ℕ → ℕ → ℕ → ℕ → List ℕ
-withSettings s b d K n = set (set (set (set s 0 b) 1 d) 2 K) 3 n
-
--- the record of a new node, at rest
+-- a new node, at rest
 abbrev pub newNode : ℕ → Node
 newNode id = record { id = id; status = inSystem; level = 0; target = 0; pending = 0; notified = 0 }
 
--- the record r of a node, now at rest
+-- a node at rest
 abbrev pub inSystemNode : Node → Node
 inSystemNode r = record { id = r .id; status = inSystem; level = 0; target = 0; pending = 0; notified = 0 }
 
--- of one that now copies or waits, by its status and target
+-- one that copies or waits, by its status and target
 abbrev pub joiningNode : Node → ℕ → ℕ → Node
 joiningNode r status target =
     record { id = r .id; status = status; level = 0; target = target; pending = 0; notified = 0 }
 
--- of one that now notifies
+-- one that notifies
 abbrev pub notifyingNode : Node → ℕ → ℕ → ℕ → Node
 notifyingNode r level pending notified =
     record { id = r .id; status = notifying; level = level; target = 0; pending = pending; notified = notified }
@@ -40,6 +36,12 @@ notifyingNode r level pending notified =
 -- "A notifying member whose asked set is empty settles in the same step: attach level, target and both sets become zero."
 unfoldable pub settle : Node → Node
 settle r = cond (eqb (r .status) notifying && eqb (r .pending) 0) (inSystemNode r) r
+
+-- ---- founding and beginning
+
+-- the settings and the number of nodes, in words 0 to 3
+abbrev pub withSettings : List ℕ → ℕ → ℕ → ℕ → ℕ → List ℕ
+withSettings s b d K n = set (set (set (set s 0 b) 1 d) 2 K) 3 n
 
 -- "Founding makes member 1, settled, with only its own entries." Every place of the fixed lengths is decided.
 unfoldable pub founded : List ℕ → List ℕ → ℕ → ℕ → ℕ → ℕ → Memory

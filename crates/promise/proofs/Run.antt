@@ -17,11 +17,11 @@ use Rattle.model.specs.Run.{Call, begin, deliver, step, after, play, history, i
 use Rattle.model.proofs.Bools.{and-left, and-right, true-or-false}
 use Rattle.model.proofs.Status.{IsNode}
 use Rattle.model.proofs.Sound.{Sound}
-use Rattle.model.proofs.Sender.{Sending, sending, receiver}
-use Rattle.model.proofs.Beginning.{CanBegin, begun-ok, begun-count, begun-later, begun-kept}
-use Rattle.model.proofs.Delivered.{CanDeliver, delivered-ok}
-use Rattle.model.proofs.Requests.{limit, limit-some, limit-later, limit-other, Rises, delivery-rises}
-use Rattle.model.proofs.Growing.{Onward, onward-refl, onward-trans, begun-onward, delivered-onward, delivered-id, delivered-count}
+use Rattle.model.proofs.Sender.{CanDeliver}
+use Rattle.model.proofs.BeginningKeepsSound.{CanBegin, begun-ok, begun-count, begun-later, begun-kept}
+use Rattle.model.proofs.DeliveryKeepsSound.{delivered-ok}
+use Rattle.model.proofs.RequestBound.{limit, limit-some, limit-later, limit-other, Rises, delivery-rises}
+use Rattle.model.proofs.TablesOnlyGrow.{Onward, onward-refl, onward-trans, begun-onward, delivered-onward, delivered-id, delivered-count}
 use Rattle.model.proofs.Taken.{begin-taken, deliver-taken}
 use Rattle.model.proofs.Calls.{taken-is}
 use Rattle.promise.proofs.Steps.{Effect, still, begins, delivers, effect}
@@ -120,11 +120,8 @@ module _ (count : ℕ → ℕ) (m : Memory) (x y : ℕ) (H : Holds count m) (S :
   unfolding taken
   deliver-adds z = ap (λ (o : Outcome). cond (isTaken (o .answer) && isSentBy z (deliver x y) (o .answer)) 1 0) outcome₂
 
-  sends : Sending (m .state) x y
-  sends = sending (m .state) x y (S .statuses x (c .sender)) (c .asked) (c .free)
-
   rises : Rises (m .state) x d
-  rises = delivery-rises (m .state) (m .tables) S x y (c .sender) (c .receiver) (receiver (m .state) x y (c .receiver) sends) sends
+  rises = delivery-rises (m .state) (m .tables) S x y c
 
   number₂ : nodeCount (m₂ .state) ≡ nodeCount (m .state)
   number₂ = delivered-count (m .state) (m .tables) S x y c

@@ -3,7 +3,7 @@ use Prim.Native.Nat.{ℕ}
 use mathlib.Core.Path.{_≡_, ap, _∙_}
 use mathlib.Core.List.{List}
 use borrow.Author.Needs.{needs}
-use Rattle.model.specs.Memory.{Node as Record, withNode, notifying}
+use Rattle.model.specs.Memory.{withNode, notifying}
 use Rattle.model.specs.Join.{notifyingNode, settle}
 use Rattle.model.proofs.Memory.{same-status}
 use Rattle.records.specs.declared.record.Node.{Node}

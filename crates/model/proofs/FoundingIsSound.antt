@@ -13,8 +13,8 @@ use Rattle.model.specs.Memory.{stateLength, tablesLength, base, digits, 
 use Rattle.model.specs.Tables.{ownTable}
 use Rattle.model.specs.Sound.{sound}
 use Rattle.model.specs.Join.{withSettings, newNode, founded}
-use Rattle.model.proofs.Memory.{same-id, same-status, same-level, same-target, same-pending, same-notified, node-length, node-stored, node-outside, stored-length, stored-outside, stored-same, zeroed-length, zeroed-within}
-use Rattle.model.proofs.Status.{IsNode, StatusOk, is-in-system}
+use Rattle.model.proofs.Memory.{same-id, same-status, node-length, node-stored, node-outside, stored-length, stored-outside, stored-same, zeroed-length, zeroed-within}
+use Rattle.model.proofs.Status.{IsNode, RecordOk, StatusOk, rests}
 use Rattle.model.proofs.Ids.{InRange}
 use Rattle.model.proofs.Sound.{TableOk, Long, Sound, sound-of}
 use Rattle.model.proofs.Own.{own-long, own-table}
@@ -144,12 +144,7 @@ module _ (s t : List ℕ) (b d K id : ℕ) (long : Long s t) (range : InRange b 
     ids = λ x i. subst (λ (x : ℕ). validId (base s₁) (digits s₁) (idOf s₁ x) ≡ true) (only x i) valid₁;
     new = λ x y i l h. absurd (omega (arith, only x i));
     tables = λ x i. subst (λ (x : ℕ). TableOk s₁ x (tableOf t₁ x)) (only x i) (rw table (own-table s₁ 1 range₁ first valid₁ .rules));
-    statuses = λ x i. subst (StatusOk s₁) (only x i) (is-in-system (same-status stored) (record {
-      level = same-level stored;
-      target = same-target stored;
-      pending = same-pending stored;
-      notified = same-notified stored;
-    }));
+    statuses = λ x i. subst (StatusOk s₁) (only x i) (subst (RecordOk s₁ 1) (sym stored) (rests s₁ 1 (newNode id)));
     spare = λ x i k l h. zero (8 * x + k) (omega arith) (inr (omega (arith, only x i))) (omega (arith, only x i));
     head = λ p l h. zero p l (inl h) (omega arith);
     rest = λ p l h. zero p (omega (arith, l)) (inr (omega (arith, settings .count, l))) h;

@@ -1,22 +1,21 @@
 -- A taken beginning leaves a sound state: one node more, copying, with its own entries only. Assumes nothing.
 use Prim.Native.Nat.{ℕ, _+_, _*_, _≤_, _<_}
-use mathlib.Core.Path.{_≡_, sym, ap, subst, subst₂, subst₃, _∙_}
+use mathlib.Core.Path.{_≡_, refl, sym, ap, subst, subst₂, subst₃, _∙_}
 use mathlib.Core.Logic.{_≢_, _⊎_, inl, inr, ⊎-elim}
-use mathlib.Core.Bool.{true, _||_}
+use mathlib.Core.Bool.{true}
 use mathlib.Core.List.{List}
 use native.Mathlib.Nat.{eq-or-lt-of-le}
 use native.Mathlib.Omega.{arith}
-use lib.Dec.{eqb}
 use lib.ListN.{length, getD, set, length-set}
 use lib.Seq.{getD-set-same, getD-set-other}
 use Rattle.model.specs.Ids.{validId}
 use Rattle.model.specs.Memory.{tablesLength, base, digits, depth, nodeCount, nodeOf, idOf, isInSystem, copying, tableStart, tableOf}
 use Rattle.model.specs.Tables.{ownTable}
 use Rattle.model.specs.Join.{newNode, joiningNode, begun}
-use Rattle.model.proofs.Memory.{same-id, same-status, same-level, same-target, same-pending, same-notified, node-same, node-length, node-stored, node-outside, stored-length, stored-outside, stored-same, stored-other}
-use Rattle.model.proofs.Status.{IsNode, StatusOk, is-copying}
+use Rattle.model.proofs.Memory.{same-id, node-same, node-length, node-stored, node-outside, stored-length, stored-outside, stored-same, stored-other}
+use Rattle.model.proofs.Status.{IsNode, RecordOk, StatusOk, is-copying, joins, attached-same, in-system-same}
 use Rattle.model.proofs.Ids.{InRange}
-use Rattle.model.proofs.Sound.{TableOk, Long, Sound}
+use Rattle.model.proofs.Sound.{TableOk, Long, Sound, table-fits}
 use Rattle.model.proofs.Own.{own-long, own-table}
 use Rattle.model.proofs.Later.{Later, node-later, table-later, status-later}
 
@@ -82,8 +81,8 @@ module _ (s t : List ℕ) (id gateway : ℕ) (S : Sound s t) (c : CanBegin s id 
     depth = same 2 (omega arith) (inl (omega arith));
     more = omega (arith, count);
     ids = λ y n. same-id (begun-kept y n);
-    attached = λ y n e. ap (λ (q : ℕ). eqb q 0 || eqb q 3) (same-status (begun-kept y n)) ∙ e;
-    in-system = λ y n e. ap (λ (q : ℕ). eqb q 0) (same-status (begun-kept y n)) ∙ e;
+    attached = λ y n e. attached-same s s₁ y (begun-kept y n) ∙ e;
+    in-system = λ y n e. in-system-same s s₁ y (begun-kept y n) ∙ e;
   }
 
   kept : (y : ℕ) → IsNode s y → nodeOf s₁ y ≡ nodeOf s y
@@ -124,36 +123,40 @@ module _ (s t : List ℕ) (id gateway : ℕ) (S : Sound s t) (c : CanBegin s id 
   own-size : length (ownTable (digits s) id (nodeCount s + 1)) ≡ 512
   own-size = own-long (digits s) id (nodeCount s + 1) (S .settings .digits-most)
 
-  table-fits : tableStart (nodeCount s + 1) + 512 ≤ length t
-  table-fits = omega (arith, S .long .tables, c .room)
+  new-fits : tableStart (nodeCount s + 1) + 512 ≤ length t
+  new-fits = omega (arith, S .long .tables, c .room)
+
+  -- an earlier node's table is as it was
+  pub begun-table : (y : ℕ) → IsNode s y → tableOf (begun s t id gateway .tables) y ≡ tableOf t y
+  unfolding begun
+  begun-table y o =
+      stored-other t (nodeCount s + 1) (ownTable (digits s) id (nodeCount s + 1)) own-size new-fits y (omega arith) (o .low)
+      (omega (arith, o .high)) (table-fits s t S y o)
 
   table : (y : ℕ) → IsNode s₁ y → TableOk s₁ y (tableOf t₁ y)
   unfolding t₁ begun
-  table y n = ⊎-elim newest older (which y n)
+  table y n = ⊎-elim newest (λ o. rw (begun-table y o) (table-later s s₁ later y (tableOf t y) o (S .tables y o))) (which y n)
     where
       newest : y ≡ nodeCount s + 1 → TableOk s₁ y (tableOf t₁ y)
       newest e =
           subst (λ (y : ℕ). TableOk s₁ y (tableOf t₁ y)) (sym e)
-          (rw (stored-same t (nodeCount s + 1) (ownTable (digits s) id (nodeCount s + 1)) own-size table-fits)
+          (rw (stored-same t (nodeCount s + 1) (ownTable (digits s) id (nodeCount s + 1)) own-size new-fits)
           (subst₂ (λ (d id : ℕ). TableOk s₁ (nodeCount s + 1) (ownTable d id (nodeCount s + 1))) (later .digits) (same-id stored)
           (own-table s₁ (nodeCount s + 1) range is-new (valid (nodeCount s + 1) is-new) .rules)))
-
-      older : IsNode s y → TableOk s₁ y (tableOf t₁ y)
-      older o =
-          rw
-          (stored-other t (nodeCount s + 1) (ownTable (digits s) id (nodeCount s + 1)) own-size table-fits y (omega arith) (o .low)
-          (omega (arith, o .high)) (omega (arith, S .long .tables, S .few, o .low, o .high)))
-          (table-later s s₁ later y (tableOf t y) o (S .tables y o))
 
   status : (y : ℕ) → IsNode s₁ y → StatusOk s₁ y
   status y n = ⊎-elim newest (λ o. status-later s s₁ later y o (kept y o) (S .statuses y o)) (which y n)
     where
       newest : y ≡ nodeCount s + 1 → StatusOk s₁ y
-      newest e = subst (StatusOk s₁) (sym e) (is-copying (same-status stored) record {
-        is-node = rw (same-target stored) (node-later s s₁ later gateway (c .is-node));
-        settled = rw (same-target stored) (later .in-system gateway (c .is-node) (c .settled));
-        rest = record { level = same-level stored; pending = same-pending stored; notified = same-notified stored };
-      })
+      newest e =
+          subst (StatusOk s₁) (sym e)
+          (subst (RecordOk s₁ (nodeCount s + 1)) (sym stored)
+          (is-copying refl
+          (record {
+            is-node = node-later s s₁ later gateway (c .is-node);
+            settled = later .in-system gateway (c .is-node) (c .settled);
+            rest = joins (newNode id) copying gateway;
+          })))
 
   spare : (y : ℕ) → IsNode s₁ y → (k : ℕ) → 6 ≤ k → k < 8 → getD s₁ (8 * y + k) 0 ≡ 0
   spare y n k l h = ⊎-elim newest (λ o. same-record y k o h ∙ S .spare y o k l h) (which y n)
@@ -175,7 +178,7 @@ module _ (s t : List ℕ) (id gateway : ℕ) (S : Sound s t) (c : CanBegin s id 
     tables =
         omega (
           arith,
-          stored-length t (nodeCount s + 1) (ownTable (digits s) id (nodeCount s + 1)) own-size table-fits,
+          stored-length t (nodeCount s + 1) (ownTable (digits s) id (nodeCount s + 1)) own-size new-fits,
           S .long .tables,
         );
   }
@@ -183,7 +186,7 @@ module _ (s t : List ℕ) (id gateway : ℕ) (S : Sound s t) (c : CanBegin s id 
   tables-zero : (p : ℕ) → 512 * nodeCount s₁ ≤ p → p < tablesLength → getD t₁ p 0 ≡ 0
   unfolding t₁ begun
   tables-zero p l h =
-      stored-outside t (nodeCount s + 1) (ownTable (digits s) id (nodeCount s + 1)) own-size table-fits p (inr (omega (arith, count)))
+      stored-outside t (nodeCount s + 1) (ownTable (digits s) id (nodeCount s + 1)) own-size new-fits p (inr (omega (arith, count)))
       ∙ S .tables-rest p (omega (arith, count)) h
 
   pub begun-ok : Sound (begun s t id gateway .state) (begun s t id gateway .tables)
