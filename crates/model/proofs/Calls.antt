@@ -1,11 +1,10 @@
 -- The two ends of every call: refused with a number that is not 0, or taken. Assumes nothing.
-use Prim.Native.Nat.{ℕ, zero, suc}
+use Prim.Native.Nat.{ℕ}
 use mathlib.Core.Path.{_≡_, refl, sym, ap, subst, _∙_}
 use mathlib.Core.Logic.{_≢_}
-use mathlib.Core.Bool.{Bool, true, cond}
+use mathlib.Core.Bool.{Bool, true, false, cond, true≢false}
 use mathlib.Core.List.{List, _∷_}
 use native.Mathlib.Decide.{ℕ-discrete}
-use native.Mathlib.Omega.{arith}
 use lib.Dec.{eqb}
 use borrow.Author.Tests.{ne-eqb}
 use Rattle.model.specs.Memory.{Memory}
@@ -58,3 +57,12 @@ unfolding refusedAt
 taken-zero m n out fields done =
     either-end (λ (o : Outcome). isTaken (o .answer) ≡ true → n ≡ 0) n (refusedAt m out fields) done
     (λ nz e. absurd (not-both (eqb n 0) e (ne-eqb n 0 nz))) (λ z e. z)
+
+-- a call that was not taken leaves the memory as it was
+pub not-taken-same : (m : Memory) (n : ℕ) (out fields : List ℕ) (m₁ : Memory) (out₁ fields₁ : List ℕ)
+    → isTaken (unlessRefused n (refusedAt m out fields) (taken m₁ out₁ fields₁) .answer) ≡ false
+    → unlessRefused n (refusedAt m out fields) (taken m₁ out₁ fields₁) .memory ≡ m
+unfolding refusedAt taken
+not-taken-same m n out fields m₁ out₁ fields₁ =
+    either-end (λ (o : Outcome). isTaken (o .answer) ≡ false → o .memory ≡ m) n (refusedAt m out fields) (taken m₁ out₁ fields₁)
+    (λ nz e. refl) (λ z e. absurd (true≢false e))
