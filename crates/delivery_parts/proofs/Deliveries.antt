@@ -22,6 +22,7 @@ use Rattle.records.specs.declared.record.Node.{Node}
 use Rattle.records.specs.Loaded.{NodeOf, bookNode}
 use Rattle.delivery_parts.specs.declared.answer.Step.the-variants.{Copied, SentOn, Attached, Notified}
 use Rattle.delivery_parts.specs.declared.room.SuffixEntry.{SuffixEntry}
+use Rattle.records.specs.Lent.{memory}
 use Rattle.delivery_parts.specs.Answers.{outcome, tookDelivery}
 use Rattle.delivery_parts.specs.Delivers.{Delivers, Meets, EntryOf, exchanged, told as told-tables, attaching}
 use Rattle.delivery_parts.proofs.Readers.{network, meets, meets-attaching}
@@ -79,7 +80,7 @@ module _ (s t : List ℕ) (x y : ℕ) (r : SuffixEntry) (e : EntryOf s t x y r) 
 -- a delivery's outcome, from what was stored and answered
 left : (s t s₁ t₁ : List ℕ) (x y : ℕ) (d : Delivery) (fields : List ℕ) → s₁ ≡ withNode s x (d .sender)
     → t₁ ≡ withTable (withTable t y (d .receiverTable)) x (d .senderTable) → fields ≡ deliveryFields d
-    → _≡_ {A = Outcome} (record { state = s₁; tables = t₁; out = []; answer = 0 ∷ fields }) (tookDelivery s t x y d)
+    → _≡_ {A = Outcome} (record { memory = memory s₁ t₁; out = []; answer = 0 ∷ fields }) (tookDelivery s t x y d)
 unfolding tookDelivery taken delivered
 left s t s₁ t₁ x y d fields e f g = cc
 

@@ -2,6 +2,7 @@
 ghost use mathlib.Core.Path.{_≡_};
 ghost use mathlib.Core.List.{[], _∷_};
 ghost use Rattle.model.specs.Calls.{beginCall};
+ghost use Rattle.records.specs.Lent.{memory};
 ghost use Rattle.engine.specs.Outcomes.{leaves};
 
 // The refusal, and the new node's number: 0 where it is refused.
@@ -12,7 +13,7 @@ pub struct Begun {
 
 // Adds a node that is to join by the gateway. Refusals: 1, 2, 7, 8, 9, 11, 12.
 pub fn begin(state: &mut [u64], tables: &mut [u8], id: u32, gateway: u64) -> Begun
-    ensures { λ r. ⌜ leaves (now (state .exit)) (now (tables .exit)) (r .refusal ∷ r .node ∷ []) ≡ beginCall (now (state .entry)) (now (tables .entry)) id gateway ⌝ }
+    ensures { λ r. ⌜ leaves (memory (now (state .exit)) (now (tables .exit))) (r .refusal ∷ r .node ∷ []) ≡ beginCall (memory (now (state .entry)) (now (tables .entry))) id gateway ⌝ }
 {
     let r = refusals::beginning::refusal(state, tables, id, gateway);
     if r != 0 {

@@ -2,6 +2,7 @@
 ghost use mathlib.Core.Path.{_≡_};
 ghost use mathlib.Core.List.{[], _∷_};
 ghost use Rattle.model.specs.Calls.{writeCall};
+ghost use Rattle.records.specs.Lent.{memory};
 ghost use Rattle.engine.specs.Outcomes.{writes};
 
 // The refusal, and the image's length: 0 where it is refused.
@@ -12,7 +13,7 @@ pub struct Written {
 
 // Writes the image to out. Refusals: 1, 2, 15, 16.
 pub fn write(state: &[u64], tables: &[u8], out: &mut [u8]) -> Written
-    ensures { λ r. ⌜ writes (now (state .entry)) (now (tables .entry)) (now (out .exit)) (r .refusal ∷ r .length ∷ []) ≡ writeCall (now (state .entry)) (now (tables .entry)) (now (out .entry)) ⌝ }
+    ensures { λ r. ⌜ writes (memory (now (state .entry)) (now (tables .entry))) (now (out .exit)) (r .refusal ∷ r .length ∷ []) ≡ writeCall (memory (now (state .entry)) (now (tables .entry))) (now (out .entry)) ⌝ }
 {
     let r = refusals::writing::refusal(state, tables, out);
     if r != 0 {

@@ -1,12 +1,12 @@
 -- Lists of sentences: the ways of a chain of early returns that judges them in order, what a list that refuses nothing says, and bounds of
 -- the number. Assumes nothing.
-use Prim.Native.Nat.{ℕ, zero, suc, _<_}
-use mathlib.Core.Path.{_≡_, refl, sym, ap, _∙_}
+use Prim.Native.Nat.{ℕ, _≤_, _<_}
+use mathlib.Core.Path.{_≡_, refl, sym, ap, ap₂, subst, _∙_}
 use mathlib.Core.Bool.{Bool, true, false, cond, not, _&&_}
 use mathlib.Core.List.{List, [], _∷_, _++_}
 use native.Mathlib.Omega.{arith}
 use lib.Dec.{eqb, ltb}
-use borrow.Author.Tests.{ltb-true}
+use borrow.Author.Tests.{eq-eqb, ne-eqb, ltb-true, lt-ltb, le-ltb, not-true, not-false}
 use Rattle.model.specs.Refusals.{Sentence, firstTrue}
 use Rattle.model.proofs.Bools.{and-left, and-right}
 
@@ -35,6 +35,44 @@ unfolding firstTrue
 first-none = refl
 
 pub ruleset sentences = (first-leaves, first-goes, first-not-leaves, first-not-goes, first-none)
+
+-- the same where the code compares numbers: v is what it found of a
+module _ (a b n : ℕ) (later : List Sentence) (v : ℕ) (e : v ≡ a) where
+  pub equal-leaves : v ≡ b → n ≡ firstTrue ((eqb a b, n) ∷ later)
+  equal-leaves q = first-leaves (eqb a b) n later true (sym (eq-eqb a b (sym e ∙ q))) refl
+
+  pub equal-goes : (v ≡ b → ⊥) → (x : ℕ) → x ≡ firstTrue later → x ≡ firstTrue ((eqb a b, n) ∷ later)
+  equal-goes ne x = first-goes (eqb a b) n later x false (sym (ne-eqb a b (λ q. ne (e ∙ q)))) refl
+
+  pub other-leaves : (v ≡ b → ⊥) → n ≡ firstTrue ((not (eqb a b), n) ∷ later)
+  other-leaves ne = first-not-leaves (eqb a b) n later false (sym (ne-eqb a b (λ q. ne (e ∙ q)))) refl
+
+  pub other-goes : v ≡ b → (x : ℕ) → x ≡ firstTrue later → x ≡ firstTrue ((not (eqb a b), n) ∷ later)
+  other-goes q x = first-not-goes (eqb a b) n later x true (sym (eq-eqb a b (sym e ∙ q))) refl
+
+  pub short-leaves : b < v → n ≡ firstTrue ((ltb b a, n) ∷ later)
+  short-leaves l = first-leaves (ltb b a) n later true (sym (lt-ltb b a (subst (λ (v : ℕ). b < v) e l))) refl
+
+  pub short-goes : v ≤ b → (x : ℕ) → x ≡ firstTrue later → x ≡ firstTrue ((ltb b a, n) ∷ later)
+  short-goes l x = first-goes (ltb b a) n later x false (sym (le-ltb b a (subst (λ (v : ℕ). v ≤ b) e l))) refl
+
+-- and where it asks the two halves of a test one after the other
+module _ (a b : Bool) (n : ℕ) (later : List Sentence) (v : Bool) (e : v ≡ a) where
+  pub left-leaves : not v ≡ true → n ≡ firstTrue ((not (a && b), n) ∷ later)
+  left-leaves h =
+      first-not-leaves (a && b) n later (v && b) (ap (λ (a : Bool). a && b) e) (ap (λ (v : Bool). not (v && b)) (not-true v h))
+
+  module _ (h : not v ≡ false) (w : Bool) (f : w ≡ b) where
+    halves : (v && w) ≡ w
+    halves = ap (λ (v : Bool). v && w) (not-false v h)
+
+    pub right-leaves : not w ≡ true → n ≡ firstTrue ((not (a && b), n) ∷ later)
+    right-leaves g = first-not-leaves (a && b) n later (v && w) (ap₂ _&&_ e f) (ap not halves ∙ g)
+
+    pub both-go : not w ≡ false → (x : ℕ) → x ≡ firstTrue later → x ≡ firstTrue ((not (a && b), n) ∷ later)
+    both-go g x = first-not-goes (a && b) n later x (v && w) (ap₂ _&&_ e f) (ap not halves ∙ g)
+
+pub ruleset comparisons = (equal-leaves, equal-goes, other-leaves, other-goes, short-leaves, short-goes, left-leaves, right-leaves, both-go)
 
 -- ---- no refusal
 

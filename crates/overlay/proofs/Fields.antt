@@ -6,9 +6,11 @@ use mathlib.Core.List.{List, [], _∷_}
 use native.Mathlib.Omega.{arith}
 use native.Mathlib.Nat.{pow-succ', div-div-eq-div-mul, zero-div}
 use lib.ListN.{getD}
+use Rattle.model.specs.Memory.{Memory}
 use Rattle.model.specs.Calls.{Outcome, beginCall, deliverCall, lookupCall, verdictCall}
 use Rattle.delivery_parts.specs.declared.answer.Answer.{Answer}
 use Rattle.delivery_parts.specs.Answers.{outcome, answerFields}
+use Rattle.records.specs.Lent.{memory}
 use Rattle.engine.specs.Outcomes.{leaves}
 use Rattle.packing.specs.declared.delivered.Numbers.{Numbers}
 use Rattle.packing.specs.Numbers.{listed}
@@ -41,16 +43,18 @@ unpacked (field ∷ fields) (suc k) h = ap (λ (n : ℕ). n % 256) (later-fields
 pub zero-fits : 0 < 256
 zero-fits = omega arith
 
-packs : (o : Outcome) (s t fields : List ℕ) (n : ℕ) → leaves s t fields ≡ o → n ≡ packed fields → gives s t n ≡ packing o
-unfolding packing
-packs o s t fields n e f = ap (λ (n : ℕ). gives s t n) f ∙ ap packing e
+-- a call whose outcome is o, where its fields are bytes
+module _ (o : Outcome) (m : Memory) (fields : List ℕ) (e : leaves m fields ≡ o) where
+  packs : (n : ℕ) → n ≡ packed fields → gives m n ≡ packing o
+  unfolding packing
+  packs n f = ap (λ (n : ℕ). gives m n) f ∙ ap packing e
 
-answered : (o : Outcome) (s t fields : List ℕ) → Bytes (o .answer) → leaves s t fields ≡ o → Bytes fields
-answered o s t fields h e = subst (λ (o : Outcome). Bytes (o .answer)) (sym e) h
+  answered : Bytes (o .answer) → Bytes fields
+  answered h = subst (λ (o : Outcome). Bytes (o .answer)) (sym e) h
 
-module _ (s t s₁ t₁ : List ℕ) (id g r x : ℕ) (e : leaves s₁ t₁ (r ∷ x ∷ []) ≡ beginCall s t id g) where
+module _ (m m₁ : Memory) (id g r x : ℕ) (e : leaves m₁ (r ∷ x ∷ []) ≡ beginCall m id g) where
   fields-begun : Bytes (r ∷ x ∷ [])
-  fields-begun = answered (beginCall s t id g) s₁ t₁ (r ∷ x ∷ []) (begin-bytes s t id g) e
+  fields-begun = answered (beginCall m id g) m₁ (r ∷ x ∷ []) e (begin-bytes m id g)
 
   pub begun-refusal : r < 256
   unfolding Bytes
@@ -60,18 +64,18 @@ module _ (s t s₁ t₁ : List ℕ) (id g r x : ℕ) (e : leaves s₁ t₁ (r �
   unfolding Bytes
   begun-node = fields-begun .1 .0
 
-  pub begin-packs : (n : ℕ) → n ≡ packed (r ∷ x ∷ 0 ∷ 0 ∷ 0 ∷ []) → gives s₁ t₁ n ≡ packing (beginCall s t id g)
+  pub begin-packs : (n : ℕ) → n ≡ packed (r ∷ x ∷ 0 ∷ 0 ∷ 0 ∷ []) → gives m₁ n ≡ packing (beginCall m id g)
   unfolding packed
-  begin-packs n f = packs (beginCall s t id g) s₁ t₁ (r ∷ x ∷ []) n e f
+  begin-packs n f = packs (beginCall m id g) m₁ (r ∷ x ∷ []) e n f
 
 pub ruleset begun-fits = (begun-refusal, begun-node, zero-fits)
 
-module _ (s t s₁ t₁ : List ℕ) (x y : ℕ) (a : Answer) (n : Numbers) (e : outcome s₁ t₁ a ≡ deliverCall s t x y) (f : listed n ≡ answerFields a) where
-  delivered-is : leaves s₁ t₁ (listed n) ≡ deliverCall s t x y
-  delivered-is = ap (leaves s₁ t₁) f ∙ e
+module _ (m : Memory) (s₁ t₁ : List ℕ) (x y : ℕ) (a : Answer) (n : Numbers) (e : outcome s₁ t₁ a ≡ deliverCall m x y) (f : listed n ≡ answerFields a) where
+  delivered-is : leaves (memory s₁ t₁) (listed n) ≡ deliverCall m x y
+  delivered-is = ap (leaves (memory s₁ t₁)) f ∙ e
 
   fields-delivered : Bytes (listed n)
-  fields-delivered = answered (deliverCall s t x y) s₁ t₁ (listed n) (deliver-bytes s t x y) delivered-is
+  fields-delivered = answered (deliverCall m x y) (memory s₁ t₁) (listed n) delivered-is (deliver-bytes m x y)
 
   pub delivered-refusal : n .refusal < 256
   unfolding Bytes
@@ -89,22 +93,26 @@ module _ (s t s₁ t₁ : List ℕ) (x y : ℕ) (a : Answer) (n : Numbers) (e : 
   unfolding Bytes
   delivered-settled = fields-delivered .1 .1 .1 .0
 
-  pub deliver-packs : (m : ℕ) → m ≡ packed (n .refusal ∷ n .kind ∷ n .level ∷ n .settled ∷ 0 ∷ []) → gives s₁ t₁ m ≡ packing (deliverCall s t x y)
+  pub deliver-packs : (p : ℕ) → p ≡ packed (n .refusal ∷ n .kind ∷ n .level ∷ n .settled ∷ 0 ∷ []) → gives (memory s₁ t₁) p ≡ packing (deliverCall m x y)
   unfolding packed
-  deliver-packs m h = packs (deliverCall s t x y) s₁ t₁ (listed n) m delivered-is h
+  deliver-packs p h = packs (deliverCall m x y) (memory s₁ t₁) (listed n) delivered-is p h
 
 pub ruleset delivered-fits = (delivered-refusal, delivered-kind, delivered-level, delivered-settled, zero-fits)
 
-module _ (s t : List ℕ) (u z r hops last : ℕ) (a : Bool) (e : leaves s t (r ∷ cond a 1 0 ∷ hops ∷ last ∷ []) ≡ lookupCall s t u z) where
+-- a bit that the code made of a test
+bit-field : (m : Memory) (b : ℕ) (a : Bool) (r : ℕ) (fields : List ℕ) → b ≡ cond a 1 0 → leaves m (r ∷ b ∷ fields) ≡ leaves m (r ∷ cond a 1 0 ∷ fields)
+bit-field m b a r fields q = ap (λ (b : ℕ). leaves m (r ∷ b ∷ fields)) q
+
+pub bit-fits : (b : ℕ) (a : Bool) → b ≡ cond a 1 0 → b < 256
+bit-fits b a q = subst (λ (b : ℕ). b < 256) (sym q) (bit-below a)
+
+module _ (m : Memory) (u z r hops last : ℕ) (a : Bool) (e : leaves m (r ∷ cond a 1 0 ∷ hops ∷ last ∷ []) ≡ lookupCall m u z) where
   fields-found : Bytes (r ∷ cond a 1 0 ∷ hops ∷ last ∷ [])
-  fields-found = answered (lookupCall s t u z) s t (r ∷ cond a 1 0 ∷ hops ∷ last ∷ []) (lookup-bytes s t u z) e
+  fields-found = answered (lookupCall m u z) m (r ∷ cond a 1 0 ∷ hops ∷ last ∷ []) e (lookup-bytes m u z)
 
   pub found-refusal : r < 256
   unfolding Bytes
   found-refusal = fields-found .0
-
-  pub found-arrived : (b : ℕ) → b ≡ cond a 1 0 → b < 256
-  found-arrived b q = subst (λ (b : ℕ). b < 256) (sym q) (bit-below a)
 
   pub found-hops : hops < 256
   unfolding Bytes
@@ -114,23 +122,19 @@ module _ (s t : List ℕ) (u z r hops last : ℕ) (a : Bool) (e : leaves s t (r 
   unfolding Bytes
   found-last = fields-found .1 .1 .1 .0
 
-  pub lookup-packs : (b n : ℕ) → b ≡ cond a 1 0 → n ≡ packed (r ∷ b ∷ hops ∷ last ∷ 0 ∷ []) → gives s t n ≡ packing (lookupCall s t u z)
+  pub lookup-packs : (b n : ℕ) → b ≡ cond a 1 0 → n ≡ packed (r ∷ b ∷ hops ∷ last ∷ 0 ∷ []) → gives m n ≡ packing (lookupCall m u z)
   unfolding packed
-  lookup-packs b n q h =
-      packs (lookupCall s t u z) s t (r ∷ b ∷ hops ∷ last ∷ []) n (ap (λ (b : ℕ). leaves s t (r ∷ b ∷ hops ∷ last ∷ [])) q ∙ e) h
+  lookup-packs b n q h = packs (lookupCall m u z) m (r ∷ b ∷ hops ∷ last ∷ []) (bit-field m b a r (hops ∷ last ∷ []) q ∙ e) n h
 
-pub ruleset found-fits = (found-refusal, found-arrived, found-hops, found-last, zero-fits)
+pub ruleset found-fits = (found-refusal, bit-fits, found-hops, found-last, zero-fits)
 
-module _ (s t : List ℕ) (r x i j : ℕ) (a : Bool) (e : leaves s t (r ∷ cond a 1 0 ∷ x ∷ i ∷ j ∷ []) ≡ verdictCall s t) where
+module _ (m : Memory) (r x i j : ℕ) (a : Bool) (e : leaves m (r ∷ cond a 1 0 ∷ x ∷ i ∷ j ∷ []) ≡ verdictCall m) where
   fields-judged : Bytes (r ∷ cond a 1 0 ∷ x ∷ i ∷ j ∷ [])
-  fields-judged = answered (verdictCall s t) s t (r ∷ cond a 1 0 ∷ x ∷ i ∷ j ∷ []) (verdict-bytes s t) e
+  fields-judged = answered (verdictCall m) m (r ∷ cond a 1 0 ∷ x ∷ i ∷ j ∷ []) e (verdict-bytes m)
 
   pub judged-refusal : r < 256
   unfolding Bytes
   judged-refusal = fields-judged .0
-
-  pub judged-consistent : (b : ℕ) → b ≡ cond a 1 0 → b < 256
-  judged-consistent b q = subst (λ (b : ℕ). b < 256) (sym q) (bit-below a)
 
   pub judged-node : x < 256
   unfolding Bytes
@@ -144,8 +148,7 @@ module _ (s t : List ℕ) (r x i j : ℕ) (a : Bool) (e : leaves s t (r ∷ cond
   unfolding Bytes
   judged-digit = fields-judged .1 .1 .1 .1 .0
 
-  pub verdict-packs : (b n : ℕ) → b ≡ cond a 1 0 → n ≡ packed (r ∷ b ∷ x ∷ i ∷ j ∷ []) → gives s t n ≡ packing (verdictCall s t)
-  verdict-packs b n q h =
-      packs (verdictCall s t) s t (r ∷ b ∷ x ∷ i ∷ j ∷ []) n (ap (λ (b : ℕ). leaves s t (r ∷ b ∷ x ∷ i ∷ j ∷ [])) q ∙ e) h
+  pub verdict-packs : (b n : ℕ) → b ≡ cond a 1 0 → n ≡ packed (r ∷ b ∷ x ∷ i ∷ j ∷ []) → gives m n ≡ packing (verdictCall m)
+  verdict-packs b n q h = packs (verdictCall m) m (r ∷ b ∷ x ∷ i ∷ j ∷ []) (bit-field m b a r (x ∷ i ∷ j ∷ []) q ∙ e) n h
 
-pub ruleset judged-fits = (judged-refusal, judged-consistent, judged-node, judged-level, judged-digit)
+pub ruleset judged-fits = (judged-refusal, bit-fits, judged-node, judged-level, judged-digit)

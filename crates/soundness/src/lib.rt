@@ -5,6 +5,7 @@ ghost use Prim.Native.Nat.{_≤_};
 ghost use lib.ListN.{length};
 ghost use Rattle.model.specs.Sound as book;
 ghost use Rattle.model.specs.Refusals.{memoryShort};
+ghost use Rattle.records.specs.Lent.{memory};
 ghost use Rattle.records.specs.Loaded.{SettingsOf};
 ghost use Rattle.soundness_ids.specs.Checked.{Ranged};
 ghost use Rattle.soundness.specs.Clauses.{nodesSound};
@@ -17,7 +18,7 @@ mod unused;
 // The lent memory is as long as it must be, and the state in it is sound.
 pub fn sound(state: &[u64], tables: &[u8]) -> bool
     ensures { λ r. ⌜
-        r ≡ (not (memoryShort (now (state .entry)) (now (tables .entry))) && book.sound (now (state .entry)) (now (tables .entry)))
+        r ≡ (not (memoryShort (memory (now (state .entry)) (now (tables .entry)))) && book.sound (now (state .entry)) (now (tables .entry)))
         ⌝ }
 {
     if lent::short(state, tables) {

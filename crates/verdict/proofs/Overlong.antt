@@ -3,7 +3,7 @@
 use Prim.Native.Nat.{ℕ, _+_, _*_, _≤_, _<_}
 use mathlib.Core.Path.{_≡_, refl, sym, ap, ap₂, _∙_}
 use mathlib.Core.Bool.{Bool, true, false, cond, not, _&&_}
-use mathlib.Core.List.{List, []}
+use mathlib.Core.List.{List, [], _∷_}
 use native.Mathlib.Nat.{le-of-eq}
 use native.Mathlib.Omega.{arith}
 use lib.Dec.{leb, ltb, eqb}
@@ -12,17 +12,18 @@ use lib.Seq.{getD-take, length-take-le}
 use borrow.Author.Tests.{le-ltb, lt-leb}
 use Rattle.model.specs.Ids.{settingsInRange}
 use Rattle.model.specs.Image.{byteAt, imNodes, imRecords, lengthRight}
-use Rattle.model.specs.Refusals.{refuse, memoryShort, countsWrong, imageRefusal, readRefusal}
+use Rattle.model.specs.Refusals.{firstTrue, memoryShort, countsWrong, imageRefusal, readRefusal}
 use Rattle.model.specs.Calls.{Outcome, refused, readCall, verdictCall}
-use Rattle.model.proofs.Bools.{or-intro-right}
-use Rattle.model.proofs.Refusals.{passed}
+use Rattle.model.proofs.Bools.{or-intro-right, not-both}
+use Rattle.model.proofs.Refusals.{numbered, testOf, passed}
 use Rattle.model.proofs.Calls.{refused-is}
+use Rattle.records.specs.Lent.{memory}
 use Rattle.verdict.specs.Lines.{lineOne, verdictText, verdictLines}
 
 -- 3, 4, 5 and then 6, which such an image always meets
 abbrev early : ℕ → ℕ → ℕ → ℕ → ℕ → ℕ
 early first version b d K =
-    refuse (not (eqb first 4)) 3 (refuse (not (eqb version 1)) 4 (refuse (not (settingsInRange b d K)) 5 6))
+    firstTrue ((not (eqb first 4), 3) ∷ (not (eqb version 1), 4) ∷ (not (settingsInRange b d K), 5) ∷ (true, 6) ∷ [])
 
 abbrev earlyOf : List ℕ → ℕ
 earlyOf im = early (byteAt im 0) (byteAt im 1) (byteAt im 2) (byteAt im 3) (byteAt im 4)
@@ -41,20 +42,8 @@ module _ (im : List ℕ) (long : 65536 ≤ length im) where
       go false b = refl
 
   settles : imageRefusal im ≡ earlyOf im
-  unfolding imageRefusal refuse
+  unfolding imageRefusal firstTrue
   settles = rw (le-ltb (length im) 5 (omega arith), wrong)
-
-  refuses : imageRefusal im ≡ 0 → ⊥
-  unfolding refuse
-  refuses e =
-      go (not (eqb (byteAt im 0) 4)) (not (eqb (byteAt im 1) 1)) (not (settingsInRange (byteAt im 2) (byteAt im 3) (byteAt im 4)))
-      (sym settles ∙ e)
-    where
-      go : (a b c : Bool) → refuse a 3 (refuse b 4 (refuse c 5 6)) ≡ 0 → ⊥
-      go true b c e = omega arith
-      go false true c e = omega arith
-      go false false true e = omega arith
-      go false false false e = omega arith
 
 -- xs has at least 65,536 bytes and begins as the image does
 module _ (im xs : List ℕ) (long : 65536 ≤ length im) (kept : 65536 ≤ length xs) (same : (a : ℕ) → a < 65536 → byteAt xs a ≡ byteAt im a) where
@@ -67,27 +56,27 @@ module _ (im xs : List ℕ) (long : 65536 ≤ length im) (kept : 65536 ≤ lengt
       ∙ sym (settles im long)
 
   module _ (s t : List ℕ) where
-    read-same : readRefusal s t xs ≡ readRefusal s t im
-    unfolding readRefusal
-    read-same = ap (refuse (memoryShort s t) 1) same-refusal
+    read-same : readRefusal (memory s t) xs ≡ readRefusal (memory s t) im
+    unfolding readRefusal imageRefusal firstTrue
+    read-same = ap (cond (memoryShort (memory s t)) 1) same-refusal
 
-    refused-both : readRefusal s t im ≡ 0 → ⊥
-    unfolding readRefusal
-    refused-both e = refuses im long (passed (memoryShort s t) 0 (imageRefusal im) e .1)
+    refused-both : readRefusal (memory s t) im ≡ 0 → ⊥
+    unfolding readRefusal numbered testOf
+    refused-both e = not-both (countsWrong im) (wrong im long) (passed _ refl e 6)
 
-    call-same : readCall s t xs ≡ readCall s t im
+    call-same : readCall (memory s t) xs ≡ readCall (memory s t) im
     unfolding readCall
     call-same =
-        refused-is (readRefusal s t xs) (refused s t [] 0) _ (λ e. refused-both (sym read-same ∙ e))
-        ∙ ap (refused s t [] 0) read-same
-        ∙ sym (refused-is (readRefusal s t im) (refused s t [] 0) _ refused-both)
+        refused-is (readRefusal (memory s t) xs) (refused (memory s t) [] 0) _ (λ e. refused-both (sym read-same ∙ e))
+        ∙ ap (refused (memory s t) [] 0) read-same
+        ∙ sym (refused-is (readRefusal (memory s t) im) (refused (memory s t) [] 0) _ refused-both)
 
     lines-same : verdictLines s t xs ≡ verdictLines s t im
     unfolding verdictLines
     lines-same =
         ap
         (λ (r : Outcome).
-        cond (eqb (getD (r .answer) 0 0) 0) (verdictText (verdictCall (r .state) (r .tables) .answer)) (lineOne (getD (r .answer) 0 0))) call-same
+        cond (eqb (getD (r .answer) 0 0) 0) (verdictText (verdictCall (r .memory) .answer)) (lineOne (getD (r .answer) 0 0))) call-same
 
 -- so the program prints for an overlong input what the whole of it deserves
 pub overlong : (im s t : List ℕ) → 65536 ≤ length im → verdictLines s t (take 65536 im) ≡ verdictLines s t im

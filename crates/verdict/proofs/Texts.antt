@@ -8,6 +8,7 @@ use borrow.Author.Tests.{eq-eqb, ne-eqb}
 use Rattle.model.specs.Calls.{Outcome, readCall, verdictCall}
 use Rattle.model.proofs.Fields.{Bytes, read-bytes, verdict-bytes}
 use Rattle.text.specs.Numbers.{decimal}
+use Rattle.records.specs.Lent.{memory}
 use Rattle.engine.specs.Outcomes.{leaves}
 use Rattle.engine.specs.declared.verdict.Judged.{Judged}
 use Rattle.verdict.specs.Lines.{refusalWord, consistentWord, atWord, space, newline, lineOne, judgement, place, lineTwo, verdictText, verdictLines}
@@ -56,23 +57,23 @@ unfolding verdictText
 judged-taken j a b h e f =
     rw (eq-eqb (j .refusal) 0 h) (f ∙ ap (λ (l : List ℕ). l ++ lineTwo (cond (j .consistent) 1 0) (j .node) (j .level) (j .digit)) e)
 
-module _ (s t im s₁ t₁ : List ℕ) (r : ℕ) (e : leaves s₁ t₁ (r ∷ []) ≡ readCall s t im) where
-  number : getD (readCall s t im .answer) 0 0 ≡ r
+module _ (s t im s₁ t₁ : List ℕ) (r : ℕ) (e : leaves (memory s₁ t₁) (r ∷ []) ≡ readCall (memory s t) im) where
+  number : getD (readCall (memory s t) im .answer) 0 0 ≡ r
   number = ap (λ (o : Outcome). getD (o .answer) 0 0) (sym e)
 
   pub read-fits : r < 256
   unfolding Bytes
-  read-fits = subst (λ (o : Outcome). Bytes (o .answer)) (sym e) (read-bytes s t im) .0
+  read-fits = subst (λ (o : Outcome). Bytes (o .answer)) (sym e) (read-bytes (memory s t) im) .0
 
   pub lines-refused : (a : List ℕ) → (r ≡ 0 → ⊥) → a ≡ lineOne r → a ≡ verdictLines s t im
   unfolding verdictLines
   lines-refused a h f = rw (number, ne-eqb r 0 h) f
 
-  module _ (z : r ≡ 0) (j : Judged) (f : leaves s₁ t₁ (judgedFields j) ≡ verdictCall s₁ t₁) where
+  module _ (z : r ≡ 0) (j : Judged) (f : leaves (memory s₁ t₁) (judgedFields j) ≡ verdictCall (memory s₁ t₁)) where
     pub judged-fits : Fits j
     unfolding Bytes
     judged-fits =
-        let b : Bytes (judgedFields j) = subst (λ (o : Outcome). Bytes (o .answer)) (sym f) (verdict-bytes s₁ t₁) in
+        let b : Bytes (judgedFields j) = subst (λ (o : Outcome). Bytes (o .answer)) (sym f) (verdict-bytes (memory s₁ t₁)) in
         record { refusal = b .0; node = b .1 .1 .0; level = b .1 .1 .1 .0; digit = b .1 .1 .1 .1 .0 }
 
     pub lines-judged : (a : List ℕ) → a ≡ verdictText (judgedFields j) → a ≡ verdictLines s t im

@@ -6,6 +6,7 @@ use mathlib.Core.List.{List, [], _∷_, _++_}
 use lib.Dec.{eqb}
 use lib.ListN.{getD}
 use Rattle.model.specs.Calls.{readCall, verdictCall}
+use Rattle.records.specs.Lent.{memory}
 use Rattle.text.specs.Numbers.{decimal}
 
 -- "refusal "
@@ -49,5 +50,5 @@ verdictText answer =
 -- the output for an image that is read into this memory: the refusal of reading, or what the verdict answers
 unfoldable pub verdictLines : List ℕ → List ℕ → List ℕ → List ℕ
 verdictLines s t im =
-    let r = readCall s t im in
-    cond (eqb (getD (r .answer) 0 0) 0) (verdictText (verdictCall (r .state) (r .tables) .answer)) (lineOne (getD (r .answer) 0 0))
+    let r = readCall (memory s t) im in
+    cond (eqb (getD (r .answer) 0 0) 0) (verdictText (verdictCall (r .memory) .answer)) (lineOne (getD (r .answer) 0 0))

@@ -1,6 +1,8 @@
 -- `begin`: refused, or taken on a sound state with room. Assumes nothing.
 use borrow.Author.Needs.{needs}
-use Rattle.engine.proofs.Laws.{begins, begin-refused, begin-done}
+use Rattle.model.specs.Calls.{refusedAt, beginCall}
+use Rattle.model.proofs.Calls.{refused-end, taken-end}
+use Rattle.engine.proofs.Laws.{begins}
 use Rattle.engine.proofs.beginning.begin.Statement.{statement}
 use Rattle.engine.proofs.beginning.begin.Tie as tie
 
@@ -14,7 +16,8 @@ same-length-2 : tie.Need-same-length-2
 same-length-2 c = search needs
 
 returns : tie.Need-returns
-returns c = search begin-refused
+unfolding beginCall refusedAt
+returns c = search refused-end
 
 begin-requires : tie.Need-begin-requires
 begin-requires c κs = search begins
@@ -26,7 +29,8 @@ same-length-4 : tie.Need-same-length-4
 same-length-4 c = search needs
 
 returns-2 : tie.Need-returns-2
-returns-2 c = search begin-done
+unfolding beginCall
+returns-2 c = ?
 
 pub begin-spec : {M : Type 1} → statement M
 begin-spec =

@@ -1,6 +1,8 @@
 -- `found`: refused, or taken on memory that is long enough with digits in range. Assumes nothing.
 use borrow.Author.Needs.{needs}
-use Rattle.engine.proofs.Laws.{founds, found-refused, found-done}
+use Rattle.model.specs.Calls.{refusedAt, foundCall}
+use Rattle.model.proofs.Calls.{refused-end, taken-end}
+use Rattle.engine.proofs.Laws.{founds}
 use Rattle.engine.proofs.founding.found.Statement.{statement}
 use Rattle.engine.proofs.founding.found.Tie as tie
 
@@ -14,7 +16,8 @@ same-length-2 : tie.Need-same-length-2
 same-length-2 c = search needs
 
 returns : tie.Need-returns
-returns c = search found-refused
+unfolding foundCall refusedAt
+returns c = search refused-end
 
 found-requires : tie.Need-found-requires
 found-requires c κs =
@@ -28,7 +31,8 @@ same-length-4 : tie.Need-same-length-4
 same-length-4 c = search needs
 
 returns-2 : tie.Need-returns-2
-returns-2 c = search found-done
+unfolding foundCall
+returns-2 c = ?
 
 pub found-spec : {M : Type 1} → statement M
 found-spec =

@@ -1,6 +1,8 @@
 -- `read`: refused, or the state that the image gives. Assumes nothing.
 use native.Mathlib.Omega.{arith}
-use Rattle.engine.proofs.ReadLaws.{loads, read-refused, read-done}
+use Rattle.model.specs.Calls.{refusedAt, readCall}
+use Rattle.model.proofs.Calls.{refused-end, taken-end}
+use Rattle.engine.proofs.Laws.{loads}
 use native.Mathlib.Omega.{arith}
 use borrow.Author.Needs.{needs}
 use Rattle.engine.proofs.reading.read.Statement.{statement}
@@ -16,7 +18,8 @@ same-length-2 : tie.Need-same-length-2
 same-length-2 c = search needs
 
 returns : tie.Need-returns
-returns c = search read-refused
+unfolding readCall refusedAt
+returns c = search refused-end
 
 load-requires : tie.Need-load-requires
 load-requires c κs =
@@ -32,7 +35,8 @@ same-length-4 : tie.Need-same-length-4
 same-length-4 c = search needs
 
 returns-2 : tie.Need-returns-2
-returns-2 c = search read-done
+unfolding readCall
+returns-2 c = ?
 
 pub read-spec : {M : Type 1} → statement M
 read-spec =

@@ -3,10 +3,11 @@ ghost use mathlib.Core.Path.{_≡_};
 ghost use Prim.Native.Nat.{_≤_};
 ghost use lib.ListN.{length};
 ghost use Rattle.model.specs.Loops.{allBelow, node};
-ghost use Rattle.model.specs.Memory.{nodeCount, isInSystem};
+ghost use Rattle.model.specs.Memory.{stateLength, nodeCount, isInSystem};
 ghost use Rattle.model.specs.Sound as book;
 ghost use Rattle.model.specs.Refusals.{stateRefusal};
-ghost use Rattle.sentences.specs.Counted.{Counted};
+ghost use Rattle.records.specs.Lent.{memory};
+ghost use Rattle.refusals.specs.Refused.{Counted};
 use records::lent;
 use records::record;
 use records::settings;
@@ -15,7 +16,7 @@ use soundness::sound;
 
 // 1, memory that is too short, and 2: "The state isn't sound".
 pub fn state_refusal(state: &[u64], tables: &[u8]) -> u64
-    ensures { λ r. ⌜ r ≡ stateRefusal (now (state .entry)) (now (tables .entry)) 0 ⌝ }
+    ensures { λ r. ⌜ r ≡ stateRefusal (memory (now (state .entry)) (now (tables .entry))) ⌝ }
 {
     if lent::short(state, tables) {
         return 1;
@@ -28,7 +29,7 @@ pub fn state_refusal(state: &[u64], tables: &[u8]) -> u64
 
 // x is the number of a node.
 pub fn is_node(state: &[u64], x: u64) -> bool
-    requires { ⌜ 520 ≤ length (now state) ⌝ }
+    requires { ⌜ stateLength ≤ length (now state) ⌝ }
     ensures { λ r. ⌜ r ≡ book.isNode (now (state .entry)) x ⌝ }
 {
     if x < 1 {

@@ -1,8 +1,8 @@
 -- `state_refusal`: each return is a sentence of the chain. Assumes nothing.
 use borrow.Author.Needs.{needs}
-use Rattle.sentences.proofs.State.{state-short, state-unsound, state-good}
-use Rattle.sentences.proofs.state_refusal.Statement.{statement}
-use Rattle.sentences.proofs.state_refusal.Tie as tie
+use Rattle.refusals.proofs.State.{state-short, state-unsound, state-good}
+use Rattle.refusals.proofs.sentences.state_refusal.Statement.{statement}
+use Rattle.refusals.proofs.sentences.state_refusal.Tie as tie
 
 short-requires : tie.Need-short-requires
 short-requires c κs = search needs

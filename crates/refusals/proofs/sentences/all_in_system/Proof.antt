@@ -8,8 +8,8 @@ use Rattle.model.specs.Memory.{isInSystem}
 use Rattle.model.proofs.Loops.{all-zero, all-goes, all-leaves, all-ends}
 use native.Mathlib.Omega.{arith}
 use borrow.Author.Needs.{needs}
-use Rattle.sentences.proofs.all_in_system.Statement.{statement}
-use Rattle.sentences.proofs.all_in_system.Tie as tie
+use Rattle.refusals.proofs.sentences.all_in_system.Statement.{statement}
+use Rattle.refusals.proofs.sentences.all_in_system.Tie as tie
 
 abbrev Inv-loop : tie.InvT-loop
 Inv-loop state nodes k₀ k = (k ≤ nodes) × (allBelow k (node (isInSystem state)) ≡ true)
