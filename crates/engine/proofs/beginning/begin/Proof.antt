@@ -1,8 +1,7 @@
 -- `begin`: refused, or taken on a sound state with room. Assumes nothing.
 use borrow.Author.Needs.{needs}
-use Rattle.model.specs.Calls.{refusedAt, beginCall}
-use Rattle.model.proofs.Calls.{refused-end, taken-end}
-use Rattle.engine.proofs.Laws.{begins}
+use Rattle.model.specs.Calls.{unlessRefused, beginCall}
+use Rattle.engine.proofs.Laws.{begins, refused-end, done-end, left-is, one-field}
 use Rattle.engine.proofs.beginning.begin.Statement.{statement}
 use Rattle.engine.proofs.beginning.begin.Tie as tie
 
@@ -16,11 +15,11 @@ same-length-2 : tie.Need-same-length-2
 same-length-2 c = search needs
 
 returns : tie.Need-returns
-unfolding beginCall refusedAt
+unfolding beginCall unlessRefused
 returns c = search refused-end
 
 begin-requires : tie.Need-begin-requires
-begin-requires c κs = search begins
+begin-requires c κs = begins _ _ _ _ (c .before .before .before .refusal .ensures) (c .before .before .if1 .left)
 
 same-length-3 : tie.Need-same-length-3
 same-length-3 c = search needs
@@ -30,7 +29,7 @@ same-length-4 c = search needs
 
 returns-2 : tie.Need-returns-2
 unfolding beginCall
-returns-2 c = ?
+returns-2 c = search (done-end, left-is, one-field)
 
 pub begin-spec : {M : Type 1} → statement M
 begin-spec =

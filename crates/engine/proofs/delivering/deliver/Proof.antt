@@ -1,8 +1,8 @@
 -- `deliver`: refused, or taken on a sound state with the request outstanding. Assumes nothing.
 use borrow.Author.Needs.{needs}
-use Rattle.model.specs.Calls.{refusedAt, deliverCall}
-use Rattle.model.proofs.Calls.{refused-end, taken-end}
-use Rattle.engine.proofs.Laws.{delivers}
+use Rattle.model.specs.Calls.{unlessRefused, deliverCall}
+use Rattle.delivery_parts.specs.Answers.{tookDelivery}
+use Rattle.engine.proofs.Laws.{delivers, refused-end, done-end}
 use Rattle.engine.proofs.delivering.deliver.Statement.{statement}
 use Rattle.engine.proofs.delivering.deliver.Tie as tie
 
@@ -16,7 +16,7 @@ same-length-2 : tie.Need-same-length-2
 same-length-2 c = search needs
 
 returns : tie.Need-returns
-unfolding deliverCall refusedAt
+unfolding deliverCall unlessRefused
 returns c = search refused-end
 
 deliver-requires : tie.Need-deliver-requires
@@ -29,8 +29,8 @@ same-length-4 : tie.Need-same-length-4
 same-length-4 c = search needs
 
 returns-2 : tie.Need-returns-2
-unfolding deliverCall
-returns-2 c = ?
+unfolding deliverCall tookDelivery
+returns-2 c = search done-end
 
 pub deliver-spec : {M : Type 1} → statement M
 deliver-spec =

@@ -1,8 +1,7 @@
 -- `read`: refused, or the state that the image gives. Assumes nothing.
 use native.Mathlib.Omega.{arith}
-use Rattle.model.specs.Calls.{refusedAt, readCall}
-use Rattle.model.proofs.Calls.{refused-end, taken-end}
-use Rattle.engine.proofs.Laws.{loads}
+use Rattle.model.specs.Calls.{unlessRefused, readCall}
+use Rattle.engine.proofs.Laws.{loads, refused-end, done-end, left-is}
 use native.Mathlib.Omega.{arith}
 use borrow.Author.Needs.{needs}
 use Rattle.engine.proofs.reading.read.Statement.{statement}
@@ -18,13 +17,13 @@ same-length-2 : tie.Need-same-length-2
 same-length-2 c = search needs
 
 returns : tie.Need-returns
-unfolding readCall refusedAt
+unfolding readCall unlessRefused
 returns c = search refused-end
 
 load-requires : tie.Need-load-requires
 load-requires c κs =
     let a = c .before .before .before .before .before .before .before .before .before .args in
-    loads (a .state .now) (a .tables .now) (a .image .now) (c .before .before .before .refusal .result)
+    loads _ _ (a .image .now)
     (λ a. omega (arith, c .before .before .before .before .before .before .shared-slice-known .given a)) (c .before .before .before .refusal .ensures)
     (c .before .before .if1 .left)
 
@@ -36,7 +35,7 @@ same-length-4 c = search needs
 
 returns-2 : tie.Need-returns-2
 unfolding readCall
-returns-2 c = ?
+returns-2 c = search (done-end, left-is)
 
 pub read-spec : {M : Type 1} → statement M
 read-spec =

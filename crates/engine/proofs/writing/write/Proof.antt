@@ -1,8 +1,7 @@
 -- `writing::write`: refused, or the image is written. Assumes nothing.
 use borrow.Author.Needs.{needs}
-use Rattle.model.specs.Calls.{refusedAt, writeCall}
-use Rattle.model.proofs.Calls.{refused-end, taken-end}
-use Rattle.engine.proofs.Laws.{write-sound, write-fits}
+use Rattle.model.specs.Calls.{unlessRefused, writeCall}
+use Rattle.engine.proofs.Laws.{write-sound, write-fits, refused-end, done-end, left-is, one-field}
 use Rattle.engine.proofs.writing.write.Statement.{statement}
 use Rattle.engine.proofs.writing.write.Tie as tie
 
@@ -13,18 +12,21 @@ same-length : tie.Need-same-length
 same-length c = search needs
 
 returns : tie.Need-returns
-unfolding writeCall refusedAt
+unfolding writeCall unlessRefused
 returns c = search refused-end
 
 write-requires : tie.Need-write-requires
-write-requires c κs = (search write-sound, search write-fits)
+write-requires c κs =
+    let e = c .before .before .refusal .ensures in
+    let z = c .before .if1 .left in
+    (write-sound _ _ _ e z, write-fits _ _ _ e z)
 
 same-length-2 : tie.Need-same-length-2
 same-length-2 c = search needs
 
 returns-2 : tie.Need-returns-2
 unfolding writeCall
-returns-2 c = ?
+returns-2 c = search (done-end, left-is, one-field)
 
 pub write-spec : {M : Type 1} → statement M
 write-spec =
