@@ -1,4 +1,4 @@
--- What the work of each call asks, where nothing refused it: r is the number that the code found. Assumes nothing.
+-- What the work of each call asks, where nothing refused it, and the fields that it answers. Assumes nothing.
 use Prim.Native.Nat.{ℕ, _≤_, _<_}
 use mathlib.Core.Path.{_≡_, refl, sym, ap, _∙_}
 use mathlib.Core.List.{List, [], _∷_}
@@ -7,10 +7,9 @@ use borrow.Author.Tests.{not-false}
 use Rattle.model.specs.Memory.{Memory, stateLength, tablesLength}
 use Rattle.model.specs.Lookup.{Lookup}
 use Rattle.model.specs.Consistency.{Verdict}
-use Rattle.model.specs.Calls.{Outcome, refusedAt, unlessRefused, taken, lookupFields, verdictFields}
+use Rattle.model.specs.Calls.{lookupFields, verdictFields}
 use Rattle.model.specs.Image.{byteAt, imageOf}
 use Rattle.model.specs.Refusals.{foundRefusal, readRefusal, beginRefusal, deliverRefusal, lookupRefusal, verdictRefusal, writeRefusal}
-use Rattle.model.proofs.Calls.{taken-is, refused-is}
 use Rattle.model.proofs.Refusals.{numbered, testOf, passed}
 use Rattle.model.proofs.Sound.{Sound}
 use Rattle.model.proofs.Status.{IsNode}
@@ -20,20 +19,7 @@ use Rattle.judging.proofs.Sentences.{counted-of}
 use Rattle.join.specs.Begins.{Begins}
 use Rattle.loading.specs.Loads.{Loads}
 
-pub refused-end : (m : Memory) (out fields : List ℕ) (n r : ℕ) (done : Outcome) → r ≡ n → (r ≡ 0 → ⊥)
-    → record { memory = m; out = out; answer = r ∷ fields } ≡ unlessRefused n (refusedAt m out fields) done
-unfolding refusedAt
-refused-end m out fields n r done e nz =
-    ap (refusedAt m out fields) e ∙ sym (refused-is n (refusedAt m out fields) done (λ z. nz (e ∙ z)))
-
-pub done-end : (n r : ℕ) (declined : ℕ → Outcome) (done o : Outcome) → r ≡ n → r ≡ 0 → o ≡ done → o ≡ unlessRefused n declined done
-done-end n r declined done o e z w = w ∙ sym (taken-is n declined done (sym e ∙ z))
-
-pub left-is : (m₁ m : Memory) (out₁ out fields₁ fields : List ℕ) → m₁ ≡ m → out₁ ≡ out → fields₁ ≡ fields
-    → record { memory = m₁; out = out₁; answer = 0 ∷ fields₁ } ≡ taken m out fields
-unfolding taken
-left-is m₁ m out₁ out fields₁ fields a b c = cc
-
+-- the fields of an answer, by what they are of
 pub one-field : (x y : ℕ) → x ≡ y → _≡_ {A = List ℕ} (x ∷ []) (y ∷ [])
 one-field x y e = ap (λ (x : ℕ). x ∷ []) e
 
@@ -43,6 +29,7 @@ lookup-fields a b e = ap lookupFields e
 pub verdict-fields : (a b : Verdict) → a ≡ b → verdictFields a ≡ verdictFields b
 verdict-fields a b e = ap verdictFields e
 
+-- r is the refusal that the code found
 module _ (m : Memory) (r : ℕ) where
   abbrev s : List ℕ
   s = m .state

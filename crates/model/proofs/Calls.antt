@@ -22,15 +22,21 @@ refused-is n declined done e = ap (λ (b : Bool). cond b done (declined n)) (ne-
 
 -- ---- as the code meets them: r is the number that it found
 
-pub refused-end : (n r : ℕ) (declined : ℕ → Outcome) (done : Outcome) → r ≡ n → (r ≡ 0 → ⊥) → declined r ≡ unlessRefused n declined done
-refused-end n r declined done e nz = ap declined e ∙ sym (refused-is n declined done (λ z. nz (e ∙ z)))
+-- the refused end
+pub refused-end : (m : Memory) (out fields : List ℕ) (n r : ℕ) (done : Outcome) → r ≡ n → (r ≡ 0 → ⊥)
+    → record { memory = m; out = out; answer = r ∷ fields } ≡ unlessRefused n (refusedAt m out fields) done
+unfolding refusedAt
+refused-end m out fields n r done e nz =
+    ap (refusedAt m out fields) e ∙ sym (refused-is n (refusedAt m out fields) done (λ z. nz (e ∙ z)))
 
-pub taken-end : (n r : ℕ) (declined : ℕ → Outcome) (m₁ m : Memory) (out₁ out fields₁ fields : List ℕ) → r ≡ n → r ≡ 0 → m₁ ≡ m → out₁ ≡ out
-    → fields₁ ≡ fields → record { memory = m₁; out = out₁; answer = 0 ∷ fields₁ } ≡ unlessRefused n declined (taken m out fields)
+-- the taken end, and what the work left
+pub taken-end : (n r : ℕ) (declined : ℕ → Outcome) (done o : Outcome) → r ≡ n → r ≡ 0 → o ≡ done → o ≡ unlessRefused n declined done
+taken-end n r declined done o e z w = w ∙ sym (taken-is n declined done (sym e ∙ z))
+
+pub work-left : (m₁ m : Memory) (out₁ out fields₁ fields : List ℕ) → m₁ ≡ m → out₁ ≡ out → fields₁ ≡ fields
+    → record { memory = m₁; out = out₁; answer = 0 ∷ fields₁ } ≡ taken m out fields
 unfolding taken
-taken-end n r declined m₁ m out₁ out fields₁ fields e z a b c =
-    let w : taken m₁ out₁ fields₁ ≡ taken m out fields = cc in
-    w ∙ sym (taken-is n declined (taken m out fields) (sym e ∙ z))
+work-left m₁ m out₁ out fields₁ fields a b c = cc
 
 -- ---- by either end
 

@@ -41,7 +41,7 @@ unfolding Bytes refusedAt
 bytes-unless m out cs k done g f =
     either-end (λ (o : Outcome). Bytes (o .answer)) (firstTrue cs) (refused m out k) done (λ nz. (first-below cs g, zeros k)) f
 
-pub bit-below : (b : Bool) → cond b 1 0 < 256
+bit-below : (b : Bool) → cond b 1 0 < 256
 bit-below true = omega arith
 bit-below false = omega arith
 

@@ -12,7 +12,7 @@ use lib.Seq.{getD-append-add}
 use borrow.Author.Tests.{lt-ltb, le-ltb}
 use Rattle.model.specs.Memory.{Memory}
 use Rattle.model.specs.Image.{imageOf}
-use Rattle.model.specs.Refusals.{firstTrue, memoryShort, unsound, someNotInSystem, stateRefusal, writeRefusal}
+use Rattle.model.specs.Refusals.{firstTrue, memoryShort, unsound, someNotInSystem, writeSentences, stateRefusal, writeRefusal}
 use Rattle.model.specs.Calls.{refusedAt, refused, taken, unlessRefused, writeCall}
 use Rattle.model.specs.Run.{Call, step, write}
 use Rattle.model.proofs.Bools.{le-or-lt}
@@ -124,22 +124,22 @@ room-same room n h =
     ⊎-elim (λ l. le-ltb (min room 65536) n (omega (arith, l)) ∙ sym (le-ltb room n l))
     (λ l. lt-ltb (min room 65536) n (omega (arith, l)) ∙ sym (lt-ltb room n l)) (le-or-lt n room)
 
--- the same tests one by one, where 1 and 2 find nothing
+-- 15 and 16
+abbrev late : Memory → List ℕ → ℕ
+late m out = firstTrue (writeSentences m out)
+
+late-same : (m : Memory) (out : List ℕ) → Sound (m .state) (m .tables) → late m out ≡ late m (zeros (length out))
+unfolding firstTrue zeros
+late-same m out S =
+    ap (λ (b : Bool). cond (someNotInSystem (m .state)) 15 (cond b 16 0))
+    (sym (room-same (length out) (length (imageOf (m .state) (m .tables))) (image-short (m .state) (m .tables) S))
+    ∙ ap (λ (k : ℕ). ltb k (length (imageOf (m .state) (m .tables)))) (sym (length-replicate {A = ℕ} (min (length out) 65536) 0)))
+
 refusal-same : (m : Memory) (out : List ℕ) → writeRefusal m out ≡ writeRefusal m (zeros (length out))
-unfolding writeRefusal stateRefusal firstTrue zeros
-refusal-same m out = go (memoryShort m) (unsound m) (λ e. room (state-taken m e))
+unfolding writeRefusal stateRefusal firstTrue
+refusal-same m out = go (memoryShort m) (unsound m) (λ e. late-same m out (state-taken m e))
   where
-    late : List ℕ → ℕ
-    late out = cond (someNotInSystem (m .state)) 15 (cond (ltb (length out) (length (imageOf (m .state) (m .tables)))) 16 0)
-
-    room : Sound (m .state) (m .tables) → late out ≡ late (zeros (length out))
-    unfolding late zeros
-    room S =
-        ap (λ (b : Bool). cond (someNotInSystem (m .state)) 15 (cond b 16 0))
-        (sym (room-same (length out) (length (imageOf (m .state) (m .tables))) (image-short (m .state) (m .tables) S))
-        ∙ ap (λ (n : ℕ). ltb n (length (imageOf (m .state) (m .tables)))) (sym (length-replicate {A = ℕ} (min (length out) 65536) 0)))
-
-    go : (p q : Bool) → (cond p 1 (cond q 2 0) ≡ 0 → late out ≡ late (zeros (length out))) → cond p 1 (cond q 2 (late out)) ≡ cond p 1 (cond q 2 (late (zeros (length out))))
+    go : (p q : Bool) → (cond p 1 (cond q 2 0) ≡ 0 → late m out ≡ late m (zeros (length out))) → cond p 1 (cond q 2 (late m out)) ≡ cond p 1 (cond q 2 (late m (zeros (length out))))
     go true q k = refl
     go false true k = refl
     go false false k = k refl

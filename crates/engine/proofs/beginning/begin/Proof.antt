@@ -1,7 +1,8 @@
 -- `begin`: refused, or taken on a sound state with room. Assumes nothing.
 use borrow.Author.Needs.{needs}
 use Rattle.model.specs.Calls.{unlessRefused, beginCall}
-use Rattle.engine.proofs.Laws.{begins, refused-end, done-end, left-is, one-field}
+use Rattle.model.proofs.Calls.{refused-end, taken-end, work-left}
+use Rattle.engine.proofs.Laws.{begins, one-field}
 use Rattle.engine.proofs.beginning.begin.Statement.{statement}
 use Rattle.engine.proofs.beginning.begin.Tie as tie
 
@@ -29,7 +30,7 @@ same-length-4 c = search needs
 
 returns-2 : tie.Need-returns-2
 unfolding beginCall
-returns-2 c = search (done-end, left-is, one-field)
+returns-2 c = search (taken-end, work-left, one-field)
 
 pub begin-spec : {M : Type 1} → statement M
 begin-spec =

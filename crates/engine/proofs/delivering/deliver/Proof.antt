@@ -2,7 +2,8 @@
 use borrow.Author.Needs.{needs}
 use Rattle.model.specs.Calls.{unlessRefused, deliverCall}
 use Rattle.delivery_parts.specs.Answers.{tookDelivery}
-use Rattle.engine.proofs.Laws.{delivers, refused-end, done-end}
+use Rattle.model.proofs.Calls.{refused-end, taken-end}
+use Rattle.engine.proofs.Laws.{delivers}
 use Rattle.engine.proofs.delivering.deliver.Statement.{statement}
 use Rattle.engine.proofs.delivering.deliver.Tie as tie
 
@@ -30,7 +31,7 @@ same-length-4 c = search needs
 
 returns-2 : tie.Need-returns-2
 unfolding deliverCall tookDelivery
-returns-2 c = search done-end
+returns-2 c = search taken-end
 
 pub deliver-spec : {M : Type 1} → statement M
 deliver-spec =

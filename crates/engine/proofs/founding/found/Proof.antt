@@ -1,7 +1,8 @@
 -- `found`: refused, or taken on memory that is long enough with digits in range. Assumes nothing.
 use borrow.Author.Needs.{needs}
 use Rattle.model.specs.Calls.{unlessRefused, foundCall}
-use Rattle.engine.proofs.Laws.{founds, refused-end, done-end, left-is}
+use Rattle.model.proofs.Calls.{refused-end, taken-end, work-left}
+use Rattle.engine.proofs.Laws.{founds}
 use Rattle.engine.proofs.founding.found.Statement.{statement}
 use Rattle.engine.proofs.founding.found.Tie as tie
 
@@ -31,7 +32,7 @@ same-length-4 c = search needs
 
 returns-2 : tie.Need-returns-2
 unfolding foundCall
-returns-2 c = search (done-end, left-is)
+returns-2 c = search (taken-end, work-left)
 
 pub found-spec : {M : Type 1} → statement M
 found-spec =

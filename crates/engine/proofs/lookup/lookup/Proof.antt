@@ -3,7 +3,8 @@ use mathlib.Core.Path.{refl}
 use borrow.Author.Needs.{needs}
 use Rattle.routing.specs.Answer.{bookLookup}
 use Rattle.model.specs.Calls.{unlessRefused, lookupCall}
-use Rattle.engine.proofs.Laws.{looks, refused-end, done-end, left-is, lookup-fields}
+use Rattle.model.proofs.Calls.{refused-end, taken-end, work-left}
+use Rattle.engine.proofs.Laws.{looks, lookup-fields}
 use Rattle.engine.proofs.lookup.lookup.Statement.{statement}
 use Rattle.engine.proofs.lookup.lookup.Tie as tie
 
@@ -19,7 +20,7 @@ lookup-requires c κs = looks _ _ _ _ (c .before .refusal .ensures) (c .if1 .lef
 
 returns-2 : tie.Need-returns-2
 unfolding lookupCall
-returns-2 c = done-end _ _ _ _ _ (c .before .before .refusal .ensures) (c .before .if1 .left) (left-is _ _ _ _ _ _ refl refl (lookup-fields (bookLookup (c .lookup .result)) _ (c .lookup .ensures)))
+returns-2 c = taken-end _ _ _ _ _ (c .before .before .refusal .ensures) (c .before .if1 .left) (work-left _ _ _ _ _ _ refl refl (lookup-fields (bookLookup (c .lookup .result)) _ (c .lookup .ensures)))
 
 pub lookup-spec : {M : Type 1} → statement M
 lookup-spec = tie.close (tie.spec refusal-requires returns lookup-requires returns-2)

@@ -1,7 +1,8 @@
 -- `read`: refused, or the state that the image gives. Assumes nothing.
 use native.Mathlib.Omega.{arith}
 use Rattle.model.specs.Calls.{unlessRefused, readCall}
-use Rattle.engine.proofs.Laws.{loads, refused-end, done-end, left-is}
+use Rattle.model.proofs.Calls.{refused-end, taken-end, work-left}
+use Rattle.engine.proofs.Laws.{loads}
 use native.Mathlib.Omega.{arith}
 use borrow.Author.Needs.{needs}
 use Rattle.engine.proofs.reading.read.Statement.{statement}
@@ -35,7 +36,7 @@ same-length-4 c = search needs
 
 returns-2 : tie.Need-returns-2
 unfolding readCall
-returns-2 c = search (done-end, left-is)
+returns-2 c = search (taken-end, work-left)
 
 pub read-spec : {M : Type 1} → statement M
 read-spec =

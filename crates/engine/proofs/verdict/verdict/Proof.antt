@@ -1,7 +1,8 @@
 -- `verdict`: refused, or the verdict of the sound state. Assumes nothing.
 use Rattle.consistency.specs.Answer.{bookVerdict}
 use Rattle.model.specs.Calls.{unlessRefused, verdictCall}
-use Rattle.engine.proofs.Laws.{judges, refused-end, done-end, left-is, verdict-fields}
+use Rattle.model.proofs.Calls.{refused-end, taken-end, work-left}
+use Rattle.engine.proofs.Laws.{judges, verdict-fields}
 use mathlib.Core.Path.{refl}
 use borrow.Author.Needs.{needs}
 use Rattle.engine.proofs.verdict.verdict.Statement.{statement}
@@ -19,7 +20,7 @@ verdict-requires c κs = judges _ _ (c .before .refusal .ensures) (c .if1 .left)
 
 returns-2 : tie.Need-returns-2
 unfolding verdictCall
-returns-2 c = done-end _ _ _ _ _ (c .before .before .refusal .ensures) (c .before .if1 .left) (left-is _ _ _ _ _ _ refl refl (verdict-fields (bookVerdict (c .verdict .result)) _ (c .verdict .ensures)))
+returns-2 c = taken-end _ _ _ _ _ (c .before .before .refusal .ensures) (c .before .if1 .left) (work-left _ _ _ _ _ _ refl refl (verdict-fields (bookVerdict (c .verdict .result)) _ (c .verdict .ensures)))
 
 pub verdict-spec : {M : Type 1} → statement M
 verdict-spec = tie.close (tie.spec refusal-requires returns verdict-requires returns-2)

@@ -1,7 +1,8 @@
 -- `writing::write`: refused, or the image is written. Assumes nothing.
 use borrow.Author.Needs.{needs}
 use Rattle.model.specs.Calls.{unlessRefused, writeCall}
-use Rattle.engine.proofs.Laws.{write-sound, write-fits, refused-end, done-end, left-is, one-field}
+use Rattle.model.proofs.Calls.{refused-end, taken-end, work-left}
+use Rattle.engine.proofs.Laws.{write-sound, write-fits, one-field}
 use Rattle.engine.proofs.writing.write.Statement.{statement}
 use Rattle.engine.proofs.writing.write.Tie as tie
 
@@ -26,7 +27,7 @@ same-length-2 c = search needs
 
 returns-2 : tie.Need-returns-2
 unfolding writeCall
-returns-2 c = search (done-end, left-is, one-field)
+returns-2 c = search (taken-end, work-left, one-field)
 
 pub write-spec : {M : Type 1} → statement M
 write-spec =
