@@ -14,7 +14,7 @@ use Rattle.model.specs.Consistency as book2
 use Rattle.model.specs.Consistency.{consistent, firstShort}
 use Rattle.model.specs.Refusals.{foundRefusal, readRefusal, lookupRefusal, verdictRefusal}
 use Rattle.model.specs.Calls.{Outcome, refused, taken, lookupFields, verdictFields, foundCall, readCall, lookupCall, verdictCall}
-use Rattle.model.specs.Run.{Call, found, read, begin, deliver, lookup, verdict, write, step, after, play, history, isTaken, starts, goesOn, isRun, isSentBy, sentFrom, sent}
+use Rattle.model.specs.Run.{Call, found, read, begin, deliver, lookup, verdict, write, step, after, play, history, isTaken, starts, goesOn, isRun, sentFrom, sent}
 use Rattle.model.proofs.Bools.{and-left, and-right, and-intro, not-both, true-or-false}
 use Rattle.model.proofs.Status.{IsNode, is-node, is-node-of}
 use Rattle.model.proofs.Sound.{Sound}
@@ -28,48 +28,45 @@ use Rattle.model.proofs.Growing.{Onward}
 use Rattle.model.proofs.Taken.{found-taken, read-taken, lookup-free}
 use Rattle.promise.specs.Promise.{lookupIn, alreadyMatched, Passes, NodeOf, Demand3}
 use Rattle.model.proofs.Calls.{taken-is, taken-zero}
-use Rattle.promise.proofs.Steps.{quiet}
+use Rattle.promise.proofs.Steps.{Silent, quiet}
 use Rattle.promise.proofs.Run.{Holds, run-goes}
 
 -- ---- the start
 
+abbrev SoundAfter : Outcome → Type 0
+SoundAfter o = Sound (o .memory .state) (o .memory .tables)
+
 -- a taken founding or reading leaves a sound state, and nobody has sent anything
+pub record Started (m : Memory) (c : Call) : Type 0 where
+  pub sound : Sound (after m c .state) (after m c .tables)
+  pub silent : Silent m c
+
 module _ (m : Memory) where
-  start-sound : (c : Call) → starts m c ≡ true → Sound (after m c .state) (after m c .tables)
+  started : (c : Call) → starts m c ≡ true → Started m c
   unfolding starts step after foundCall readCall taken
-  start-sound (found b d K id) e =
+  started (found b d K id) e =
       let z = taken-zero m (foundRefusal m b d K id) [] _ _ e in
       let k = found-taken m b d K id z in
-      subst (λ (o : Outcome). Sound (o .memory .state) (o .memory .tables)) (sym (taken-is (foundRefusal m b d K id) (refused m [] 0) _ z))
-      (founded-ok (m .state) (m .tables) b d K id (k .long) (k .range) (k .valid))
-  start-sound (read im) e =
+      let S = founded-ok (m .state) (m .tables) b d K id (k .long) (k .range) (k .valid) in
+      record { sound = subst SoundAfter (sym (taken-is (foundRefusal m b d K id) (refused m [] 0) _ z)) S; silent = quiet m (found b d K id) (λ x a. refl) }
+  started (read im) e =
       let z = taken-zero m (readRefusal m im) [] _ _ e in
       let k = read-taken m im z in
-      subst (λ (o : Outcome). Sound (o .memory .state) (o .memory .tables)) (sym (taken-is (readRefusal m im) (refused m [] 0) _ z))
-      (loaded-ok (m .state) (m .tables) im (k .0) (k .1))
-  start-sound (begin id g) e = absurd (false≢true e)
-  start-sound (deliver x y) e = absurd (false≢true e)
-  start-sound (lookup u z) e = absurd (false≢true e)
-  start-sound verdict e = absurd (false≢true e)
-  start-sound (write out) e = absurd (false≢true e)
-
-  start-silent : (c : Call) → starts m c ≡ true → (x : ℕ) (answer : List ℕ) → isSentBy x c answer ≡ false
-  unfolding starts
-  start-silent (found b d K id) e x answer = refl
-  start-silent (read im) e x answer = refl
-  start-silent (begin id g) e x answer = absurd (false≢true e)
-  start-silent (deliver y z) e x answer = absurd (false≢true e)
-  start-silent (lookup u z) e x answer = absurd (false≢true e)
-  start-silent verdict e x answer = absurd (false≢true e)
-  start-silent (write out) e x answer = absurd (false≢true e)
+      let S = loaded-ok (m .state) (m .tables) im (k .0) (k .1) in
+      record { sound = subst SoundAfter (sym (taken-is (readRefusal m im) (refused m [] 0) _ z)) S; silent = quiet m (read im) (λ x a. refl) }
+  started (begin id g) e = absurd (false≢true e)
+  started (deliver x y) e = absurd (false≢true e)
+  started (lookup u z) e = absurd (false≢true e)
+  started verdict e = absurd (false≢true e)
+  started (write out) e = absurd (false≢true e)
 
   -- so the count of the run is that of the calls after its start
   sent-after : (c : Call) → starts m c ≡ true → (x : ℕ) (cs : List Call) → sent x (history m (c ∷ cs)) ≡ sent x (history (after m c) cs)
   unfolding history sentFrom
-  sent-after c e x cs = ap (λ (n : ℕ). sentFrom n x (history (after m c) cs)) (quiet m c (start-silent c e) x 0)
+  sent-after c e x cs = ap (λ (n : ℕ). sentFrom n x (history (after m c) cs)) (started c e .silent x 0)
 
   start-holds : (c : Call) → starts m c ≡ true → Holds (λ (x : ℕ). 0) (after m c)
-  start-holds c e = record { sound = start-sound c e; nodes = λ x n. omega arith; others = λ x f. refl }
+  start-holds c e = record { sound = started c e .sound; nodes = λ x n. omega arith; others = λ x f. refl }
 
 -- ---- a verdict that says yes
 

@@ -139,7 +139,8 @@ refusal-same : (m : Memory) (out : List ℕ) → writeRefusal m out ≡ writeRef
 unfolding writeRefusal stateRefusal firstTrue
 refusal-same m out = go (memoryShort m) (unsound m) (λ e. late-same m out (state-taken m e))
   where
-    go : (p q : Bool) → (cond p 1 (cond q 2 0) ≡ 0 → late m out ≡ late m (zeros (length out))) → cond p 1 (cond q 2 (late m out)) ≡ cond p 1 (cond q 2 (late m (zeros (length out))))
+    go : (p q : Bool) → (_≡_ {A = ℕ} (cond p 1 (cond q 2 0)) 0 → late m out ≡ late m (zeros (length out)))
+        → _≡_ {A = ℕ} (cond p 1 (cond q 2 (late m out))) (cond p 1 (cond q 2 (late m (zeros (length out)))))
     go true q k = refl
     go false true k = refl
     go false false k = k refl
