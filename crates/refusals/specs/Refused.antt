@@ -1,6 +1,5 @@
 -- What the refusals ask.
 use Prim.Native.Nat.{ℕ, _≤_}
-use mathlib.Core.Path.{_≡_}
 use mathlib.Core.List.{List}
 use lib.ListN.{length}
 use Rattle.model.specs.Memory.{stateLength, nodeCount}
@@ -9,9 +8,3 @@ use Rattle.model.specs.Memory.{stateLength, nodeCount}
 pub record Counted (s : List ℕ) : Type 0 where
   pub long : stateLength ≤ length s
   pub few : nodeCount s ≤ 64
-
--- the records of this many nodes stand in the state
-pub record Placed (s : List ℕ) (n : ℕ) : Type 0 where
-  pub long : stateLength ≤ length s
-  pub few : n ≤ 64
-  pub count : n ≡ nodeCount s

@@ -1,9 +1,10 @@
 // The refusals of beginning a join.
 ghost use mathlib.Core.Path.{_≡_};
+ghost use Rattle.model.specs.Memory.{nodeCount};
 ghost use Rattle.model.specs.Refusals.{firstTrue, idTaken, beginSentences, beginRefusal};
 ghost use Rattle.records.specs.Lent.{memory};
 ghost use Rattle.model.proofs.Sound.{Sound};
-ghost use Rattle.refusals.specs.Refused.{Placed};
+ghost use Rattle.refusals.specs.Refused.{Counted};
 use crate::sentences;
 use ident::valid_id;
 use records::record;
@@ -12,7 +13,8 @@ use records::status::Status;
 
 // 8: "An id is a member's already".
 fn id_taken(state: &[u64], nodes: usize, id: u32) -> bool
-    requires { ⌜ Placed (now state) nodes ⌝ }
+    requires { ⌜ Counted (now state) ⌝ }
+    requires { ⌜ nodes ≡ nodeCount (now state) ⌝ }
     ensures { λ r. ⌜ r ≡ idTaken (now (state .entry)) id ⌝ }
 {
     let mut k = 0;
