@@ -8,7 +8,7 @@ use lib.Dec.{eqb}
 use lib.ListN.{length}
 use borrow.Author.Tests.{eq-eqb, ne-eqb}
 use Rattle.model.specs.Memory as memory
-use Rattle.model.specs.Memory.{idOf, statusOf, levelOf, pendingOf, notifiedOf, withNode, inSystem, copying, waiting, notifying, isInSystem, addNode, removeNode, tableStart, tableOf, withTable}
+use Rattle.model.specs.Memory.{idOf, statusOf, levelOf, pendingOf, notifiedOf, withNode, inSystem, copying, waiting, notifying, isInSystem, addNode, removeNode, tableOf, withTable}
 use Rattle.model.specs.Sound.{suffixOf}
 use Rattle.model.specs.Learning.{learn, learnTable}
 use Rattle.model.specs.Join.{Delivery, joiningNode, inSystemNode, notifyingNode, settle, roomAtSuffix, firstAtSuffix, attachLevel, gather, delivered, delivery}
@@ -17,7 +17,7 @@ use Rattle.model.specs.Calls.{Outcome, taken, deliveryFields}
 use Rattle.model.proofs.Sound.{Sound}
 use Rattle.model.proofs.Sender.{Sending, copies, waits, notifies, sending, receiver}
 use Rattle.model.proofs.Delivered.{CanDeliver}
-use Rattle.model.proofs.Memory.{node-stored}
+use Rattle.model.proofs.Memory.{node-stored, stored-twice, table-back}
 use Rattle.records.specs.declared.record.Node.{Node}
 use Rattle.records.specs.Loaded.{NodeOf, bookNode}
 use Rattle.delivery_parts.specs.declared.answer.Step.the-variants.{Copied, SentOn, Attached, Notified}
@@ -26,7 +26,7 @@ use Rattle.delivery_parts.specs.Answers.{outcome, tookDelivery}
 use Rattle.delivery_parts.specs.Delivers.{Delivers, Meets, EntryOf, exchanged, told as told-tables, attaching}
 use Rattle.delivery_parts.proofs.Readers.{network, meets, meets-attaching}
 use Rattle.delivery_parts.proofs.Learned.{exchanged-own, exchanged-theirs, told-theirs}
-use Rattle.delivery_parts.proofs.Stores.{stored-twice, table-back, gather-same}
+use Rattle.delivery_parts.proofs.Stores.{gather-same}
 
 -- ---- the records of x
 
@@ -91,14 +91,9 @@ module _ (s t : List ℕ) (x y : ℕ) (d : Delivers s t x y) where
   fits : 8 * x + 6 ≤ length s
   fits = omega (arith, d .sound .long .state, d .sound .few, d .sender .high)
 
-  fits-table : tableStart y + 512 ≤ length t
-  fits-table =
-      let l : 1 ≤ y = d .receiver .low in
-      omega (arith, d .receiver .high, d .sound .few, d .sound .long .tables)
-
   -- y's table stays
   kept : (t₁ T : List ℕ) → t₁ ≡ withTable t x T → t₁ ≡ withTable (withTable t y (tableOf t y)) x T
-  kept t₁ T e = e ∙ ap (λ (t : List ℕ). withTable t x T) (sym (table-back t y fits-table))
+  kept t₁ T e = e ∙ ap (λ (t : List ℕ). withTable t x T) (sym (table-back t y))
 
   pub copied-is : (s₁ t₁ : List ℕ) (r : Node) → bookNode r ≡ deliverCopying s x y (tableOf t x) (tableOf t y) .sender
       → t₁ ≡ withTable t x (learnTable s x (tableOf t y) (tableOf t x)) → s₁ ≡ withNode s x (bookNode r)

@@ -119,9 +119,6 @@ module _ (s t : List ℕ) (x y : ℕ) (m : Meets s t x y) where
       let b : tableOf (withTable t y (Ty′ s t x y m)) x ≡ tableOf t x = own-same s t x y m (Ty′ s t x y m) (taught-nodes s t x y m) in cc
 
   module _ (T : List ℕ) (o : NodesIn s T) where
-    t₀ : List ℕ
-    t₀ = withTable (withTable t y (Ty′ s t x y m)) x T
-
     m₁ : Meets s (withTable t y (Ty′ s t x y m)) x y
     m₁ = meets-theirs s t x y m (Ty′ s t x y m) (taught-nodes s t x y m)
 

@@ -5,7 +5,7 @@ use mathlib.Core.List.{List}
 use lib.ListN.{length}
 use Rattle.model.specs.Image.{byteAt, imBase, imDigits, imDepth, imNodes, imRecords}
 use Rattle.model.specs.Image.{recNode, recLevel, recDigit, recNeighbor}
-use Rattle.model.proofs.Entries.{entryKey}
+use Rattle.model.proofs.RecordRules.{entryKey}
 use Rattle.image_fields.specs.declared.header.Header.{Header}
 use Rattle.image_fields.specs.declared.record.Record.{Record}
 

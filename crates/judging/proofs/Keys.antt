@@ -4,7 +4,7 @@ use mathlib.Core.Path.{_≡_}
 use mathlib.Core.List.{List}
 use lib.Dec.{leb}
 use Rattle.model.specs.Image.{byteAt, sameEntry, risesFrom}
-use Rattle.model.proofs.Entries.{key-eq, key-le}
+use Rattle.model.proofs.RecordRules.{key-eq, key-le}
 use Rattle.judging.specs.Cursors.{recKey, ofEntry}
 
 module _ (im : List ℕ) (bytes : (a : ℕ) → byteAt im a < 256) where

@@ -13,7 +13,7 @@ use Rattle.image_fields.specs.declared.record.Record.{Record}
 use Rattle.judging.specs.declared.cursor.Cursor.{Cursor}
 use Rattle.judging.specs.declared.cursor.Finding.{Finding}
 use Rattle.judging.specs.declared.cursor.Finding.the-variants.{Good, Disordered, Forbidden, OwnerNotFirst}
-use Rattle.model.proofs.Entries.{entryKey}
+use Rattle.model.proofs.RecordRules.{entryKey}
 use Rattle.image_fields.specs.Parts.{keyOf}
 
 -- the entry of record r

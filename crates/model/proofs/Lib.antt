@@ -30,7 +30,7 @@ pub mod Lookup
 pub mod Requests
 pub mod Growing
 pub mod Unchanged
-pub mod Entries
+pub mod RecordRules
 pub mod Picked
 pub mod Loading
 pub mod Counting

@@ -12,7 +12,7 @@ use borrow.Author.Fill.{fill-more}
 use lib.Dec.{lit<}
 use lib.Seq.{sets, sets-eq, getD-set-same, getD-set-other, ext-getD}
 use Rattle.model.specs.Memory.{Node, idOf, statusOf, levelOf, targetOf, pendingOf, notifiedOf, withNode, tableStart, tableOf, withTable, zeroed}
-use Rattle.model.proofs.Splice.{splice, splice-length, splice-before, splice-at, splice-after, part-length, part-at, part-same}
+use Rattle.model.proofs.Splice.{splice, splice-length, splice-before, splice-at, splice-after, splice-twice, splice-back, part-length, part-at, part-same}
 
 -- ---- a node's record
 
@@ -158,3 +158,18 @@ zeroed-goes i d x y e l q = q ∙ ap (λ (x : List ℕ). set x i 0) e ∙ fill-m
 
 pub zeroed-ends : (n i : ℕ) (d x : List ℕ) → x ≡ zeroed i d → i ≤ n → n ≤ i → x ≡ zeroed n d
 zeroed-ends n i d x e l g = subst (λ (m : ℕ). x ≡ zeroed m d) (le-antisymm l g) e
+
+-- ---- stores one upon the other
+
+-- the second record is what stays
+pub stored-twice : (s : List ℕ) (x : ℕ) (a b : Node) → 8 * x + 6 ≤ length s → withNode (withNode s x a) x b ≡ withNode s x b
+stored-twice s x a b fits =
+    spliced (withNode s x a) x b (omega (arith, node-length s x a fits))
+    ∙ ap (splice (8 * x) 6 (words b)) (spliced s x a fits)
+    ∙ splice-twice (8 * x) 6 (words a) s refl fits (words b)
+    ∙ sym (spliced s x b fits)
+
+-- a table put back as it was changes nothing
+pub table-back : (t : List ℕ) (x : ℕ) → withTable t x (tableOf t x) ≡ t
+unfolding withTable tableOf
+table-back t x = splice-back (tableStart x) 512 t

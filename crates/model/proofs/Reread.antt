@@ -19,7 +19,7 @@ use Rattle.model.proofs.Bools.{and-left, and-right, and-intro, or-right
 use Rattle.model.proofs.Loops.{each-leads, count-same, join-same}
 use Rattle.model.proofs.Memory.{zeroed-length, zeroed-within, table-at, table-set}
 use Rattle.model.proofs.Tables.{size-is}
-use Rattle.model.proofs.Entries.{entryKey, key-le, SameEntry, entry-same, in-order, is-allowed}
+use Rattle.model.proofs.RecordRules.{entryKey, key-le, SameEntry, of-same-entry, in-order, is-allowed}
 use Rattle.model.proofs.Loading.{Readable}
 use Rattle.model.proofs.Counting.{count-more, join-skip}
 use Rattle.model.proofs.Records.{placeRecord, filled-of, record-some, record-none}
@@ -104,7 +104,7 @@ module _ (im : List ℕ) (R : Readable im) where
   earlier-more : (q : ℕ) → SameEntry im (suc q) q → earlier im (suc q) ≡ earlier im q + 1
   unfolding sameEntry
   earlier-more q S =
-      count-more q (sameEntry im (suc q)) (entry-same im (suc q) q S)
+      count-more q (sameEntry im (suc q)) (of-same-entry im (suc q) q S)
       ∙ ap (λ (n : ℕ). n + 1)
       (count-same q (sameEntry im (suc q)) (sameEntry im q)
       (λ p l.

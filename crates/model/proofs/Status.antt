@@ -9,10 +9,8 @@ use borrow.Author.Tests.{eqb-true, eqb-false, eq-eqb, ne-eqb, leb-true, le-leb, 
 use Rattle.model.specs.Loops.{allBelow, node}
 use Rattle.model.specs.Memory.{digits, nodeCount, statusOf, levelOf, targetOf, pendingOf, notifiedOf, inSystem, copying, waiting, notifying, hasNode, isAttached, isInSystem}
 use Rattle.model.specs.Sound.{isNode, suffixOf, inSystemSound, joiningSound, copyingSound, waitingSound, pendingSound, notifiedSound, notifyingSound, statusSound}
-use Rattle.model.proofs.Bools.{and-left, and-right, and-intro, or-cases, or-right, or-intro-left, or-intro-right}
+use Rattle.model.proofs.Bools.{and-intro, or-cases, or-right, or-intro-left, or-intro-right, parts}
 use Rattle.model.proofs.Nodes.{nodes-at, nodes-of}
-
-ruleset parts = (and-left, and-right)
 
 -- whether x is attached, by the number of its status
 pub attached-by : (s : List ℕ) (x n : ℕ) → statusOf s x ≡ n → isAttached s x ≡ (eqb n inSystem || eqb n notifying)

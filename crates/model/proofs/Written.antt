@@ -22,10 +22,10 @@ use Rattle.model.proofs.Ids.{InRange, valid-digit}
 use Rattle.model.proofs.Memory.{table-at}
 use Rattle.model.proofs.Status.{IsNode}
 use Rattle.model.proofs.Sound.{SlotOk, Sound, table-fits}
-use Rattle.model.proofs.Entries.{entryKey, key-le, SameEntry, same-entry, entry-same}
+use Rattle.model.proofs.RecordRules.{entryKey, key-le, SameEntry, same-entry, of-same-entry}
 use Rattle.model.proofs.Loading.{Readable}
 use Rattle.model.proofs.Counting.{Ranked, count-finds, count-mono, count-rises, count-most}
-use Rattle.model.proofs.Records.{filledAt, filled-nonzero, filled-of}
+use Rattle.model.proofs.Records.{filledAt, place-at, filled-nonzero, filled-of}
 use Rattle.model.proofs.Sections.{Pictures}
 
 -- ---- a filled place of a sound state
@@ -34,9 +34,8 @@ use Rattle.model.proofs.Sections.{Pictures}
 pub slot-place : (t : List ℕ) (p : ℕ) → 512 * (p / 512) + 512 ≤ length t → (k : ℕ) → k < 4
     → slotAt (tableOf t (p / 512 + 1)) (p % 512 / 64) (p % 64 / 4) k ≡ getD t (4 * (p / 4) + k) 0
 slot-place t p fits k h =
-    let l : tableStart (p / 512 + 1) + 512 ≤ length t = omega arith in
-    let w : tableStart (p / 512 + 1) + slotPlace (p % 512 / 64) (p % 64 / 4) k ≡ 4 * (p / 4) + k = omega arith in
-    table-at t (p / 512 + 1) l (slotPlace (p % 512 / 64) (p % 64 / 4) k) (omega arith) ∙ ap (λ (p : ℕ). getD t p 0) w
+    let w : 512 * (p / 512) + slotPlace (p % 512 / 64) (p % 64 / 4) k ≡ 4 * (p / 4) + k = omega arith in
+    place-at t (p / 512) fits (slotPlace (p % 512 / 64) (p % 64 / 4) k) (omega arith) ∙ ap (λ (p : ℕ). getD t p 0) w
 
 -- p is in the table of node p / 512 + 1, at level p % 512 / 64, digit p % 64 / 4 and slot p % 4
 pub record SlotIn (s t : List ℕ) (p : ℕ) : Type 0 where
@@ -61,13 +60,11 @@ module _ (s t : List ℕ) (S : Sound s t) where
       x : IsNode s (p / 512 + 1)
       x = record { low = omega arith; high = omega arith }
 
-      in-table : (q : ℕ) → q < 512 → getD (tableOf t (p / 512 + 1)) q 0 ≡ getD t (512 * (p / 512) + q) 0
-      in-table q h =
-          let w : tableStart (p / 512 + 1) + q ≡ 512 * (p / 512) + q = omega arith in
-          table-at t (p / 512 + 1) (table-fits s t S (p / 512 + 1) x) q h ∙ ap (λ (p : ℕ). getD t p 0) w
+      fits : 512 * (p / 512) + 512 ≤ length t
+      fits = omega (arith, S .few, S .long .tables)
 
       at : (k : ℕ) → k < 4 → slotAt (tableOf t (p / 512 + 1)) (p % 512 / 64) (p % 64 / 4) k ≡ getD t (4 * (p / 4) + k) 0
-      at = slot-place t p (omega (arith, S .few, S .long .tables))
+      at = slot-place t p fits
 
       here : slotAt (tableOf t (p / 512 + 1)) (p % 512 / 64) (p % 64 / 4) (p % 4) ≡ getD t p 0
       here = let w : 4 * (p / 4) + p % 4 ≡ p = omega arith in at (p % 4) (omega arith) ∙ ap (λ (p : ℕ). getD t p 0) w
@@ -76,7 +73,7 @@ module _ (s t : List ℕ) (S : Sound s t) where
       used =
           let w : 512 * (p / 512) + p % 512 ≡ p = omega arith in
           back-true (placeUsed s (p % 512)) true
-          (λ f. absurd (filled-nonzero t p e (sym (in-table (p % 512) (omega arith) ∙ ap (λ (p : ℕ). getD t p 0) w) ∙ S .tables (p / 512 + 1) x .unused (p % 512) (omega arith) f))) refl
+          (λ f. absurd (filled-nonzero t p e (sym (place-at t (p / 512) fits (p % 512) (omega arith) ∙ ap (λ (p : ℕ). getD t p 0) w) ∙ S .tables (p / 512 + 1) x .unused (p % 512) (omega arith) f))) refl
 
       level : p % 512 / 64 < digits s
       level = ltb-true (p % 512 / 64) (digits s) (and-left _ _ used)
@@ -190,7 +187,7 @@ module _ (im s t : List ℕ) (S : Sound s t) (P : Pictures im s t) where
       let ex : p′ / 512 + 1 ≡ p / 512 + 1 = omega arith in
       let ei : p′ % 512 / 64 ≡ p % 512 / 64 = omega arith in
       let ej : p′ % 64 / 4 ≡ p % 64 / 4 = omega arith in
-      entry-same im r q
+      of-same-entry im r q
       (record {
         node = A .node ∙ ex ∙ sym (B .node);
         level = A .level ∙ ei ∙ sym (B .level);

@@ -89,9 +89,9 @@ module _ (im : List ℕ) (r : ℕ) where
         digit = eqb-true _ _ (and-right (eqb (recLevel im q) (recLevel im r)) _ rest);
       }
 
-  pub entry-same : (q : ℕ) → SameEntry q → sameEntry im r q ≡ true
+  pub of-same-entry : (q : ℕ) → SameEntry q → sameEntry im r q ≡ true
   unfolding sameEntry
-  entry-same q S = and-intro _ _ (eq-eqb _ _ (S .node)) (and-intro _ _ (eq-eqb _ _ (S .level)) (eq-eqb _ _ (S .digit)))
+  of-same-entry q S = and-intro _ _ (eq-eqb _ _ (S .node)) (and-intro _ _ (eq-eqb _ _ (S .level)) (eq-eqb _ _ (S .digit)))
 
   pub record Ordered : Type 0 where
     pub level : recLevel im r < imDigits im
