@@ -1,23 +1,22 @@
--- "The verdict program takes an image of at most 65,535 bytes; a longer one meets 6 if nothing earlier": the program keeps the first 65,536
--- bytes of its input, and what it prints for them is what the whole input deserves. Assumes nothing.
+-- "The verdict program takes an image of at most 65,535 bytes; a longer one meets 6 if nothing earlier": a program over images keeps the first
+-- 65,536 bytes of its input, and reading gives for them what it gives for the whole input. Assumes nothing.
 use Prim.Native.Nat.{ℕ, _+_, _*_, _≤_, _<_}
 use mathlib.Core.Path.{_≡_, refl, sym, ap, ap₂, _∙_}
-use mathlib.Core.Bool.{Bool, true, false, cond, not, _&&_}
+use mathlib.Core.Bool.{Bool, true, false, not, _&&_}
 use mathlib.Core.List.{List, []}
 use native.Mathlib.Nat.{le-of-eq}
 use native.Mathlib.Omega.{arith}
 use lib.Dec.{leb, ltb, eqb}
-use lib.ListN.{length, getD, take}
+use lib.ListN.{length, take}
 use lib.Seq.{getD-take, length-take-le}
 use borrow.Author.Tests.{le-ltb, lt-leb}
 use Rattle.model.specs.Ids.{settingsInRange}
 use Rattle.model.specs.Image.{byteAt, imNodes, imRecords, lengthRight}
 use Rattle.model.specs.Refusals.{refuse, memoryShort, countsWrong, imageRefusal, readRefusal}
-use Rattle.model.specs.Calls.{Outcome, refused, readCall, verdictCall}
+use Rattle.model.specs.Calls.{refused, readCall}
 use Rattle.model.proofs.Bools.{or-intro-right}
 use Rattle.model.proofs.Refusals.{passed}
 use Rattle.model.proofs.Calls.{refused-is}
-use Rattle.verdict.specs.Lines.{lineOne, verdictText, verdictLines}
 
 -- 3, 4, 5 and then 6, which such an image always meets
 abbrev early : ℕ → ℕ → ℕ → ℕ → ℕ → ℕ
@@ -82,14 +81,7 @@ module _ (im xs : List ℕ) (long : 65536 ≤ length im) (kept : 65536 ≤ lengt
         ∙ ap (refused s t [] 0) read-same
         ∙ sym (refused-is (readRefusal s t im) (refused s t [] 0) _ refused-both)
 
-    lines-same : verdictLines s t xs ≡ verdictLines s t im
-    unfolding verdictLines
-    lines-same =
-        ap
-        (λ (r : Outcome).
-        cond (eqb (getD (r .answer) 0 0) 0) (verdictText (verdictCall (r .state) (r .tables) .answer)) (lineOne (getD (r .answer) 0 0))) call-same
-
--- so the program prints for an overlong input what the whole of it deserves
-pub overlong : (im s t : List ℕ) → 65536 ≤ length im → verdictLines s t (take 65536 im) ≡ verdictLines s t im
+-- so an overlong input is read as the whole of it would be
+pub overlong : (im s t : List ℕ) → 65536 ≤ length im → readCall s t (take 65536 im) ≡ readCall s t im
 overlong im s t long =
-    lines-same im (take 65536 im) long (le-of-eq (sym (length-take-le 65536 im long))) (λ a h. getD-take 65536 im a 0 h) s t
+    call-same im (take 65536 im) long (le-of-eq (sym (length-take-le 65536 im long))) (λ a h. getD-take 65536 im a 0 h) s t
