@@ -9,8 +9,8 @@ ghost use Rattle.delivery_parts.specs.Delivers.{Delivers};
 use answers::DeliverAnswer;
 use answers::Kind;
 use delivery_parts::meeting::learn_from;
-use delivery_parts::nodes::joining_node;
 use delivery_parts::room::suffix_entry;
+use state::next_record::joining_node;
 use state::record;
 use state::record::Node;
 use state::status::Status;
@@ -20,16 +20,16 @@ fn next_request(state: &[u64], tables: &[u8], x: usize, y: usize) -> Node
     requires { ⌜ Delivers (now state) (now tables) x y ⌝ }
     ensures { λ r. ⌜ bookNode r ≡ deliverCopying (now (state .entry)) x y (tableOf (now (tables .entry)) x) (tableOf (now (tables .entry)) y) .sender ⌝ }
 {
-    let id = record::id(state, x);
+    let node = record::load(state, x);
     let entry = suffix_entry(state, tables, x, y);
     let first = entry.first;
     if entry.room {
-        return joining_node(id, Status::WAITING, y);
+        return joining_node(node, Status::WAITING, y);
     }
     if record::status(state, first) == Status::IN_SYSTEM {
-        return joining_node(id, Status::COPYING, first);
+        return joining_node(node, Status::COPYING, first);
     }
-    joining_node(id, Status::WAITING, first)
+    joining_node(node, Status::WAITING, first)
 }
 
 pub fn deliver_copying(state: &mut [u64], tables: &mut [u8], x: usize, y: usize) -> DeliverAnswer

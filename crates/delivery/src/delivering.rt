@@ -2,7 +2,7 @@
 ghost use mathlib.Core.Path.{_≡_};
 ghost use Rattle.model.specs.Join.{delivery};
 ghost use Rattle.model.proofs.Sound.{Sound};
-ghost use Rattle.model.proofs.Delivered.{CanDeliver};
+ghost use Rattle.model.proofs.Sender.{CanDeliver};
 ghost use Rattle.delivery_parts.specs.Answers.{outcome, tookDelivery};
 use crate::copying::deliver_copying;
 use crate::notifying::deliver_notifying;

@@ -4,7 +4,7 @@ ghost use mathlib.Core.Path.{_≡_};
 ghost use Rattle.model.specs.Memory.{tableOf};
 ghost use Rattle.model.specs.Join.{deliverNotifying};
 ghost use Rattle.delivery_parts.specs.Answers.{outcome, tookDelivery};
-ghost use Rattle.delivery_parts.specs.Delivers.{Delivers, Meets, told};
+ghost use Rattle.delivery_parts.specs.Delivers.{Delivers, Meets, notifiedTables};
 use answers::DeliverAnswer;
 use answers::Kind;
 use delivery_parts::meeting::gather_from;
@@ -17,7 +17,7 @@ use state::sets;
 // "y learns x, x learns y's table"
 fn notify(state: &[u64], tables: &mut [u8], x: usize, y: usize)
     requires { ⌜ Meets (now state) (now tables) x y ⌝ }
-    ensures { λ r. ⌜ now (tables .exit) ≡ told (now (state .entry)) (now (tables .entry)) x y ⌝ }
+    ensures { λ r. ⌜ now (tables .exit) ≡ notifiedTables (now (state .entry)) (now (tables .entry)) x y ⌝ }
 {
     teach(state, tables, x, y);
     learn_from(state, tables, x, y);
@@ -28,11 +28,11 @@ pub fn deliver_notifying(state: &mut [u64], tables: &mut [u8], x: usize, y: usiz
     ensures { λ r. ⌜ outcome (now (state .exit)) (now (tables .exit)) r ≡ tookDelivery (now (state .entry)) (now (tables .entry)) x y (deliverNotifying (now (state .entry)) x y (tableOf (now (tables .entry)) x) (tableOf (now (tables .entry)) y)) ⌝ }
 {
     let node = record::load(state, x);
-    let told = sets::add(node.notified, y);
+    let notified = sets::add(node.notified, y);
     let left = sets::remove(node.pending, y);
     notify(state, tables, x, y);
-    let asked = gather_from(state, tables, x, y, node.level as usize, told, left);
-    let settled = store_notifying(state, x, node.level, asked, told);
+    let pending = gather_from(state, tables, x, y, node.level as usize, notified, left);
+    let settled = store_notifying(state, x, node, node.level, pending, notified);
     DeliverAnswer {
         kind: Kind::Notified,
         settled,

@@ -7,98 +7,71 @@ use native.Mathlib.Omega.{arith}
 use lib.Dec.{eqb}
 use lib.ListN.{length}
 use borrow.Author.Tests.{eq-eqb, ne-eqb}
-use Rattle.model.specs.Memory as memory
-use Rattle.model.specs.Memory.{idOf, statusOf, levelOf, pendingOf, notifiedOf, withNode, inSystem, copying, waiting, notifying, isInSystem, addNode, removeNode, tableStart, tableOf, withTable}
+use Rattle.model.specs.Memory.{Node as Record, nodeOf, statusOf, levelOf, pendingOf, notifiedOf, withNode, inSystem, copying, waiting, isInSystem, addNode, removeNode, tableOf, withTable}
 use Rattle.model.specs.Nodes.{suffixOf}
 use Rattle.model.specs.Learning.{learn, learnTable}
-use Rattle.model.specs.Join.{Delivery, joiningNode, inSystemNode, notifyingNode, settle, roomAtSuffix, firstAtSuffix, attachLevel, gather, delivered, delivery}
+use Rattle.model.specs.Join.{Delivery, joiningNode, notifyingNode, settle, roomAtSuffix, firstAtSuffix, attachLevel, gather, delivered, delivery}
 use Rattle.model.specs.Join.{deliverCopying, deliverSentOn, deliverAttached, deliverWaiting, deliverNotifying}
 use Rattle.model.specs.Calls.{Outcome, taken, deliveryFields}
 use Rattle.model.proofs.Sound.{Sound}
-use Rattle.model.proofs.Sender.{Sending, copies, waits, notifies, sending, receiver}
-use Rattle.model.proofs.Delivered.{CanDeliver}
-use Rattle.model.proofs.Memory.{node-stored}
+use Rattle.model.proofs.Sender.{CanDeliver, Sending, copies, waits, notifies, sends, Receiver}
+use Rattle.model.proofs.DeliveryDid.{to-receiver}
+use Rattle.model.proofs.Memory.{same-level, same-pending, same-notified, stored-twice, table-back}
+use Rattle.model.proofs.Settling.{settled-is}
 use Rattle.state.specs.declared.record.Node.{Node}
-use Rattle.state.specs.Loaded.{NodeOf, bookNode}
+use Rattle.state.specs.Loaded.{bookNode}
 use Rattle.answers.specs.declared.Kind.the-variants.{Copied, SentOn, Attached, Notified}
 use Rattle.delivery_parts.specs.declared.room.SuffixEntry.{SuffixEntry}
+use Rattle.state.specs.Lent.{memory}
 use Rattle.delivery_parts.specs.Answers.{outcome, tookDelivery}
-use Rattle.delivery_parts.specs.Delivers.{Delivers, Meets, EntryOf, exchanged, told as told-tables, attaching}
-use Rattle.delivery_parts.proofs.Readers.{network, meets, meets-attaching}
-use Rattle.delivery_parts.proofs.Learned.{exchanged-own, exchanged-theirs, told-theirs}
-use Rattle.delivery_parts.proofs.Stores.{stored-twice, table-back, gather-same}
+use Rattle.delivery_parts.specs.Delivers.{Delivers, Meets, EntryOf, exchanged, notifiedTables}
+use Rattle.delivery_parts.proofs.Readers.{network, meets, meets-notifying}
+use Rattle.delivery_parts.proofs.Learned.{exchanged-own, exchanged-theirs, notified-theirs}
+use Rattle.delivery_parts.proofs.Stores.{gather-same}
 
 -- ---- the records of x
 
--- "A notifying member whose asked set is empty settles"
-pub settles : (id level asked told : ℕ) (b : Bool) → b ≡ eqb asked 0 → b ≡ true → inSystemNode id ≡ notifyingNode id level asked told
-unfolding settle
-settles id level asked told b e t = rw (sym e ∙ t)
-
-pub stays : (id level asked told : ℕ) (b : Bool) → b ≡ eqb asked 0 → b ≡ false
-    → _≡_ {A = memory.Node} (record { id = id; status = notifying; level = level; target = 0; pending = asked; notified = told })
-    (notifyingNode id level asked told)
-unfolding settle
-stays id level asked told b e f = rw (sym e ∙ f)
-
-settled-is : (id level asked told : ℕ) → eqb asked 0 ≡ eqb (notifyingNode id level asked told .status) inSystem
-unfolding settle
-settled-is id level asked told = go (eqb asked 0)
-  where
-    go : (b : Bool)
-        → b ≡ eqb (cond b (inSystemNode id) (record { id = id; status = notifying; level = level; target = 0; pending = asked; notified = told }) .status) inSystem
-    go true = refl
-    go false = refl
-
 module _ (s t : List ℕ) (x y : ℕ) (r : SuffixEntry) (e : EntryOf s t x y r) where
-  abbrev asks : memory.Node
+  abbrev asks : Record
   asks = deliverCopying s x y (tableOf t x) (tableOf t y) .sender
 
-  -- "If E holds fewer than K, x becomes waiting with target y."
-  pub asks-receiver : (id : ℕ) → id ≡ idOf s x → r .room ≡ true → (n : Node) → bookNode n ≡ joiningNode id waiting y → bookNode n ≡ asks
-  unfolding deliverCopying
-  asks-receiver id ei b n f = rw (sym (e .room) ∙ b) (f ∙ ap (λ (id : ℕ). joiningNode id waiting y) ei)
+  module _ (q n : Node) (o : bookNode q ≡ nodeOf s x) where
+    -- "If E holds fewer than K, x becomes waiting with target y."
+    pub asks-receiver : r .room ≡ true → bookNode n ≡ joiningNode (bookNode q) waiting y → bookNode n ≡ asks
+    unfolding deliverCopying
+    asks-receiver b f = rw (sym (e .room) ∙ b) (f ∙ ap (λ (m : Record). joiningNode m waiting y) o)
 
-  -- "Otherwise the target is the first of E: x stays copying if that member is settled, else becomes waiting."
-  pub asks-first : (id v status : ℕ) → id ≡ idOf s x → r .room ≡ false → v ≡ statusOf s (r .first) → v ≡ 0 → (n : Node)
-      → bookNode n ≡ joiningNode id copying (r .first) → bookNode n ≡ asks
-  unfolding deliverCopying
-  asks-first id v status ei b ev z n f =
-      let w : isInSystem s (firstAtSuffix s (tableOf t y) x y) ≡ true = eq-eqb _ 0 (ap (statusOf s) (sym (e .first)) ∙ sym ev ∙ z) in
-      rw (sym (e .room) ∙ b, w) (f ∙ ap₂ (λ (id v : ℕ). joiningNode id copying v) ei (e .first))
+    -- "Otherwise the target is the first of E: x stays copying if that member is settled, else becomes waiting."
+    pub asks-first : (v : ℕ) → r .room ≡ false → v ≡ statusOf s (r .first) → v ≡ 0 → bookNode n ≡ joiningNode (bookNode q) copying (r .first)
+        → bookNode n ≡ asks
+    unfolding deliverCopying
+    asks-first v b ev z f =
+        let w : isInSystem s (firstAtSuffix s (tableOf t y) x y) ≡ true = eq-eqb _ 0 (ap (statusOf s) (sym (e .first)) ∙ sym ev ∙ z) in
+        rw (sym (e .room) ∙ b, w) (f ∙ ap₂ (λ (m : Record) (v : ℕ). joiningNode m copying v) o (e .first))
 
-  pub waits-first : (id v status : ℕ) → id ≡ idOf s x → r .room ≡ false → v ≡ statusOf s (r .first) → (v ≡ 0 → ⊥) → (n : Node)
-      → bookNode n ≡ joiningNode id waiting (r .first) → bookNode n ≡ asks
-  unfolding deliverCopying
-  waits-first id v status ei b ev ne n f =
-      let w : isInSystem s (firstAtSuffix s (tableOf t y) x y) ≡ false = ne-eqb _ 0 (λ q. ne (ev ∙ ap (statusOf s) (e .first) ∙ q)) in
-      rw (sym (e .room) ∙ b, w) (f ∙ ap₂ (λ (id v : ℕ). joiningNode id waiting v) ei (e .first))
+    pub waits-first : (v : ℕ) → r .room ≡ false → v ≡ statusOf s (r .first) → (v ≡ 0 → ⊥)
+        → bookNode n ≡ joiningNode (bookNode q) waiting (r .first) → bookNode n ≡ asks
+    unfolding deliverCopying
+    waits-first v b ev ne f =
+        let w : isInSystem s (firstAtSuffix s (tableOf t y) x y) ≡ false = ne-eqb _ 0 (λ q. ne (ev ∙ ap (statusOf s) (e .first) ∙ q)) in
+        rw (sym (e .room) ∙ b, w) (f ∙ ap₂ (λ (m : Record) (v : ℕ). joiningNode m waiting v) o (e .first))
 
 -- ---- what is left
 
 -- a delivery's outcome, from what was stored and answered
 left : (s t s₁ t₁ : List ℕ) (x y : ℕ) (d : Delivery) (fields : List ℕ) → s₁ ≡ withNode s x (d .sender)
     → t₁ ≡ withTable (withTable t y (d .receiverTable)) x (d .senderTable) → fields ≡ deliveryFields d
-    → _≡_ {A = Outcome} (record { state = s₁; tables = t₁; out = []; answer = 0 ∷ fields }) (tookDelivery s t x y d)
+    → _≡_ {A = Outcome} (record { memory = memory s₁ t₁; out = []; answer = 0 ∷ fields }) (tookDelivery s t x y d)
 unfolding tookDelivery taken delivered
 left s t s₁ t₁ x y d fields e f g = cc
-
--- the answer's last field
-settled-field : (k l a b : ℕ) → a ≡ b → _≡_ {A = List ℕ} (k ∷ l ∷ a ∷ []) (k ∷ l ∷ b ∷ [])
-settled-field k l a b e = ap (λ (a : ℕ). k ∷ l ∷ a ∷ []) e
 
 module _ (s t : List ℕ) (x y : ℕ) (d : Delivers s t x y) where
   fits : 8 * x + 6 ≤ length s
   fits = omega (arith, d .sound .long .state, d .sound .few, d .sender .high)
 
-  fits-table : tableStart y + 512 ≤ length t
-  fits-table =
-      let l : 1 ≤ y = d .receiver .low in
-      omega (arith, d .receiver .high, d .sound .few, d .sound .long .tables)
-
   -- y's table stays
   kept : (t₁ T : List ℕ) → t₁ ≡ withTable t x T → t₁ ≡ withTable (withTable t y (tableOf t y)) x T
-  kept t₁ T e = e ∙ ap (λ (t : List ℕ). withTable t x T) (sym (table-back t y fits-table))
+  kept t₁ T e = e ∙ ap (λ (t : List ℕ). withTable t x T) (sym (table-back t y))
 
   pub copied-is : (s₁ t₁ : List ℕ) (r : Node) → bookNode r ≡ deliverCopying s x y (tableOf t x) (tableOf t y) .sender
       → t₁ ≡ withTable t x (learnTable s x (tableOf t y) (tableOf t x)) → s₁ ≡ withNode s x (bookNode r)
@@ -106,33 +79,36 @@ module _ (s t : List ℕ) (x y : ℕ) (d : Delivers s t x y) where
   unfolding deliverCopying
   copied-is s₁ t₁ r er et es =
       left s t s₁ t₁ x y (deliverCopying s x y (tableOf t x) (tableOf t y)) _ (es ∙ ap (withNode s x) er) (kept t₁ _ et)
-      (settled-field 1 0 _ _ (ap (λ (b : Bool). cond b 1 0) (sym (joins (roomAtSuffix s (tableOf t y) x y) (isInSystem s v)))))
+      (ap (λ (b : Bool). 1 ∷ 0 ∷ cond b 1 0 ∷ []) (sym (joins (roomAtSuffix s (tableOf t y) x y) (isInSystem s v))))
     where
       v : ℕ
       v = firstAtSuffix s (tableOf t y) x y
 
       joins : (a b : Bool)
-          → eqb (cond a (joiningNode (idOf s x) waiting y) (joiningNode (idOf s x) (cond b copying waiting) (firstAtSuffix s (tableOf t y) x y)) .status) inSystem ≡ false
+          → eqb (cond a (joiningNode (nodeOf s x) waiting y) (joiningNode (nodeOf s x) (cond b copying waiting) (firstAtSuffix s (tableOf t y) x y)) .status) inSystem ≡ false
       joins true b = refl
       joins false true = refl
       joins false false = refl
 
-  pub sent-on-is : (s₁ t₁ : List ℕ) (r : Node) (id v : ℕ) → id ≡ idOf s x → v ≡ firstAtSuffix s (tableOf t y) x y
-      → t₁ ≡ withTable t x (learnTable s x (tableOf t y) (tableOf t x)) → bookNode r ≡ joiningNode id waiting v → s₁ ≡ withNode s x (bookNode r)
+  pub sent-on-is : (s₁ t₁ : List ℕ) (q r : Node) (v : ℕ) → bookNode q ≡ nodeOf s x → v ≡ firstAtSuffix s (tableOf t y) x y
+      → t₁ ≡ withTable t x (learnTable s x (tableOf t y) (tableOf t x)) → bookNode r ≡ joiningNode (bookNode q) waiting v → s₁ ≡ withNode s x (bookNode r)
       → outcome s₁ t₁ (record { kind = SentOn; settled = false }) ≡ tookDelivery s t x y (deliverSentOn s x y (tableOf t x) (tableOf t y))
   unfolding deliverSentOn
-  sent-on-is s₁ t₁ r id v ei ev et er es =
+  sent-on-is s₁ t₁ q r v o ev et er es =
       left s t s₁ t₁ x y (deliverSentOn s x y (tableOf t x) (tableOf t y)) _
-      (es ∙ ap (withNode s x) (er ∙ ap₂ (λ (id v : ℕ). joiningNode id waiting v) ei ev)) (kept t₁ _ et) refl
+      (es ∙ ap (withNode s x) (er ∙ ap₂ (λ (m : Record) (v : ℕ). joiningNode m waiting v) o ev)) (kept t₁ _ et) refl
 
   abbrev k₀ : ℕ
   k₀ = attachLevel s (tableOf t y) x (suffixOf s x y)
 
-  abbrev told₀ : ℕ
-  told₀ = addNode 0 y
+  abbrev notified₀ : ℕ
+  notified₀ = addNode 0 y
+
+  abbrev r₀ : Record
+  r₀ = notifyingNode (nodeOf s x) k₀ 0 notified₀
 
   abbrev s₀ : List ℕ
-  s₀ = withNode s x (attaching (idOf s x) k₀ told₀)
+  s₀ = withNode s x r₀
 
   abbrev Ty₀ : List ℕ
   Ty₀ = learn s₀ y x (tableOf t y)
@@ -140,62 +116,64 @@ module _ (s t : List ℕ) (x y : ℕ) (d : Delivers s t x y) where
   abbrev Tx₀ : List ℕ
   Tx₀ = learnTable s₀ x (tableOf t y) (tableOf t x)
 
-  abbrev asked₀ : ℕ
-  asked₀ = gather s x k₀ told₀ Ty₀ (gather s x k₀ told₀ Tx₀ 0)
+  abbrev pending₀ : ℕ
+  pending₀ = gather s x k₀ notified₀ Ty₀ (gather s x k₀ notified₀ Tx₀ 0)
 
   meets₀ : Meets s₀ t x y
-  meets₀ = meets-attaching s t s₀ x y k₀ told₀ d refl
+  meets₀ = meets-notifying s t s₀ x y k₀ notified₀ d refl
 
-  gathered : gather s₀ x k₀ told₀ Ty₀ (gather s₀ x k₀ told₀ Tx₀ 0) ≡ asked₀
+  gathered : gather s₀ x k₀ notified₀ Ty₀ (gather s₀ x k₀ notified₀ Tx₀ 0) ≡ pending₀
   gathered =
-      gather-same s (network s t (d .sound)) x (d .sender) (attaching (idOf s x) k₀ told₀) refl k₀ told₀ Ty₀ _
-      ∙ ap (gather s x k₀ told₀ Ty₀) (gather-same s (network s t (d .sound)) x (d .sender) (attaching (idOf s x) k₀ told₀) refl k₀ told₀ Tx₀ 0)
+      gather-same s (network s t (d .sound)) x (d .sender) r₀ refl k₀ notified₀ Ty₀ _
+      ∙ ap (gather s x k₀ notified₀ Ty₀) (gather-same s (network s t (d .sound)) x (d .sender) r₀ refl k₀ notified₀ Tx₀ 0)
 
-  pub attached-is : (s₁ s₂ t₁ : List ℕ) (k told asked : ℕ) (b : Bool) → k ≡ k₀ → s₁ ≡ withNode s x (attaching (idOf s x) k (addNode 0 y))
-      → t₁ ≡ exchanged s₁ t x y → told ≡ told₀ → asked ≡ gather s₁ x k told (tableOf t₁ y) (gather s₁ x k told (tableOf t₁ x) 0)
-      → s₂ ≡ withNode s₁ x (notifyingNode (idOf s₁ x) k asked told) → b ≡ eqb asked 0
+  -- x's record after, and whether it settled
+  module _ (q : Node) (o : bookNode q ≡ nodeOf s x) (k k′ pending pending′ notified notified′ : ℕ) (ek : k ≡ k′) (ep : pending ≡ pending′)
+      (en : notified ≡ notified′) where
+    sender-is : settle (notifyingNode (bookNode q) k pending notified) ≡ settle (notifyingNode (nodeOf s x) k′ pending′ notified′)
+    sender-is = λ i. settle (notifyingNode (o i) (ek i) (ep i) (en i))
+
+    settled-field : (b : Bool) → b ≡ eqb pending 0 → b ≡ eqb (settle (notifyingNode (nodeOf s x) k′ pending′ notified′) .status) inSystem
+    settled-field b e =
+        e ∙ ap (λ (a : ℕ). eqb a 0) ep ∙ sym (settled-is (notifyingNode (nodeOf s x) k′ pending′ notified′) refl)
+
+  pub attached-is : (s₁ s₂ t₁ : List ℕ) (q : Node) (k notified pending : ℕ) (b : Bool) → bookNode q ≡ nodeOf s x → k ≡ k₀
+      → s₁ ≡ withNode s x (notifyingNode (nodeOf s x) k 0 (addNode 0 y)) → t₁ ≡ exchanged s₁ t x y → notified ≡ notified₀
+      → pending ≡ gather s₁ x k notified (tableOf t₁ y) (gather s₁ x k notified (tableOf t₁ x) 0)
+      → s₂ ≡ withNode s₁ x (settle (notifyingNode (bookNode q) k pending notified)) → b ≡ eqb pending 0
       → outcome s₂ t₁ (record { kind = Attached k; settled = b }) ≡ tookDelivery s t x y (deliverAttached s x y (tableOf t x) (tableOf t y))
   unfolding deliverAttached
-  attached-is s₁ s₂ t₁ k told asked b ek e₁ et eT ea e₂ eb =
-      let w : s₁ ≡ s₀ = cc in
-      let i : idOf s₀ x ≡ idOf s x = node-stored s x (attaching (idOf s x) k₀ told₀) fits .id in
-      let v : t₁ ≡ exchanged s₀ t x y = cc in
-      let a : asked ≡ asked₀ = cc (gathered, exchanged-own s₀ t x y meets₀, exchanged-theirs s₀ t x y meets₀) in
-      let n : s₂ ≡ withNode s₀ x (notifyingNode (idOf s x) k₀ asked₀ told₀) = cc in
-      let c : b ≡ eqb (notifyingNode (idOf s x) k₀ asked₀ told₀ .status) inSystem = eb ∙ ap (λ (a : ℕ). eqb a 0) a ∙ settled-is (idOf s x) k₀ asked₀ told₀ in
-      left s t s₂ t₁ x y (deliverAttached s x y (tableOf t x) (tableOf t y)) (3 ∷ k ∷ cond b 1 0 ∷ []) (n ∙ stored-twice s x _ _ fits) v
-      (ap₂ (λ (k : ℕ) (b : Bool). 3 ∷ k ∷ cond b 1 0 ∷ []) ek c)
+  attached-is s₁ s₂ t₁ q k notified pending b o ek e₁ et en ep e₂ eb =
+      let w : s₁ ≡ s₀ = e₁ ∙ ap (λ (k : ℕ). withNode s x (notifyingNode (nodeOf s x) k 0 notified₀)) ek in
+      let v : t₁ ≡ exchanged s₀ t x y = et ∙ ap (λ (s : List ℕ). exchanged s t x y) w in
+      let a : pending ≡ pending₀ = cc (gathered, exchanged-own s₀ t x y meets₀, exchanged-theirs s₀ t x y meets₀) in
+      left s t s₂ t₁ x y (deliverAttached s x y (tableOf t x) (tableOf t y)) (3 ∷ k ∷ cond b 1 0 ∷ [])
+      (e₂ ∙ ap₂ (λ (s : List ℕ) (r : Record). withNode s x r) w (sender-is q o _ _ _ _ _ _ ek a en) ∙ stored-twice s x _ _ fits) v
+      (ap₂ (λ (k : ℕ) (b : Bool). 3 ∷ k ∷ cond b 1 0 ∷ []) ek (settled-field q o _ _ _ _ _ _ ek a en b eb))
 
   abbrev Ty₁ : List ℕ
   Ty₁ = learn s y x (tableOf t y)
 
-  pub notified-is : (s₁ t₁ : List ℕ) (q : Node) (told rest asked : ℕ) (b : Bool) → NodeOf s x q → told ≡ addNode (q .notified) y
-      → rest ≡ removeNode (q .pending) y → t₁ ≡ told-tables s t x y → asked ≡ gather s x (q .level) told (tableOf t₁ y) rest
-      → s₁ ≡ withNode s x (notifyingNode (idOf s x) (q .level) asked told) → b ≡ eqb asked 0
+  pub notified-is : (s₁ t₁ : List ℕ) (q : Node) (notified rest pending : ℕ) (b : Bool) → bookNode q ≡ nodeOf s x → notified ≡ addNode (q .notified) y
+      → rest ≡ removeNode (q .pending) y → t₁ ≡ notifiedTables s t x y → pending ≡ gather s x (q .level) notified (tableOf t₁ y) rest
+      → s₁ ≡ withNode s x (settle (notifyingNode (bookNode q) (q .level) pending notified)) → b ≡ eqb pending 0
       → outcome s₁ t₁ (record { kind = Notified; settled = b }) ≡ tookDelivery s t x y (deliverNotifying s x y (tableOf t x) (tableOf t y))
   unfolding deliverNotifying
-  notified-is s₁ t₁ q told rest asked b o eT er et ea es eb =
-      let told₁ : ℕ = addNode (notifiedOf s x) y in
-      let asked₁ : ℕ = gather s x (levelOf s x) told₁ Ty₁ (removeNode (pendingOf s x) y) in
-      let l : q .level ≡ levelOf s x = o .level in
-      let T : told ≡ addNode (notifiedOf s x) y = eT ∙ ap (λ (a : ℕ). addNode a y) (o .notified) in
-      let r : rest ≡ removeNode (pendingOf s x) y = er ∙ ap (λ (a : ℕ). removeNode a y) (o .pending) in
-      let a : asked ≡ gather s x (levelOf s x) (addNode (notifiedOf s x) y) Ty₁ (removeNode (pendingOf s x) y) = cc (told-theirs s t x y (meets s t x y d)) in
-      let n : s₁ ≡ withNode s x (notifyingNode (idOf s x) (levelOf s x) asked₁ told₁) = cc in
-      let c : b ≡ eqb (notifyingNode (idOf s x) (levelOf s x) asked₁ told₁ .status) inSystem = eb ∙ ap (λ (a : ℕ). eqb a 0) a ∙ settled-is (idOf s x) (levelOf s x) asked₁ told₁ in
-      left s t s₁ t₁ x y (deliverNotifying s x y (tableOf t x) (tableOf t y)) (4 ∷ 0 ∷ cond b 1 0 ∷ []) n et
-      (ap (λ (b : Bool). 4 ∷ 0 ∷ cond b 1 0 ∷ []) c)
+  notified-is s₁ t₁ q notified rest pending b o en er et ep es eb =
+      let l : q .level ≡ levelOf s x = same-level o in
+      let n : notified ≡ addNode (notifiedOf s x) y = en ∙ ap (λ (a : ℕ). addNode a y) (same-notified o) in
+      let r : rest ≡ removeNode (pendingOf s x) y = er ∙ ap (λ (a : ℕ). removeNode a y) (same-pending o) in
+      let a : pending ≡ gather s x (levelOf s x) (addNode (notifiedOf s x) y) Ty₁ (removeNode (pendingOf s x) y) = cc (notified-theirs s t x y (meets s t x y d)) in
+      left s t s₁ t₁ x y (deliverNotifying s x y (tableOf t x) (tableOf t y)) (4 ∷ 0 ∷ cond b 1 0 ∷ [])
+      (es ∙ ap (withNode s x) (sender-is q o _ _ _ _ _ _ l a n)) et
+      (ap (λ (b : Bool). 4 ∷ 0 ∷ cond b 1 0 ∷ []) (settled-field q o _ _ _ _ _ _ l a n b eb))
 
 -- ---- which delivery it is
 
--- the record is stored with x's id
-pub stored-is : (s s₁ : List ℕ) (x id k asked told : ℕ) (r : Node) → id ≡ idOf s x → bookNode r ≡ notifyingNode id k asked told
-    → s₁ ≡ withNode s x (bookNode r) → s₁ ≡ withNode s x (notifyingNode (idOf s x) k asked told)
-stored-is s s₁ x id k asked told r e f g = cc
-
-pub starts-is : (s s₁ : List ℕ) (x y id k told : ℕ) → id ≡ idOf s x → told ≡ addNode 0 y → s₁ ≡ withNode s x (attaching id k told)
-    → s₁ ≡ withNode s x (attaching (idOf s x) k (addNode 0 y))
-starts-is s s₁ x y id k told e f g = cc
+pub starts-is : (s s₁ : List ℕ) (x y k notified : ℕ) (q n : Node) → bookNode q ≡ nodeOf s x → notified ≡ addNode 0 y
+    → bookNode n ≡ notifyingNode (bookNode q) k 0 notified → s₁ ≡ withNode s x (bookNode n)
+    → s₁ ≡ withNode s x (notifyingNode (nodeOf s x) k 0 (addNode 0 y))
+starts-is s s₁ x y k notified q n o en f g = g ∙ ap (withNode s x) (f ∙ (λ i. notifyingNode (o i) k 0 (en i)))
 
 module _ (s t : List ℕ) (x y : ℕ) (o : Outcome) where
   pub waiting-attaches : (r : SuffixEntry) → EntryOf s t x y r → r .room ≡ true
@@ -227,21 +205,15 @@ module _ (s t : List ℕ) (x y : ℕ) (o : Outcome) where
 
 -- ---- what the refusals of a delivery leave
 
-sends : (s t : List ℕ) (x y : ℕ) → Sound s t → CanDeliver s x y → Sending s x y
-sends s t x y S c = sending s x y (S .statuses x (c .sender)) (c .asked) (c .free)
-
 pub delivers : (s t : List ℕ) (x y : ℕ) → Sound s t → CanDeliver s x y → Delivers s t x y
-delivers s t x y S c = record {
-  sound = S;
-  sender = c .sender;
-  receiver = c .receiver;
-  other = receiver s x y (c .receiver) (sends s t x y S c) .other;
-}
+delivers s t x y S c =
+    let r : Receiver s x y = to-receiver s t S x y c in
+    record { sound = S; sender = c .sender; receiver = c .receiver; attached = r .attached; other = r .other }
 
 -- x copies, waits or notifies
 module _ (s t : List ℕ) (x y n : ℕ) (S : Sound s t) (c : CanDeliver s x y) (e : n ≡ statusOf s x) (o p : Outcome) where
   pub other-asks-nothing : (n ≡ 1 → ⊥) → (n ≡ 2 → ⊥) → (n ≡ 3 → ⊥) → o ≡ p
-  other-asks-nothing a b d = go (sends s t x y S c)
+  other-asks-nothing a b d = go (sends s t S x y c)
     where
       go : Sending s x y → o ≡ p
       go (copies q f h) = absurd (a (e ∙ q))

@@ -11,7 +11,7 @@ use Rattle.model.proofs.Memory.{stored-same, stored-other, stored-length}
 use Rattle.model.proofs.Status.{IsNode}
 use Rattle.learning.specs.declared.learner.Learner.{Learner}
 use Rattle.learning.specs.Learners.{LearnerOf, TableReadable, Learns, LearnsTable}
-use Rattle.delivery_parts.specs.Delivers.{NodesIn, Meets, Gathers, exchanged, told}
+use Rattle.delivery_parts.specs.Delivers.{NodesIn, Meets, Gathers, exchanged, notifiedTables}
 use Rattle.delivery_parts.proofs.Readers.{learns, learns-table, readable-table, learn-nodes, learn-table-nodes}
 
 -- ---- learning, and the table put back
@@ -29,9 +29,9 @@ pub exchanged-is : (s t t₁ t₂ T : List ℕ) (x y : ℕ) → T ≡ learnTable
     → t₁ ≡ withTable t y (learn s y x (tableOf t y)) → t₂ ≡ withTable t₁ x T → t₂ ≡ exchanged s t x y
 exchanged-is s t t₁ t₂ T x y e f g = cc
 
-pub gathered-is : (s t Y : List ℕ) (x z n k told nodes r : ℕ) → n ≡ x → Y ≡ tableOf t z → r ≡ gather s n k told Y nodes
-    → r ≡ gather s x k told (tableOf t z) nodes
-gathered-is s t Y x z n k told nodes r en eY e = cc
+pub gathered-is : (s t Y : List ℕ) (x z n k notified nodes r : ℕ) → n ≡ x → Y ≡ tableOf t z → r ≡ gather s n k notified Y nodes
+    → r ≡ gather s x k notified (tableOf t z) nodes
+gathered-is s t Y x z n k notified nodes r en eY e = cc
 
 module _ (s t : List ℕ) (x z : ℕ) (g : Gathers s t x z) where
   pub gathers : (Y : List ℕ) → Y ≡ tableOf t z → TableReadable s Y
@@ -112,16 +112,13 @@ module _ (s t : List ℕ) (x y : ℕ) (m : Meets s t x y) where
 
 module _ (s t : List ℕ) (x y : ℕ) (m : Meets s t x y) where
   -- "y learns x, x learns y's table"
-  pub told-is : (t₁ t₂ : List ℕ) → t₁ ≡ withTable t y (Ty′ s t x y m)
-      → t₂ ≡ withTable t₁ x (learnTable s x (tableOf t₁ y) (tableOf t₁ x)) → t₂ ≡ told s t x y
-  told-is t₁ t₂ e f =
+  pub notified-is : (t₁ t₂ : List ℕ) → t₁ ≡ withTable t y (Ty′ s t x y m)
+      → t₂ ≡ withTable t₁ x (learnTable s x (tableOf t₁ y) (tableOf t₁ x)) → t₂ ≡ notifiedTables s t x y
+  notified-is t₁ t₂ e f =
       let a : tableOf (withTable t y (Ty′ s t x y m)) y ≡ Ty′ s t x y m = theirs-put s t x y m (Ty′ s t x y m) (taught-nodes s t x y m) in
       let b : tableOf (withTable t y (Ty′ s t x y m)) x ≡ tableOf t x = own-same s t x y m (Ty′ s t x y m) (taught-nodes s t x y m) in cc
 
   module _ (T : List ℕ) (o : NodesIn s T) where
-    t₀ : List ℕ
-    t₀ = withTable (withTable t y (Ty′ s t x y m)) x T
-
     m₁ : Meets s (withTable t y (Ty′ s t x y m)) x y
     m₁ = meets-theirs s t x y m (Ty′ s t x y m) (taught-nodes s t x y m)
 
@@ -138,14 +135,14 @@ module _ (s t : List ℕ) (x y : ℕ) (m : Meets s t x y) where
   exchanged-nodes : NodesIn s (learnTable s x (tableOf t y) (tableOf t x))
   exchanged-nodes = learn-table-nodes s x (tableOf t y) (tableOf t x) (m .theirs) (m .own)
 
-  told-nodes : NodesIn s (learnTable s x (Ty′ s t x y m) (tableOf t x))
-  told-nodes = learn-table-nodes s x (Ty′ s t x y m) (tableOf t x) (taught-nodes s t x y m) (m .own)
+  notified-nodes : NodesIn s (learnTable s x (Ty′ s t x y m) (tableOf t x))
+  notified-nodes = learn-table-nodes s x (Ty′ s t x y m) (tableOf t x) (taught-nodes s t x y m) (m .own)
 
   pub meets-exchanged : (t₁ : List ℕ) → t₁ ≡ exchanged s t x y → Meets s t₁ x y
   meets-exchanged t₁ e = subst (λ (t : List ℕ). Meets s t x y) (sym e) (both-meet _ exchanged-nodes)
 
-  pub gathers-told : (t₁ : List ℕ) → t₁ ≡ told s t x y → Gathers s t₁ x y
-  gathers-told t₁ e = gathers-theirs s t₁ x y (subst (λ (t : List ℕ). Meets s t x y) (sym e) (both-meet _ told-nodes))
+  pub gathers-notified : (t₁ : List ℕ) → t₁ ≡ notifiedTables s t x y → Gathers s t₁ x y
+  gathers-notified t₁ e = gathers-theirs s t₁ x y (subst (λ (t : List ℕ). Meets s t x y) (sym e) (both-meet _ notified-nodes))
 
   pub exchanged-own : tableOf (exchanged s t x y) x ≡ learnTable s x (tableOf t y) (tableOf t x)
   exchanged-own = both-own _ exchanged-nodes
@@ -153,5 +150,5 @@ module _ (s t : List ℕ) (x y : ℕ) (m : Meets s t x y) where
   pub exchanged-theirs : tableOf (exchanged s t x y) y ≡ learn s y x (tableOf t y)
   exchanged-theirs = both-theirs _ exchanged-nodes
 
-  pub told-theirs : tableOf (told s t x y) y ≡ learn s y x (tableOf t y)
-  told-theirs = both-theirs _ told-nodes
+  pub notified-theirs : tableOf (notifiedTables s t x y) y ≡ learn s y x (tableOf t y)
+  notified-theirs = both-theirs _ notified-nodes

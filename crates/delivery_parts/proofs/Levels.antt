@@ -7,24 +7,22 @@ use native.Mathlib.Decide.{decLt}
 use native.Mathlib.Omega.{arith}
 use lib.Dec.{ltb}
 use lib.ListN.{length}
-use borrow.Author.Tests.{lt-ltb, le-ltb, ltb-false, not-true, not-false}
+use borrow.Author.Tests.{lt-ltb, le-ltb, not-true, not-false}
 use Rattle.model.specs.Ids.{digitOf}
-use Rattle.model.specs.Memory.{digits, depth, idOf, tableOf}
-use Rattle.model.specs.Tables.{slotPlace, entrySize, firstOf}
+use Rattle.model.specs.Memory.{depth, idOf, tableOf}
+use Rattle.model.specs.Tables.{firstOf}
 use Rattle.model.specs.Nodes.{suffixOf}
 use Rattle.model.specs.Join.{hasRoom, roomAtSuffix, belowOrRoom, roomFrom, attachLevel}
 use Rattle.model.proofs.Bools.{or-intro-left, or-intro-right, or-right}
-use Rattle.model.proofs.Ids.{digit-lt}
 use Rattle.model.proofs.Loops.{all-of, all-at, all-false, first-unique}
-use Rattle.model.proofs.Tables.{size-filled}
-use Rattle.model.proofs.Delivering.{suffix-below}
+use Rattle.model.proofs.SoundNodes.{suffix-below}
+use Rattle.model.proofs.DeliveryDid.{room-from, first-node}
 use Rattle.state.specs.Loaded.{Placed}
 use Rattle.learning.specs.declared.learner.Learner.{Learner}
 use Rattle.tables.specs.Places.{Entry}
 use Rattle.learning.specs.Learners.{LearnerOf}
 use Rattle.delivery_parts.specs.declared.room.SuffixEntry.{SuffixEntry}
 use Rattle.delivery_parts.specs.Delivers.{Delivers, Level, roomAt, EntryOf}
-use Rattle.delivery_parts.proofs.Readers.{nodes-in}
 
 -- ---- the entry at the match
 
@@ -64,17 +62,11 @@ entry-of s t x y r Y h j v b e o eh eY eb ej ev =
 -- the first of a full entry is a node
 pub first-placed : (s t : List ℕ) (x y : ℕ) → Delivers s t x y → (r : SuffixEntry) → EntryOf s t x y r → r .room ≡ false → Placed s (r .first)
 first-placed s t x y d r e f =
-    let S = d .sound in
-    let h : ℕ = suffixOf s x y in
-    let j : ℕ = digitOf (idOf s x) (suffixOf s x y) in
-    let below : suffixOf s x y < digits s = suffix-below s t S x y (d .sender) (d .receiver) (d .other) in
-    let full : depth s ≤ entrySize (depth s) (tableOf t y) h j = ltb-false _ (depth s) (sym (e .room) ∙ f) in
-    let filled = size-filled (depth s) (tableOf t y) h j 0 (omega (arith, full, S .settings .depth-least)) in
-    let n = nodes-in s t S y (d .receiver) .at (slotPlace h j 0) (omega (arith, below, S .settings .digits-most, digit-lt (idOf s x) h)) filled in
+    let n = first-node s t (d .sound) x y (d .sender) (d .receiver) (record { attached = d .attached; other = d .other }) (sym (e .room) ∙ f) .0 in
     record {
-      long = S .long .state;
+      long = d .sound .long .state;
       first = omega (arith, n .low, e .first);
-      last = omega (arith, n .high, e .first, S .few);
+      last = omega (arith, n .high, e .first, d .sound .few);
     }
 
 -- ---- the attach level, from the match h down
@@ -86,13 +78,7 @@ pub record RoomFrom (s T : List ℕ) (x h k : ℕ) : Type 0 where
 
 module _ (s T : List ℕ) (x h : ℕ) where
   starts : hasRoom s T x h ≡ true → RoomFrom s T x h h
-  starts e = record { within = omega arith; room = all-of (suc h) (belowOrRoom s T x h) (λ i l. go i l (decLt i h)) }
-    where
-      go : (i : ℕ) → i < suc h → Dec (i < h) → belowOrRoom s T x h i ≡ true
-      go i l (yes q) = or-intro-left (ltb i h) (hasRoom s T x i) (lt-ltb i h q)
-      go i l (no g) =
-          let w : h ≡ i = omega arith in
-          subst (λ (i : ℕ). belowOrRoom s T x h i ≡ true) w (or-intro-right (ltb h h) (hasRoom s T x h) e)
+  starts e = record { within = omega arith; room = room-from s T x h e }
 
   goes : (k : ℕ) → 0 < k → RoomFrom s T x h k → hasRoom s T x (k - 1) ≡ true → RoomFrom s T x h (k - 1)
   goes k some f r = record {

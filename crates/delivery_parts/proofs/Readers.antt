@@ -8,22 +8,23 @@ use native.Mathlib.Decide.{ℕ-discrete}
 use native.Mathlib.Omega.{arith}
 use lib.ListN.{length, getD}
 use Rattle.model.specs.Ids.{commonSuffix}
-use Rattle.model.specs.Memory.{digits, depth, nodeCount, Node, idOf, withNode, tableOf}
+use Rattle.model.specs.Memory.{digits, depth, nodeCount, Node, nodeOf, idOf, withNode, tableOf}
 use Rattle.model.specs.Tables.{slotPlace, entrySize, append}
 use Rattle.model.specs.Nodes.{suffixOf}
 use Rattle.model.specs.Learning.{learnAt, learn, learnPlace, learnTable}
+use Rattle.model.specs.Join.{notifyingNode}
 use Rattle.model.proofs.Loops.{each-keeps}
 use Rattle.model.proofs.Tables.{append-length, append-here, append-away}
 use Rattle.model.proofs.Learning.{learn-at-cases, learn-place-cases}
 use Rattle.model.proofs.Status.{IsNode}
 use Rattle.model.proofs.Sound.{standing, Sound, id-fits}
-use Rattle.model.proofs.Delivering.{own, suffix-below}
+use Rattle.model.proofs.SoundNodes.{own, suffix-below}
 use Rattle.model.proofs.Replaced.{Agree, agree-node, agree-id, agree-count}
 use Rattle.model.proofs.Memory.{node-length}
 use Rattle.state.specs.Loaded.{Placed}
 use Rattle.learning.specs.declared.learner.Learner.{Learner}
 use Rattle.learning.specs.Learners.{NodeReadable, LearnerOf, TableReadable, Learns, LearnsTable}
-use Rattle.delivery_parts.specs.Delivers.{Delivers, Network, NodesIn, Meets, attaching}
+use Rattle.delivery_parts.specs.Delivers.{Delivers, Network, NodesIn, Meets}
 
 -- ---- a node can be read and learned
 
@@ -174,15 +175,15 @@ module _ (s : List ℕ) (n : Network s) (x : ℕ) (nx : IsNode s x) (r : Node) (
   }
 
 -- x has become notifying
-module _ (s t s₁ : List ℕ) (x y k told : ℕ) (d : Delivers s t x y) (e : s₁ ≡ withNode s x (attaching (idOf s x) k told)) where
-  pub meets-attaching : Meets s₁ t x y
-  meets-attaching =
+module _ (s t s₁ : List ℕ) (x y k notified : ℕ) (d : Delivers s t x y) (e : s₁ ≡ withNode s x (notifyingNode (nodeOf s x) k 0 notified)) where
+  pub meets-notifying : Meets s₁ t x y
+  meets-notifying =
       subst (λ (s : List ℕ). Meets s t x y) (sym e)
-      (meets-node s (network s t (d .sound)) x (d .sender) (attaching (idOf s x) k told) refl t y (meets s t x y d))
+      (meets-node s (network s t (d .sound)) x (d .sender) (notifyingNode (nodeOf s x) k 0 notified) refl t y (meets s t x y d))
 
-  pub placed-attaching : Placed s₁ x
-  placed-attaching = record {
-    long = meets-attaching .network .long;
+  pub placed-notifying : Placed s₁ x
+  placed-notifying = record {
+    long = meets-notifying .network .long;
     first = d .sender .low;
     last = omega (arith, d .sound .few, d .sender .high);
   }

@@ -4,6 +4,7 @@ use mathlib.Core.Bool.{cond}
 use mathlib.Core.List.{List, [], _∷_}
 use Rattle.model.specs.Join.{Delivery, delivered, kindCopied, kindSentOn, kindAttached, kindNotified}
 use Rattle.model.specs.Calls.{Outcome, taken, deliveryFields}
+use Rattle.state.specs.Lent.{memory}
 use Rattle.answers.specs.declared.Kind.{Kind}
 use Rattle.answers.specs.declared.Kind.the-variants.{Refused, Copied, SentOn, Attached, Notified}
 use Rattle.answers.specs.declared.DeliverAnswer.{DeliverAnswer}
@@ -22,8 +23,8 @@ answerFields r = kindFields (r .kind) (cond (r .settled) 1 0)
 
 -- the memory and the answer that a call leaves
 abbrev pub outcome : List ℕ → List ℕ → DeliverAnswer → Outcome
-outcome s t r = record { state = s; tables = t; out = []; answer = answerFields r }
+outcome s t r = record { memory = memory s t; out = []; answer = answerFields r }
 
 -- what the delivery d from x to y leaves
 unfoldable pub tookDelivery : List ℕ → List ℕ → ℕ → ℕ → Delivery → Outcome
-tookDelivery s t x y d = let m = delivered s t x y d in taken (m .state) (m .tables) [] (deliveryFields d)
+tookDelivery s t x y d = taken (delivered s t x y d) [] (deliveryFields d)

@@ -2,12 +2,12 @@
 use Prim.Native.Nat.{ℕ, _^_, _≤_, _<_}
 use mathlib.Core.Path.{_≡_}
 use mathlib.Core.Logic.{_≢_}
-use mathlib.Core.Bool.{Bool}
+use mathlib.Core.Bool.{Bool, true}
 use mathlib.Core.List.{List}
 use lib.Dec.{ltb}
 use lib.ListN.{length, getD}
 use Rattle.model.specs.Ids.{digitOf}
-use Rattle.model.specs.Memory.{depth, nodeCount, Node, idOf, notifying, tableOf, withTable, stateLength, tablesLength}
+use Rattle.model.specs.Memory.{depth, nodeCount, idOf, isAttached, tableOf, withTable, stateLength, tablesLength}
 use Rattle.model.specs.Tables.{entrySize}
 use Rattle.model.specs.Nodes.{suffixOf}
 use Rattle.model.specs.Learning.{learn, learnTable}
@@ -16,11 +16,12 @@ use Rattle.model.proofs.Status.{IsNode}
 use Rattle.model.proofs.Sound.{Sound}
 use Rattle.delivery_parts.specs.declared.room.SuffixEntry.{SuffixEntry}
 
--- a sound state, and two of its nodes
+-- a sound state, and two of its nodes, the receiver attached
 pub record Delivers (s t : List ℕ) (x y : ℕ) : Type 0 where
   pub sound : Sound s t
   pub sender : IsNode s x
   pub receiver : IsNode s y
+  pub attached : isAttached s y ≡ true
   pub other : y ≢ x
 
 -- a state whose nodes can be read and have different ids
@@ -59,14 +60,9 @@ abbrev pub exchanged : List ℕ → List ℕ → ℕ → ℕ → List ℕ
 exchanged s t x y = withTable (withTable t y (learn s y x (tableOf t y))) x (learnTable s x (tableOf t y) (tableOf t x))
 
 -- and after y has learned x, and x then y's table
-abbrev pub told : List ℕ → List ℕ → ℕ → ℕ → List ℕ
-told s t x y =
+abbrev pub notifiedTables : List ℕ → List ℕ → ℕ → ℕ → List ℕ
+notifiedTables s t x y =
     withTable (withTable t y (learn s y x (tableOf t y))) x (learnTable s x (learn s y x (tableOf t y)) (tableOf t x))
-
--- x's record when it has become notifying, before its asked set is known
-abbrev pub attaching : ℕ → ℕ → ℕ → Node
-attaching id level told =
-    record { id = id; status = notifying; level = level; target = 0; pending = 0; notified = told }
 
 -- level i of a table of depth K
 pub record Level (T : List ℕ) (K i : ℕ) : Type 0 where

@@ -48,12 +48,12 @@ pub fn gather_from(
     x: usize,
     z: usize,
     level: usize,
-    told: u64,
+    notified: u64,
     nodes: u64,
 ) -> u64
     requires { ⌜ Gathers (now state) (now tables) x z ⌝ }
-    ensures { λ r. ⌜ r ≡ join.gather (now (state .entry)) x level told (tableOf (now (tables .entry)) z) nodes ⌝ }
+    ensures { λ r. ⌜ r ≡ join.gather (now (state .entry)) x level notified (tableOf (now (tables .entry)) z) nodes ⌝ }
 {
     let owner = Learner::load(state, x);
-    gather(state, owner, level, told, part::lent(tables, z), nodes)
+    gather(state, owner, level, notified, part::lent(tables, z), nodes)
 }

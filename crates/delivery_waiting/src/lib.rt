@@ -1,21 +1,23 @@
 // A wait request to a settled node: "If E holds K, x learns y's table and the target becomes the first of E." Otherwise x attaches.
 ghost use mathlib.Core.Path.{_≡_};
 ghost use mathlib.Core.Bool.{true};
-ghost use Rattle.model.specs.Memory.{idOf, withNode, addNode, tableOf};
+ghost use Rattle.model.specs.Memory.{nodeOf, withNode, addNode, tableOf};
 ghost use Rattle.model.specs.Nodes.{suffixOf};
-ghost use Rattle.model.specs.Join.{gather, roomAtSuffix, firstAtSuffix, attachLevel, deliverSentOn, deliverAttached, deliverWaiting};
+ghost use Rattle.model.specs.Join.{notifyingNode, gather, roomAtSuffix, firstAtSuffix, attachLevel, deliverSentOn, deliverAttached, deliverWaiting};
+ghost use Rattle.state.specs.Loaded.{bookNode};
 ghost use Rattle.delivery_parts.specs.Answers.{outcome, tookDelivery};
-ghost use Rattle.delivery_parts.specs.Delivers.{Delivers, Meets, exchanged, attaching};
+ghost use Rattle.delivery_parts.specs.Delivers.{Delivers, Meets, exchanged};
 use answers::DeliverAnswer;
 use answers::Kind;
 use delivery_parts::meeting::gather_from;
 use delivery_parts::meeting::learn_from;
 use delivery_parts::meeting::learned;
 use delivery_parts::meeting::teach;
-use delivery_parts::nodes::joining_node;
 use delivery_parts::nodes::store_notifying;
 use delivery_parts::room::attach_level;
 use delivery_parts::room::suffix_entry;
+use state::next_record::joining_node;
+use state::next_record::notifying_node;
 use state::record;
 use state::record::Node;
 use state::sets;
@@ -27,9 +29,9 @@ fn send_on(state: &mut [u64], tables: &mut [u8], x: usize, y: usize, first: usiz
     requires { ⌜ first ≡ firstAtSuffix (now state) (tableOf (now tables) y) x y ⌝ }
     ensures { λ r. ⌜ outcome (now (state .exit)) (now (tables .exit)) r ≡ tookDelivery (now (state .entry)) (now (tables .entry)) x y (deliverSentOn (now (state .entry)) x y (tableOf (now (tables .entry)) x) (tableOf (now (tables .entry)) y)) ⌝ }
 {
-    let id = record::id(state, x);
+    let node = record::load(state, x);
     learn_from(state, tables, x, y);
-    record::store(state, x, joining_node(id, Status::WAITING, first));
+    record::store(state, x, joining_node(node, Status::WAITING, first));
     DeliverAnswer {
         kind: Kind::SentOn,
         settled: false,
@@ -47,35 +49,28 @@ fn exchange(state: &[u64], tables: &mut [u8], x: usize, y: usize)
 }
 
 // "The asked set is every member of x's table or y's that matches x in k digits or more and isn't x or told."
-fn to_ask(state: &[u64], tables: &[u8], x: usize, y: usize, level: usize, told: u64) -> u64
+fn to_notify(state: &[u64], tables: &[u8], x: usize, y: usize, level: usize, notified: u64) -> u64
     requires { ⌜ Meets (now state) (now tables) x y ⌝ }
-    ensures { λ r. ⌜ r ≡ gather (now (state .entry)) x level told (tableOf (now (tables .entry)) y) (gather (now (state .entry)) x level told (tableOf (now (tables .entry)) x) 0) ⌝ }
+    ensures { λ r. ⌜ r ≡ gather (now (state .entry)) x level notified (tableOf (now (tables .entry)) y) (gather (now (state .entry)) x level notified (tableOf (now (tables .entry)) x) 0) ⌝ }
 {
-    let own = gather_from(state, tables, x, x, level, told, sets::EMPTY);
-    gather_from(state, tables, x, y, level, told, own)
+    let own = gather_from(state, tables, x, x, level, notified, sets::EMPTY);
+    gather_from(state, tables, x, y, level, notified, own)
 }
 
-// "x becomes notifying with [the attach level] and target zero. .. The told set is y." Answers the level. From here on others learn x
-// from that level.
-fn start_notifying(state: &mut [u64], tables: &[u8], x: usize, y: usize) -> usize
+// "x becomes notifying with [the attach level] and target zero. .. The told set is y." r is x's record before. Answers the level. From here
+// on others learn x from that level.
+fn start_notifying(state: &mut [u64], tables: &[u8], x: usize, y: usize, r: Node) -> usize
     requires { ⌜ Delivers (now state) (now tables) x y ⌝ }
     requires { ⌜ roomAtSuffix (now state) (tableOf (now tables) y) x y ≡ true ⌝ }
-    ensures { λ r. ⌜ (r ≡ attachLevel (now (state .entry)) (tableOf (now (tables .entry)) y) x (suffixOf (now (state .entry)) x y)) × (now (state .exit) ≡ withNode (now (state .entry)) x (attaching (idOf (now (state .entry)) x) r (addNode 0 y))) ⌝ }
+    requires { ⌜ bookNode r ≡ nodeOf (now state) x ⌝ }
+    ensures { λ k. ⌜ (k ≡ attachLevel (now (state .entry)) (tableOf (now (tables .entry)) y) x (suffixOf (now (state .entry)) x y)) × (now (state .exit) ≡ withNode (now (state .entry)) x (notifyingNode (nodeOf (now (state .entry)) x) k 0 (addNode 0 y))) ⌝ }
 {
     let level = attach_level(state, tables, x, y);
-    let id = record::id(state, x);
-    let told = sets::add(sets::EMPTY, y);
+    let notified = sets::add(sets::EMPTY, y);
     record::store(
         state,
         x,
-        Node {
-            id,
-            status: Status::NOTIFYING,
-            level: level as u64,
-            target: 0,
-            pending: sets::EMPTY,
-            notified: told,
-        },
+        notifying_node(r, level as u64, sets::EMPTY, notified),
     );
     level
 }
@@ -85,11 +80,12 @@ fn attach(state: &mut [u64], tables: &mut [u8], x: usize, y: usize) -> DeliverAn
     requires { ⌜ roomAtSuffix (now state) (tableOf (now tables) y) x y ≡ true ⌝ }
     ensures { λ r. ⌜ outcome (now (state .exit)) (now (tables .exit)) r ≡ tookDelivery (now (state .entry)) (now (tables .entry)) x y (deliverAttached (now (state .entry)) x y (tableOf (now (tables .entry)) x) (tableOf (now (tables .entry)) y)) ⌝ }
 {
-    let level = start_notifying(state, tables, x, y);
+    let node = record::load(state, x);
+    let level = start_notifying(state, tables, x, y, node);
     exchange(state, tables, x, y);
-    let told = sets::add(sets::EMPTY, y);
-    let asked = to_ask(state, tables, x, y, level, told);
-    let settled = store_notifying(state, x, level as u64, asked, told);
+    let notified = sets::add(sets::EMPTY, y);
+    let pending = to_notify(state, tables, x, y, level, notified);
+    let settled = store_notifying(state, x, node, level as u64, pending, notified);
     DeliverAnswer {
         kind: Kind::Attached(level as u64),
         settled,

@@ -1,67 +1,70 @@
--- The two ends of founding, beginning and lookup: refused, or taken. Assumes nothing.
-use Prim.Native.Nat.{ℕ, _+_, _≤_}
-use mathlib.Core.Path.{_≡_, sym, ap, ap₂, _∙_}
+-- What the work of each call asks, where nothing refused it, and the fields that it answers. Assumes nothing.
+use Prim.Native.Nat.{ℕ, _≤_, _<_}
+use mathlib.Core.Path.{_≡_, refl, sym, ap, _∙_}
 use mathlib.Core.List.{List, [], _∷_}
 use lib.ListN.{length}
-use Rattle.model.specs.Memory.{Memory, digits, nodeCount, stateLength, tablesLength}
-use Rattle.model.specs.Join.{founded, begun}
-use Rattle.model.specs.Lookup as book
-use Rattle.model.specs.Refusals.{foundRefusal, beginRefusal, lookupRefusal}
-use Rattle.model.specs.Calls.{refused, taken, lookupFields, foundCall, beginCall, lookupCall}
-use Rattle.model.proofs.Calls.{taken-is, refused-is}
+use borrow.Author.Tests.{not-false}
+use Rattle.model.specs.Memory.{Memory, stateLength, tablesLength}
+use Rattle.model.specs.Lookup.{Lookup}
+use Rattle.model.specs.Consistency.{Verdict}
+use Rattle.model.specs.Calls.{lookupFields, verdictFields}
+use Rattle.model.specs.Image.{byteAt, imageOf}
+use Rattle.model.specs.Refusals.{foundRefusal, readRefusal, beginRefusal, deliverRefusal, lookupRefusal, verdictRefusal, writeRefusal}
+use Rattle.model.proofs.Refusals.{numbered, testOf, passed}
 use Rattle.model.proofs.Sound.{Sound}
 use Rattle.model.proofs.Status.{IsNode}
-use Rattle.model.proofs.Taken.{found-taken, begin-taken, lookup-taken}
+use Rattle.model.proofs.Delivered.{CanDeliver}
+use Rattle.model.proofs.Taken.{found-taken, read-taken, begin-taken, deliver-taken, lookup-taken, verdict-taken, write-taken}
+use Rattle.image_judging.proofs.Sentences.{counted-of}
 use Rattle.join.specs.Begins.{Begins}
-use Rattle.engine.specs.Outcomes.{leaves}
+use Rattle.image_loading.specs.Loads.{Loads}
 
--- what founding asks
-pub founds : (s t : List ℕ) (b d K id r : ℕ) → r ≡ foundRefusal s t b d K id → r ≡ 0 → (stateLength ≤ length s) × ((tablesLength ≤ length t) × (d ≤ 8))
-founds s t b d K id r e z =
-    let k = found-taken s t b d K id (sym e ∙ z) in
-    (k .long .state, (k .long .tables, k .range .digits-most))
+-- the fields of an answer, by what they are of
+pub one-field : (x y : ℕ) → x ≡ y → _≡_ {A = List ℕ} (x ∷ []) (y ∷ [])
+one-field x y e = ap (λ (x : ℕ). x ∷ []) e
 
-pub found-refused : (s t : List ℕ) (b d K id r : ℕ) → r ≡ foundRefusal s t b d K id → (r ≡ 0 → ⊥) → leaves s t (r ∷ []) ≡ foundCall s t b d K id
-unfolding foundCall refused
-found-refused s t b d K id r e nz =
-    ap (λ (n : ℕ). leaves s t (n ∷ [])) e ∙ sym (refused-is (foundRefusal s t b d K id) (refused s t [] 0) _ (λ z. nz (e ∙ z)))
+pub lookup-fields : (a b : Lookup) → a ≡ b → lookupFields a ≡ lookupFields b
+lookup-fields a b e = ap lookupFields e
 
-pub found-done : (s t s₁ t₁ : List ℕ) (b d K id r : ℕ) → r ≡ foundRefusal s t b d K id → r ≡ 0
-    → record { state = s₁; tables = t₁ } ≡ founded s t b d K id → leaves s₁ t₁ (0 ∷ []) ≡ foundCall s t b d K id
-unfolding foundCall taken
-found-done s t s₁ t₁ b d K id r e z w =
-    ap (λ (m : Memory). leaves (m .state) (m .tables) (0 ∷ [])) w
-    ∙ sym (taken-is (foundRefusal s t b d K id) (refused s t [] 0) _ (sym e ∙ z))
+pub verdict-fields : (a b : Verdict) → a ≡ b → verdictFields a ≡ verdictFields b
+verdict-fields a b e = ap verdictFields e
 
--- what beginning asks
-pub begins : (s t : List ℕ) (id g r : ℕ) → r ≡ beginRefusal s t id g → r ≡ 0 → Begins s t
-begins s t id g r e z =
-    let k = begin-taken s t id g (sym e ∙ z) in
-    record { state = k .0 .long .state; tables = k .0 .long .tables; digits = k .0 .settings .digits-most; room = k .1 .room }
+-- r is the refusal that the code found
+module _ (m : Memory) (r : ℕ) where
+  abbrev s : List ℕ
+  s = m .state
 
-pub begin-refused : (s t : List ℕ) (id g r : ℕ) → r ≡ beginRefusal s t id g → (r ≡ 0 → ⊥) → leaves s t (r ∷ 0 ∷ []) ≡ beginCall s t id g
-unfolding beginCall refused
-begin-refused s t id g r e nz =
-    ap (λ (n : ℕ). leaves s t (n ∷ 0 ∷ [])) e ∙ sym (refused-is (beginRefusal s t id g) (refused s t [] 1) _ (λ z. nz (e ∙ z)))
+  abbrev t : List ℕ
+  t = m .tables
 
-pub begin-done : (s t s₁ t₁ : List ℕ) (id g r x : ℕ) → r ≡ beginRefusal s t id g → r ≡ 0
-    → record { state = s₁; tables = t₁ } ≡ begun s t id g → x ≡ nodeCount s + 1 → leaves s₁ t₁ (0 ∷ x ∷ []) ≡ beginCall s t id g
-unfolding beginCall taken
-begin-done s t s₁ t₁ id g r x e z w q =
-    ap₂ (λ (m : Memory) (x : ℕ). leaves (m .state) (m .tables) (0 ∷ x ∷ [])) w q
-    ∙ sym (taken-is (beginRefusal s t id g) (refused s t [] 1) _ (sym e ∙ z))
+  pub founds : (b d K id : ℕ) → r ≡ foundRefusal m b d K id → r ≡ 0 → (stateLength ≤ length s) × ((tablesLength ≤ length t) × (d ≤ 8))
+  founds b d K id e z =
+      let k = found-taken m b d K id (sym e ∙ z) in
+      (k .long .state, (k .long .tables, k .range .digits-most))
 
--- what a lookup asks
-pub looks : (s t : List ℕ) (u z r : ℕ) → r ≡ lookupRefusal s t u z → r ≡ 0 → Sound s t × (IsNode s u × IsNode s z)
-looks s t u z r e n = let k = lookup-taken s t u z (sym e ∙ n) in (k .0, (k .1, k .2))
+  pub loads : (im : List ℕ) → ((a : ℕ) → byteAt im a < 256) → r ≡ readRefusal m im → r ≡ 0 → Loads s t im
+  unfolding readRefusal numbered testOf
+  loads im bytes e z =
+      let k = read-taken m im (sym e ∙ z) in
+      let p = passed _ refl (sym e ∙ z) in
+      record { state = k .0 .state; tables = k .0 .tables; counted = counted-of im bytes (not-false _ (p 5)) (p 6); readable = k .1 }
 
-pub lookup-refused : (s t : List ℕ) (u z r : ℕ) → r ≡ lookupRefusal s t u z → (r ≡ 0 → ⊥) → leaves s t (r ∷ 0 ∷ 0 ∷ 0 ∷ []) ≡ lookupCall s t u z
-unfolding lookupCall refused
-lookup-refused s t u z r e nz =
-    ap (λ (n : ℕ). leaves s t (n ∷ 0 ∷ 0 ∷ 0 ∷ [])) e ∙ sym (refused-is (lookupRefusal s t u z) (refused s t [] 3) _ (λ q. nz (e ∙ q)))
+  pub begins : (id g : ℕ) → r ≡ beginRefusal m id g → r ≡ 0 → Begins s t
+  begins id g e z =
+      let k = begin-taken m id g (sym e ∙ z) in
+      record { state = k .0 .long .state; tables = k .0 .long .tables; digits = k .0 .settings .digits-most; room = k .1 .room }
 
-pub lookup-done : (s t : List ℕ) (u z r : ℕ) (l : book.Lookup) → r ≡ lookupRefusal s t u z → r ≡ 0 → l ≡ book.lookup s t u z
-    → leaves s t (0 ∷ l .arrived ∷ l .hops ∷ l .last ∷ []) ≡ lookupCall s t u z
-unfolding lookupCall taken
-lookup-done s t u z r l e n w =
-    ap (λ (l : book.Lookup). leaves s t (0 ∷ lookupFields l)) w ∙ sym (taken-is (lookupRefusal s t u z) (refused s t [] 3) _ (sym e ∙ n))
+  pub delivers : (x y : ℕ) → r ≡ deliverRefusal m x y → r ≡ 0 → Sound s t × CanDeliver s x y
+  delivers x y e z = deliver-taken m x y (sym e ∙ z)
+
+  pub looks : (u z : ℕ) → r ≡ lookupRefusal m u z → r ≡ 0 → Sound s t × (IsNode s u × IsNode s z)
+  looks u z e n = let k = lookup-taken m u z (sym e ∙ n) in (k .0, (k .1, k .2))
+
+  pub judges : r ≡ verdictRefusal m → r ≡ 0 → Sound s t
+  judges e z = verdict-taken m (sym e ∙ z) .0
+
+  pub write-sound : (out : List ℕ) → r ≡ writeRefusal m out → r ≡ 0 → Sound s t
+  write-sound out e z = write-taken m out (sym e ∙ z) .0
+
+  pub write-fits : (out : List ℕ) → r ≡ writeRefusal m out → r ≡ 0 → length (imageOf s t) ≤ length out
+  write-fits out e z = write-taken m out (sym e ∙ z) .2

@@ -2,6 +2,7 @@
 ghost use mathlib.Core.Path.{_≡_};
 ghost use mathlib.Core.List.{[], _∷_};
 ghost use Rattle.model.specs.Calls.{foundCall};
+ghost use Rattle.state.specs.Lent.{memory};
 ghost use Rattle.engine.specs.Outcomes.{leaves};
 
 // Makes node 1 of a new network in the lent memory, whatever it held. Answers the refusal: 1, 5 or 7, or 0.
@@ -13,7 +14,7 @@ pub fn found(
     depth: u64,
     id: u32,
 ) -> u64
-    ensures { λ r. ⌜ leaves (now (state .exit)) (now (tables .exit)) (r ∷ []) ≡ foundCall (now (state .entry)) (now (tables .entry)) base digits depth id ⌝ }
+    ensures { λ r. ⌜ leaves (memory (now (state .exit)) (now (tables .exit))) (r ∷ []) ≡ foundCall (memory (now (state .entry)) (now (tables .entry))) base digits depth id ⌝ }
 {
     let r = refusals::founding::refusal(state, tables, base, digits, depth, id);
     if r != 0 {

@@ -3,12 +3,13 @@ ghost use mathlib.Core.Path.{_≡_};
 ghost use mathlib.Core.Bool.{cond};
 ghost use mathlib.Core.List.{[], _∷_};
 ghost use Rattle.model.specs.Calls.{lookupCall};
+ghost use Rattle.state.specs.Lent.{memory};
 ghost use Rattle.engine.specs.Outcomes.{leaves};
 use answers::LookupAnswer;
 
 // Follows the lookup from one node to another. Refusals: 1, 2, 9.
 pub fn lookup(state: &[u64], tables: &[u8], from: u64, to: u64) -> LookupAnswer
-    ensures { λ r. ⌜ leaves (now (state .entry)) (now (tables .entry)) (r .refusal ∷ cond (r .arrived) 1 0 ∷ r .hops ∷ r .last ∷ []) ≡ lookupCall (now (state .entry)) (now (tables .entry)) from to ⌝ }
+    ensures { λ r. ⌜ leaves (memory (now (state .entry)) (now (tables .entry))) (r .refusal ∷ cond (r .arrived) 1 0 ∷ r .hops ∷ r .last ∷ []) ≡ lookupCall (memory (now (state .entry)) (now (tables .entry))) from to ⌝ }
 {
     let r = refusals::lookup::refusal(state, tables, from, to);
     if r != 0 {

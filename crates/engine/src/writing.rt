@@ -2,12 +2,13 @@
 ghost use mathlib.Core.Path.{_≡_};
 ghost use mathlib.Core.List.{[], _∷_};
 ghost use Rattle.model.specs.Calls.{writeCall};
+ghost use Rattle.state.specs.Lent.{memory};
 ghost use Rattle.engine.specs.Outcomes.{writes};
 use answers::WriteAnswer;
 
 // Writes the image to out. Refusals: 1, 2, 15, 16.
 pub fn write(state: &[u64], tables: &[u8], out: &mut [u8]) -> WriteAnswer
-    ensures { λ r. ⌜ writes (now (state .entry)) (now (tables .entry)) (now (out .exit)) (r .refusal ∷ r .image_length ∷ []) ≡ writeCall (now (state .entry)) (now (tables .entry)) (now (out .entry)) ⌝ }
+    ensures { λ r. ⌜ writes (memory (now (state .entry)) (now (tables .entry))) (now (out .exit)) (r .refusal ∷ r .image_length ∷ []) ≡ writeCall (memory (now (state .entry)) (now (tables .entry))) (now (out .entry)) ⌝ }
 {
     let r = refusals::writing::refusal(state, tables, out);
     if r != 0 {

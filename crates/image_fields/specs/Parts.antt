@@ -5,6 +5,7 @@ use mathlib.Core.List.{List}
 use lib.ListN.{length}
 use Rattle.model.specs.Image.{byteAt, imBase, imDigits, imDepth, imNodes, imRecords}
 use Rattle.model.specs.Image.{recNode, recLevel, recDigit, recNeighbor}
+use Rattle.model.proofs.RecordRules.{entryKey}
 use Rattle.image_fields.specs.declared.header.Header.{Header}
 use Rattle.image_fields.specs.declared.record.Record.{Record}
 
@@ -50,10 +51,6 @@ pub record Small (e : Record) : Type 0 where
   pub level : e .level < 256
   pub digit : e .digit < 256
   pub neighbor : e .neighbor < 256
-
--- an entry as one number: it rises with node, level and digit, each a byte
-abbrev pub entryKey : ℕ → ℕ → ℕ → ℕ
-entryKey x i j = 65536 * x + 256 * i + j
 
 -- the entry of a record that the code holds
 abbrev pub keyOf : Record → ℕ

@@ -8,12 +8,13 @@ use native.Mathlib.Omega.{arith}
 use lib.Dec.{eqb}
 use lib.ListN.{length, getD, set, replicate, length-set, length-replicate, getD-replicate}
 use lib.Seq.{getD-set-same, getD-set-other}
-use borrow.Author.Tests.{eq-eqb, ne-eqb, ltb-true}
+use borrow.Author.Tests.{eq-eqb, ne-eqb}
 use Rattle.model.specs.Loops.{allBelow, anyBelow, node}
 use Rattle.model.specs.Ids.{digitOf}
-use Rattle.model.specs.Image.{imDigits, imNodes, imRecords, imId, recNode, recLevel, recOrdered, recOwn, recOfOwn, ownHasRecord, ownHaveRecords}
+use Rattle.model.specs.Image.{imDigits, imNodes, imRecords, imId, recNode, recLevel, recOwn, recOfOwn, ownHasRecord, ownHaveRecords}
 use Rattle.model.proofs.Bools.{and-left, and-intro}
 use Rattle.model.proofs.Loops.{all-at, all-same, any-zero, any-step}
+use Rattle.model.proofs.RecordRules.{in-order}
 use Rattle.image_fields.specs.Parts.{CountsRight, Headed, ImageNode, RecordOf}
 use Rattle.image_judging.specs.Judged.{RecordsNamed, recGood}
 use Rattle.image_judging.specs.Marks.{ownPlace, isMarked, levelsMarked, markedBy, RecordsGood, Marks}
@@ -23,8 +24,8 @@ use Rattle.image_judging.proofs.Rules.{owner-node, owner-held}
 
 -- the level of a record that keeps its order
 pub level-below : (im : List ℕ) → RecordsGood im → (r : ℕ) → r < imRecords im → recLevel im r < imDigits im
-unfolding recGood recOrdered
-level-below im s r l = ltb-true _ (imDigits im) (and-left _ _ (and-left _ _ (all-at (imRecords im) (recGood im) (s .good) r l)))
+unfolding recGood
+level-below im s r l = in-order im r (and-left _ _ (all-at (imRecords im) (recGood im) (s .good) r l)) .level
 
 pub marks-none : (im : List ℕ) → Marks im 0 (replicate 512 0)
 unfolding isMarked

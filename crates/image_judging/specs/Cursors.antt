@@ -13,7 +13,8 @@ use Rattle.image_fields.specs.declared.record.Record.{Record}
 use Rattle.image_judging.specs.declared.cursor.Cursor.{Cursor}
 use Rattle.image_judging.specs.declared.cursor.Finding.{Finding}
 use Rattle.image_judging.specs.declared.cursor.Finding.the-variants.{Good, Disordered, Forbidden, OwnerNotFirst}
-use Rattle.image_fields.specs.Parts.{entryKey, keyOf}
+use Rattle.model.proofs.RecordRules.{entryKey}
+use Rattle.image_fields.specs.Parts.{keyOf}
 
 -- the entry of record r
 unfoldable pub recKey : List ℕ → ℕ → ℕ

@@ -3,25 +3,25 @@ use Prim.Native.Nat.{ℕ, _+_}
 use mathlib.Core.Path.{_≡_, ap, ap₂, _∙_}
 use mathlib.Core.List.{List}
 use lib.ListN.{set}
-use Rattle.model.specs.Memory.{digits, nodeCount, copying, zeroed, withNode, withTable, stateLength, tablesLength}
+use Rattle.model.specs.Memory.{Node as Record, digits, nodeCount, copying, zeroed, withNode, withTable, stateLength, tablesLength}
 use Rattle.model.specs.Tables.{ownTable}
-use Rattle.model.specs.Join.{withSettings, inSystemNode, joiningNode, founded, begun}
+use Rattle.model.specs.Join.{withSettings, newNode, joiningNode, founded, begun}
 use Rattle.state.specs.Lent.{memory}
 
-pub founded-is : (s t s₁ t₁ s₂ s₃ t₂ : List ℕ) (b d K id : ℕ) → s₁ ≡ zeroed stateLength s → t₁ ≡ zeroed tablesLength t → s₂ ≡ withSettings s₁ b d K 1
-    → s₃ ≡ withNode s₂ 1 (inSystemNode id) → t₂ ≡ withTable t₁ 1 (ownTable d id 1) → memory s₃ t₂ ≡ founded s t b d K id
+pub founded-is : (s t s₁ t₁ s₂ s₃ t₂ : List ℕ) (b d K id : ℕ) (r : Record) → s₁ ≡ zeroed stateLength s → t₁ ≡ zeroed tablesLength t → s₂ ≡ withSettings s₁ b d K 1
+    → r ≡ newNode id → s₃ ≡ withNode s₂ 1 r → t₂ ≡ withTable t₁ 1 (ownTable d id 1) → memory s₃ t₂ ≡ founded s t b d K id
 unfolding founded
-founded-is s t s₁ t₁ s₂ s₃ t₂ b d K id e₁ f₁ e₂ e₃ f₂ =
-    ap₂ memory (e₃ ∙ ap (λ (s : List ℕ). withNode s 1 (inSystemNode id)) (e₂ ∙ ap (λ (s : List ℕ). withSettings s b d K 1) e₁))
+founded-is s t s₁ t₁ s₂ s₃ t₂ b d K id r e₁ f₁ e₂ er e₃ f₂ =
+    ap₂ memory (e₃ ∙ ap₂ (λ (s : List ℕ) (r : Record). withNode s 1 r) (e₂ ∙ ap (λ (s : List ℕ). withSettings s b d K 1) e₁) er)
     (f₂ ∙ ap (λ (t : List ℕ). withTable t 1 (ownTable d id 1)) f₁)
 
-pub begun-is : (s t s₁ s₂ t₁ : List ℕ) (n d id gateway : ℕ) → n ≡ nodeCount s → d ≡ digits s → s₁ ≡ set s 3 (n + 1)
-    → s₂ ≡ withNode s₁ (n + 1) (joiningNode id copying gateway) → t₁ ≡ withTable t (n + 1) (ownTable d id (n + 1))
+pub begun-is : (s t s₁ s₂ t₁ : List ℕ) (n d id gateway : ℕ) (a r : Record) → n ≡ nodeCount s → d ≡ digits s → s₁ ≡ set s 3 (n + 1)
+    → a ≡ newNode id → r ≡ joiningNode a copying gateway → s₂ ≡ withNode s₁ (n + 1) r → t₁ ≡ withTable t (n + 1) (ownTable d id (n + 1))
     → memory s₂ t₁ ≡ begun s t id gateway
 unfolding begun
-begun-is s t s₁ s₂ t₁ n d id gateway en ed e₁ e₂ f =
+begun-is s t s₁ s₂ t₁ n d id gateway a r en ed e₁ ea er e₂ f =
     ap₂ memory
     (e₂
-    ∙ ap (λ (s : List ℕ). withNode s (n + 1) (joiningNode id copying gateway)) e₁
-    ∙ ap (λ (n : ℕ). withNode (set s 3 (n + 1)) (n + 1) (joiningNode id copying gateway)) en)
+    ∙ ap₂ (λ (s : List ℕ) (r : Record). withNode s (n + 1) r) e₁ (er ∙ ap (λ (a : Record). joiningNode a copying gateway) ea)
+    ∙ ap (λ (n : ℕ). withNode (set s 3 (n + 1)) (n + 1) (joiningNode (newNode id) copying gateway)) en)
     (f ∙ ap₂ (λ (n d : ℕ). withTable t (n + 1) (ownTable d id (n + 1))) en ed)

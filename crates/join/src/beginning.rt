@@ -5,9 +5,9 @@ ghost use Rattle.model.specs.Memory.{nodeCount};
 ghost use Rattle.model.specs.Join.{begun};
 ghost use Rattle.state.specs.Lent.{memory};
 ghost use Rattle.join.specs.Begins.{Begins};
+use state::next_record::joining_node;
+use state::next_record::new_node;
 use state::record;
-use state::record::Node;
-use state::sets;
 use state::settings;
 use state::status::Status;
 use tables::own;
@@ -20,18 +20,8 @@ pub fn begin(state: &mut [u64], tables: &mut [u8], id: u32, gateway: usize) -> u
     let s = settings::load(state);
     let x = s.nodes + 1;
     settings::store_nodes(state, x);
-    record::store(
-        state,
-        x,
-        Node {
-            id: id as u64,
-            status: Status::COPYING,
-            level: 0,
-            target: gateway as u64,
-            pending: sets::EMPTY,
-            notified: sets::EMPTY,
-        },
-    );
+    let node = joining_node(new_node(id), Status::COPYING, gateway);
+    record::store(state, x, node);
     own::write_own(tables, s.digits, id, x);
     x
 }

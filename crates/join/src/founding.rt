@@ -5,12 +5,10 @@ ghost use lib.ListN.{length};
 ghost use Rattle.model.specs.Join.{founded};
 ghost use Rattle.model.specs.Memory.{stateLength, tablesLength};
 ghost use Rattle.state.specs.Lent.{memory};
+use state::next_record::new_node;
 use state::record;
-use state::record::Node;
-use state::sets;
 use state::settings;
 use state::settings::Settings;
-use state::status::Status;
 use tables::own;
 
 pub fn found(
@@ -37,17 +35,6 @@ pub fn found(
             nodes: 1,
         },
     );
-    record::store(
-        state,
-        1,
-        Node {
-            id: id as u64,
-            status: Status::IN_SYSTEM,
-            level: 0,
-            target: 0,
-            pending: sets::EMPTY,
-            notified: sets::EMPTY,
-        },
-    );
+    record::store(state, 1, new_node(id));
     own::write_own(tables, digits, id, 1);
 }

@@ -45,6 +45,8 @@ and-left a b e = and-eq-true-iff a b .0 e .0
 pub and-right : (a b : Bool) → (a && b) ≡ true → b ≡ true
 and-right a b e = and-eq-true-iff a b .0 e .1
 
+pub ruleset parts = (and-left, and-right)
+
 pub and-intro : (a b : Bool) → a ≡ true → b ≡ true → (a && b) ≡ true
 and-intro a b e q = and-eq-true-iff a b .1 (e, q)
 

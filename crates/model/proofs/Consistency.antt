@@ -22,7 +22,7 @@ use Rattle.model.proofs.Ids.{qualified-of, valid-digit}
 use Rattle.model.proofs.Tables.{size-le, size-filled, size-least, entry-length, entry-at}
 use Rattle.model.proofs.Status.{IsNode, is-node, is-node-of}
 use Rattle.model.proofs.Sound.{Sound, table-fits}
-use Rattle.model.proofs.Delivering.{suffix-below}
+use Rattle.model.proofs.SoundNodes.{suffix-below}
 use Rattle.model.proofs.Lookup.{walk, arrives-is, lookup-hop}
 
 -- a node that qualifies counts

@@ -1,20 +1,21 @@
 -- The fields of every answer but the length of a written image are below 256. Assumes nothing.
 use Prim.Native.Nat.{ℕ, zero, suc, _+_, _≤_, _<_}
-use mathlib.Core.Path.{_≡_, refl, sym, subst}
+use mathlib.Core.Path.{_≡_, refl}
 use mathlib.Core.Bool.{Bool, true, false, cond}
 use mathlib.Core.List.{List, [], _∷_}
 use native.Mathlib.Omega.{arith}
 use lib.Dec.{eqb}
 use lib.ListN.{replicate}
 use Rattle.model.specs.Loops.{firstBelow, node}
-use Rattle.model.specs.Memory.{base, digits, nodeCount, statusOf, inSystem, copying, waiting, tableOf}
+use Rattle.model.specs.Memory.{Memory, base, digits, nodeCount, statusOf, inSystem, copying, waiting, tableOf}
 use Rattle.model.specs.Nodes.{suffixOf}
 use Rattle.model.specs.Join.{Delivery, roomAtSuffix, attachLevel, deliverCopying, deliverSentOn, deliverAttached, deliverWaiting, deliverNotifying, delivery}
 use Rattle.model.specs.Lookup.{lookup}
 use Rattle.model.specs.Consistency.{consistent, nodeShort, levelShort, entryShort, firstShort, verdict}
-use Rattle.model.specs.Refusals.{refuse, stateRefusal, beginSentences, beginRefusal, deliverRefusal, lookupRefusal, verdictRefusal, imageRefusal, readRefusal}
-use Rattle.model.specs.Calls.{Outcome, refused, taken, unlessRefused, deliveryFields, verdictFields, readCall, beginCall, deliverCall, lookupCall, verdictCall}
-use Rattle.model.proofs.Calls.{refused-is}
+use Rattle.model.specs.Refusals.{Sentence, firstTrue, beginRefusal, deliverRefusal, lookupRefusal, verdictRefusal, readRefusal}
+use Rattle.model.specs.Calls.{Outcome, refusedAt, refused, taken, unlessRefused, deliveryFields, verdictFields, readCall, beginCall, deliverCall, lookupCall, verdictCall}
+use Rattle.model.proofs.Refusals.{numbered, first-below}
+use Rattle.model.proofs.Calls.{either-end}
 use Rattle.model.proofs.Loops.{first-le}
 use Rattle.model.proofs.Ids.{suffix-le}
 use Rattle.model.proofs.Status.{IsNode}
@@ -34,47 +35,22 @@ unfolding Bytes
 zeros zero = _
 zeros (suc n) = (omega arith, zeros n)
 
-bytes-unless : (n k : ℕ) (s t out : List ℕ) (done : Outcome) → n < 256 → (n ≡ 0 → Bytes (done .answer))
-    → Bytes (unlessRefused n (refused s t out k) done .answer)
-unfolding Bytes unlessRefused refused
-bytes-unless zero k s t out done h f = f refl
-bytes-unless (suc n) k s t out done h f =
-    subst (λ (o : Outcome). Bytes (o .answer)) (sym (refused-is (suc n) (refused s t out k) done (λ e. absurd (omega arith)))) (h, zeros k)
+bytes-unless : (m : Memory) (out : List ℕ) (cs : List Sentence) (k : ℕ) (done : Outcome) → numbered cs ≡ true → (firstTrue cs ≡ 0 → Bytes (done .answer))
+    → Bytes (unlessRefused (firstTrue cs) (refused m out k) done .answer)
+unfolding Bytes refusedAt
+bytes-unless m out cs k done g f =
+    either-end (λ (o : Outcome). Bytes (o .answer)) (firstTrue cs) (refused m out k) done (λ nz. (first-below cs g, zeros k)) f
 
-refuse-below : (test : Bool) (n later : ℕ) → n < 256 → later < 256 → refuse test n later < 256
-unfolding refuse
-refuse-below true n later h g = h
-refuse-below false n later h g = g
-
-state-below : (s t : List ℕ) (later : ℕ) → later < 256 → stateRefusal s t later < 256
-unfolding stateRefusal
-state-below s t later h = refuse-below _ 1 _ (omega arith) (refuse-below _ 2 later (omega arith) h)
-
-pub bit-below : (b : Bool) → cond b 1 0 < 256
+bit-below : (b : Bool) → cond b 1 0 < 256
 bit-below true = omega arith
 bit-below false = omega arith
 
 -- ---- the answers
 
-begin-below : (s t : List ℕ) (id g : ℕ) → beginRefusal s t id g < 256
-unfolding beginRefusal beginSentences
-begin-below s t id g =
-    state-below s t _
-    (refuse-below _ 7 _ (omega arith)
-    (refuse-below _ 8 _ (omega arith)
-    (refuse-below _ 9 _ (omega arith) (refuse-below _ 11 _ (omega arith) (refuse-below _ 12 0 (omega arith) (omega arith))))))
-
-pub begin-bytes : (s t : List ℕ) (id g : ℕ) → Bytes (beginCall s t id g .answer)
-unfolding Bytes beginCall taken
-begin-bytes s t id g =
-    bytes-unless (beginRefusal s t id g) 1 s t [] _ (begin-below s t id g)
-    (λ z. let c = begin-taken s t id g z in (omega arith, (omega (arith, c .1 .room), _)))
-
-deliver-below : (s t : List ℕ) (x y : ℕ) → deliverRefusal s t x y < 256
-unfolding deliverRefusal
-deliver-below s t x y =
-    state-below s t _
-    (refuse-below _ 9 _ (omega arith) (refuse-below _ 13 _ (omega arith) (refuse-below _ 14 0 (omega arith) (omega arith))))
+pub begin-bytes : (m : Memory) (id g : ℕ) → Bytes (beginCall m id g .answer)
+unfolding Bytes beginRefusal beginCall taken numbered
+begin-bytes m id g =
+    bytes-unless m [] _ 1 _ refl (λ z. let c = begin-taken m id g z in (omega arith, (omega (arith, c .1 .room), _)))
 
 attach-below : (s T : List ℕ) (x y : ℕ) → digits s ≤ 8 → attachLevel s T x (suffixOf s x y) < 256
 unfolding attachLevel
@@ -102,15 +78,11 @@ delivery-bytes s t x y h = go (eqb (statusOf s x) copying) (eqb (statusOf s x) w
     go false true false = fit (deliverSentOn s x y (tableOf t x) (tableOf t y)) (omega arith) (omega arith)
     go false false c = fit (deliverNotifying s x y (tableOf t x) (tableOf t y)) (omega arith) (omega arith)
 
-pub deliver-bytes : (s t : List ℕ) (x y : ℕ) → Bytes (deliverCall s t x y .answer)
-unfolding Bytes deliverCall taken
-deliver-bytes s t x y =
-    bytes-unless (deliverRefusal s t x y) 3 s t [] _ (deliver-below s t x y)
-    (λ z. (omega arith, delivery-bytes s t x y (deliver-taken s t x y z .0 .settings .digits-most)))
-
-lookup-below : (s t : List ℕ) (u z : ℕ) → lookupRefusal s t u z < 256
-unfolding lookupRefusal
-lookup-below s t u z = state-below s t _ (refuse-below _ 9 0 (omega arith) (omega arith))
+pub deliver-bytes : (m : Memory) (x y : ℕ) → Bytes (deliverCall m x y .answer)
+unfolding Bytes deliverRefusal deliverCall taken numbered
+deliver-bytes m x y =
+    bytes-unless m [] _ 3 _ refl
+    (λ z. (omega arith, delivery-bytes (m .state) (m .tables) x y (deliver-taken m x y z .0 .settings .digits-most)))
 
 -- a lookup arrives or not, and ends at a node
 ends : (s t : List ℕ) → Sound s t → (z : ℕ) → IsNode s z → (u : ℕ) → IsNode s u
@@ -121,37 +93,21 @@ ends s t S z nz =
     (λ u nu e q. rw (loses-is (digits s) s t u z e q) (omega arith, nu .high))
     (λ u nu e q ih. rw (lookup-hop s t S z nz u nu e q) ih)
 
-pub lookup-bytes : (s t : List ℕ) (u z : ℕ) → Bytes (lookupCall s t u z .answer)
-unfolding Bytes lookupCall taken
-lookup-bytes s t u z =
-    bytes-unless (lookupRefusal s t u z) 3 s t [] _ (lookup-below s t u z)
+pub lookup-bytes : (m : Memory) (u z : ℕ) → Bytes (lookupCall m u z .answer)
+unfolding Bytes lookupRefusal lookupCall taken numbered
+lookup-bytes m u z =
+    bytes-unless m [] _ 3 _ refl
     (λ q.
-    let c = lookup-taken s t u z q in
-    let e = ends s t (c .0) z (c .2) u (c .1) in
-    let h = hops-bound s t (c .0) z (c .2) u (c .1) in
-    let few : nodeCount s ≤ 64 = c .0 .few in
-    let most : digits s ≤ 8 = c .0 .settings .digits-most in
+    let c = lookup-taken m u z q in
+    let e = ends (m .state) (m .tables) (c .0) z (c .2) u (c .1) in
+    let h = hops-bound (m .state) (m .tables) (c .0) z (c .2) u (c .1) in
+    let few : nodeCount (m .state) ≤ 64 = c .0 .few in
+    let most : digits (m .state) ≤ 8 = c .0 .settings .digits-most in
     (omega arith, (omega (arith, e .0), (omega (arith, h, most), (omega (arith, e .1, few), _)))))
 
-read-below : (s t im : List ℕ) → readRefusal s t im < 256
-unfolding readRefusal imageRefusal
-read-below s t im =
-    refuse-below _ 1 _ (omega arith)
-    (refuse-below _ 3 _ (omega arith)
-    (refuse-below _ 4 _ (omega arith)
-    (refuse-below _ 5 _ (omega arith)
-    (refuse-below _ 6 _ (omega arith)
-    (refuse-below _ 7 _ (omega arith)
-    (refuse-below _ 8 _ (omega arith)
-    (refuse-below _ 9 _ (omega arith) (refuse-below _ 10 0 (omega arith) (omega arith)))))))))
-
-pub read-bytes : (s t im : List ℕ) → Bytes (readCall s t im .answer)
-unfolding Bytes readCall taken
-read-bytes s t im = bytes-unless (readRefusal s t im) 0 s t [] _ (read-below s t im) (λ z. (omega arith, _))
-
-verdict-below : (s t : List ℕ) → verdictRefusal s t < 256
-unfolding verdictRefusal
-verdict-below s t = state-below s t _ (refuse-below _ 15 0 (omega arith) (omega arith))
+pub read-bytes : (m : Memory) (im : List ℕ) → Bytes (readCall m im .answer)
+unfolding Bytes readRefusal readCall taken numbered
+read-bytes m im = bytes-unless m [] _ 0 _ refl (λ z. (omega arith, _))
 
 judged-bytes : (s t : List ℕ) → Sound s t → Bytes (verdictFields (verdict s t))
 unfolding Bytes verdict firstShort
@@ -174,7 +130,7 @@ judged-bytes s t S = go (consistent s t)
         let broad : base s ≤ 16 = S .settings .base-most in
         (omega arith, (omega (arith, n, few), (omega (arith, l, most), (omega (arith, j, broad), _))))
 
-pub verdict-bytes : (s t : List ℕ) → Bytes (verdictCall s t .answer)
-unfolding Bytes verdictCall taken
-verdict-bytes s t =
-    bytes-unless (verdictRefusal s t) 4 s t [] _ (verdict-below s t) (λ z. (omega arith, judged-bytes s t (verdict-taken s t z .0)))
+pub verdict-bytes : (m : Memory) → Bytes (verdictCall m .answer)
+unfolding Bytes verdictRefusal verdictCall taken numbered
+verdict-bytes m =
+    bytes-unless m [] _ 4 _ refl (λ z. (omega arith, judged-bytes (m .state) (m .tables) (verdict-taken m z .0)))

@@ -1,24 +1,25 @@
 -- The frame of an image, its first bytes and its length: what reading asks of it beside the rules, both ways. Assumes nothing.
 use Prim.Native.Nat.{ℕ, _+_, _-_, _*_, _≤_, _<_}
-use mathlib.Core.Path.{_≡_, refl, ap, ap₂}
-use mathlib.Core.Bool.{Bool, true, false, not, _||_, true≢false}
-use mathlib.Core.List.{List}
+use mathlib.Core.Path.{_≡_, refl, sym, ap, ap₂}
+use mathlib.Core.Bool.{true, false, not, _||_}
+use mathlib.Core.List.{List, []}
 use native.Mathlib.Omega.{arith}
 use lib.Dec.{eqb, ltb, leb}
 use lib.ListN.{length}
 use borrow.Author.Tests.{eqb-true, eq-eqb, ne-eqb, le-ltb, leb-true, le-leb, not-false}
 use Rattle.model.specs.Loops.{allBelow, node}
 use Rattle.model.specs.Ids.{settingsInRange}
-use Rattle.model.specs.Memory.{stateLength, tablesLength}
+use Rattle.model.specs.Memory.{Memory}
 use Rattle.model.specs.Image.{byteAt, imBase, imDigits, imDepth, imNodes, imRecords, imId, lengthRight, imIdValid, imIdDiffers, imIdNew, recNode, recNeighbor, recNodesGood, recOrdered, recAllowed, recOwnerFirst, ownHaveRecords, recordsGood}
-use Rattle.model.specs.Refusals.{refuse, memoryShort, noSettings, otherVersion, countsWrong, imageRefusal, readRefusal}
+use Rattle.model.specs.Refusals.{firstTrue, memoryShort, noSettings, otherVersion, countsWrong, imageSentences, readRefusal}
 use Rattle.model.proofs.Bools.{and-left, and-right, and-intro, or-none-right}
-use Rattle.model.proofs.Refusals.{passed}
+use Rattle.model.proofs.Refusals.{numbered, testOf, passed, free, first-none}
 use Rattle.model.proofs.Loops.{all-of}
 use Rattle.model.proofs.Nodes.{nodes-of}
 use Rattle.model.proofs.Ids.{settings-of}
 use Rattle.model.proofs.Sound.{Long}
 use Rattle.model.proofs.Loading.{GoodImage}
+use Rattle.model.proofs.Taken.{not-short}
 
 pub record Framed (im : List ℕ) : Type 0 where
   pub first : byteAt im 0 ≡ 4
@@ -27,12 +28,6 @@ pub record Framed (im : List ℕ) : Type 0 where
   pub short : length im ≤ 65535
 
 -- ---- such an image is not refused
-
--- a sentence that does not refuse, and none after it does
-free : (test : Bool) (n later : ℕ) → test ≡ false → later ≡ 0 → refuse test n later ≡ 0
-unfolding refuse
-free false n later e z = z
-free true n later e z = absurd (true≢false e)
 
 module _ (im : List ℕ) (F : Framed im) (R : GoodImage im) where
   settings-there : noSettings im ≡ false
@@ -65,8 +60,7 @@ module _ (im : List ℕ) (F : Framed im) (R : GoodImage im) where
       (and-intro _ _ (all-of (imRecords im) (recAllowed im) (R .allowed))
       (and-intro _ _ (all-of (imRecords im) (recOwnerFirst im) (R .owner-first)) (nodes-of (imNodes im) (ownHaveRecords im) (R .own))))
 
-  pub image-free : imageRefusal im ≡ 0
-  unfolding imageRefusal
+  image-free : firstTrue (imageSentences im) ≡ 0
   image-free =
       free (noSettings im) 3 _ settings-there
       (free (otherVersion im) 4 _ (ap not (eq-eqb _ 1 (F .version)))
@@ -75,31 +69,25 @@ module _ (im : List ℕ) (F : Framed im) (R : GoodImage im) where
       (free (not (allBelow (imNodes im) (node (imIdValid im)))) 7 _ (ap not (nodes-of (imNodes im) (imIdValid im) (R .ids)))
       (free (not (allBelow (imNodes im) (node (imIdNew im)))) 8 _ (ap not (nodes-of (imNodes im) (imIdNew im) ids-new))
       (free (not (allBelow (imRecords im) (recNodesGood im))) 9 _ (ap not (all-of (imRecords im) (recNodesGood im) nodes-good))
-      (free (not (recordsGood im)) 10 0 (ap not rules-kept) refl)))))))
+      (free (not (recordsGood im)) 10 [] (ap not rules-kept) (sym first-none))))))))
 
-  pub read-free : (s t : List ℕ) → Long s t → readRefusal s t im ≡ 0
+  pub read-free : (m : Memory) → Long (m .state) (m .tables) → readRefusal m im ≡ 0
   unfolding readRefusal
-  read-free s t l =
-      free (memoryShort s t) 1 (imageRefusal im)
-      (ap₂ _||_ (le-ltb (length t) tablesLength (l .tables)) (le-ltb (length s) stateLength (l .state))) image-free
+  read-free m l = free (memoryShort m) 1 _ (not-short m l) image-free
 
 -- ---- an image that is not refused has the frame
 
 -- the same back
-pub read-framed : (s t im : List ℕ) → readRefusal s t im ≡ 0 → Framed im
-unfolding readRefusal imageRefusal lengthRight
-read-framed s t im e =
-    let p1 = passed _ 0 _ e in
-    let p3 = passed _ 2 _ (p1 .1) in
-    let p4 = passed _ 3 _ (p3 .1) in
-    let p5 = passed _ 4 _ (p4 .1) in
-    let p6 = passed _ 5 _ (p5 .1) in
+pub read-framed : (m : Memory) (im : List ℕ) → readRefusal m im ≡ 0 → Framed im
+unfolding readRefusal lengthRight numbered testOf
+read-framed m im e =
+    let p = passed _ refl e in
     let right : lengthRight im ≡ true =
-    not-false _ (or-none-right (ltb 64 (imNodes im)) _ (or-none-right (eqb (imNodes im) 0) _ (or-none-right (ltb (length im) 6) _ (p6 .0)))) in
+    not-false _ (or-none-right (ltb 64 (imNodes im)) _ (or-none-right (eqb (imNodes im) 0) _ (or-none-right (ltb (length im) 6) _ (p 6)))) in
     let more = and-right (leb (8 + 4 * imNodes im) (length im)) _ right in
     record {
-      first = eqb-true _ 4 (not-false _ (or-none-right (ltb (length im) 5) _ (p3 .0)));
-      version = eqb-true _ 1 (not-false _ (p4 .0));
+      first = eqb-true _ 4 (not-false _ (or-none-right (ltb (length im) 5) _ (p 3)));
+      version = eqb-true _ 1 (not-false _ (p 4));
       size = eqb-true _ _ (and-left _ _ more);
       short = leb-true (length im) 65535 (and-right (eqb (length im) (8 + 4 * imNodes im + 4 * imRecords im)) _ more);
     }

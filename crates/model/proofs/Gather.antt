@@ -17,14 +17,14 @@ use Rattle.model.proofs.Sets.{has-add, add-within}
 ruleset parts = (and-left, and-right)
 
 -- x is to notify u
-pub record ToNotify (s : List ℕ) (x k told u : ℕ) : Type 0 where
+pub record ToNotify (s : List ℕ) (x k notified u : ℕ) : Type 0 where
   pub some : u ≢ 0
   pub other : u ≢ x
   pub suffix : k ≤ suffixOf s x u
-  pub new : hasNode told u ≡ false
+  pub new : hasNode notified u ≡ false
 
-to-notify : (s : List ℕ) (x k told u : ℕ) → toNotify s x k told u ≡ true → ToNotify s x k told u
-to-notify s x k told u e = record {
+to-notify : (s : List ℕ) (x k notified u : ℕ) → toNotify s x k notified u ≡ true → ToNotify s x k notified u
+to-notify s x k notified u e = record {
   some = eqb-false u 0 (not-true _ (search parts));
   other = eqb-false u x (not-true _ (search parts));
   suffix = leb-true k (suffixOf s x u) (search parts);
@@ -32,44 +32,44 @@ to-notify s x k told u e = record {
 }
 
 -- v stands in the table and is to be notified
-pub record Gathered (s : List ℕ) (x k told : ℕ) (T : List ℕ) (v : ℕ) : Type 0 where
+pub record Gathered (s : List ℕ) (x k notified : ℕ) (T : List ℕ) (v : ℕ) : Type 0 where
   pub place : ℕ
   pub within : place < 512
   pub stands : getD T place 0 ≡ v
-  pub to-notify : ToNotify s x k told v
+  pub to-notify : ToNotify s x k notified v
 
-module _ (s : List ℕ) (x k told : ℕ) (T : List ℕ) where
+module _ (s : List ℕ) (x k notified : ℕ) (T : List ℕ) where
   -- a place leaves the set as it was, or adds its node
-  place-cases : (p nodes : ℕ) → (gatherPlace s x k told T p nodes ≡ nodes)
-      ⊎ (ToNotify s x k told (getD T p 0) × (gatherPlace s x k told T p nodes ≡ addNode nodes (getD T p 0)))
-  place-cases p nodes = go (true-or-false (toNotify s x k told (getD T p 0)))
+  place-cases : (p nodes : ℕ) → (gatherPlace s x k notified T p nodes ≡ nodes)
+      ⊎ (ToNotify s x k notified (getD T p 0) × (gatherPlace s x k notified T p nodes ≡ addNode nodes (getD T p 0)))
+  place-cases p nodes = go (true-or-false (toNotify s x k notified (getD T p 0)))
     where
-      went : (b : Bool) → toNotify s x k told (getD T p 0) ≡ b → gatherPlace s x k told T p nodes ≡ cond b (addNode nodes (getD T p 0)) nodes
+      went : (b : Bool) → toNotify s x k notified (getD T p 0) ≡ b → gatherPlace s x k notified T p nodes ≡ cond b (addNode nodes (getD T p 0)) nodes
       went b e = ap (λ (b : Bool). cond b (addNode nodes (getD T p 0)) nodes) e
 
-      go : (toNotify s x k told (getD T p 0) ≡ true) ⊎ (toNotify s x k told (getD T p 0) ≡ false)
-          → (gatherPlace s x k told T p nodes ≡ nodes)
-          ⊎ (ToNotify s x k told (getD T p 0) × (gatherPlace s x k told T p nodes ≡ addNode nodes (getD T p 0)))
-      go (inl e) = inr (to-notify s x k told (getD T p 0) e, went true e)
+      go : (toNotify s x k notified (getD T p 0) ≡ true) ⊎ (toNotify s x k notified (getD T p 0) ≡ false)
+          → (gatherPlace s x k notified T p nodes ≡ nodes)
+          ⊎ (ToNotify s x k notified (getD T p 0) × (gatherPlace s x k notified T p nodes ≡ addNode nodes (getD T p 0)))
+      go (inl e) = inr (to-notify s x k notified (getD T p 0) e, went true e)
       go (inr e) = inl (went false e)
 
-  pub gather-has : (nodes v : ℕ) → 1 ≤ v → hasNode (gather s x k told T nodes) v ≡ true
-      → (hasNode nodes v ≡ true) ⊎ Gathered s x k told T v
+  pub gather-has : (nodes v : ℕ) → 1 ≤ v → hasNode (gather s x k notified T nodes) v ≡ true
+      → (hasNode nodes v ≡ true) ⊎ Gathered s x k notified T v
   unfolding gather
   gather-has nodes v l =
-      each-keeps (λ (a : ℕ). hasNode a v ≡ true → (hasNode nodes v ≡ true) ⊎ Gathered s x k told T v) 512
-      (gatherPlace s x k told T) nodes (λ h. inl h)
+      each-keeps (λ (a : ℕ). hasNode a v ≡ true → (hasNode nodes v ≡ true) ⊎ Gathered s x k notified T v) 512
+      (gatherPlace s x k notified T) nodes (λ h. inl h)
       (λ p a q ih h.
       ⊎-elim (λ e. ih (sym (ap (λ (a : ℕ). hasNode a v) e) ∙ h))
       (λ c. ⊎-elim (λ e. inr (found p q e (c .0))) ih (has-add a (getD T p 0) v (omega (arith, c .0 .some)) l (sym (ap (λ (a : ℕ). hasNode a v) (c .1)) ∙ h)))
       (place-cases p a))
     where
-      found : (p : ℕ) → p < 512 → v ≡ getD T p 0 → ToNotify s x k told (getD T p 0) → Gathered s x k told T v
+      found : (p : ℕ) → p < 512 → v ≡ getD T p 0 → ToNotify s x k notified (getD T p 0) → Gathered s x k notified T v
       found p q e n = record { place = p; within = q; stands = sym e; to-notify = rw e n }
 
-  pub gather-within : (nodes n : ℕ) → nodes < 2 ^ n → ((p : ℕ) → p < 512 → getD T p 0 ≤ n) → gather s x k told T nodes < 2 ^ n
+  pub gather-within : (nodes n : ℕ) → nodes < 2 ^ n → ((p : ℕ) → p < 512 → getD T p 0 ≤ n) → gather s x k notified T nodes < 2 ^ n
   unfolding gather
   gather-within nodes n l h =
-      each-keeps (λ (a : ℕ). a < 2 ^ n) 512 (gatherPlace s x k told T) nodes l
+      each-keeps (λ (a : ℕ). a < 2 ^ n) 512 (gatherPlace s x k notified T) nodes l
       (λ p a q b.
       ⊎-elim (λ e. rw e b) (λ c. rw (c .1) (add-within a n (getD T p 0) b (omega (arith, c .0 .some)) (h p q))) (place-cases p a))

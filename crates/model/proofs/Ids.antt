@@ -3,7 +3,7 @@
 use Prim.Native.Nat.{ℕ, zero, suc, _+_, _*_, _/_, _%_, _^_, _≤_, _<_}
 use mathlib.Core.Path.{_≡_, refl, sym, ap, ap₂, subst, _∙_}
 use mathlib.Core.Bool.{true}
-use native.Mathlib.Nat.{pow-suc, pow-succ', one-le-pow, mod-one, mod-lt, mod-eq-of-lt, div-eq-of-lt, div-lt-iff-lt-mul, zero-lt-suc, le-refl, le-trans, le-of-eq, le-antisymm, le-step, lt-suc-self, lt-of-lt-of-le, one-mul, mul-suc}
+use native.Mathlib.Nat.{pow-suc, pow-succ', one-le-pow, mod-one, mod-lt, mod-eq-of-lt, div-eq-of-lt, div-lt-iff-lt-mul, zero-lt-suc, le-refl, le-of-eq, le-antisymm, le-step, lt-suc-self, lt-of-lt-of-le, one-mul, mul-suc}
 use native.Mathlib.Decide.{le-ind}
 use native.Mathlib.Numerals.{add-one, lt-of-le-of-ne}
 use native.Mathlib.Omega.{arith}
@@ -137,11 +137,6 @@ suffix-sym d x y = le-antisymm (half x y) (half y x)
 
 pub suffix-self : (d x : ℕ) → commonSuffix d x x ≡ d
 suffix-self d x = le-antisymm (suffix-le d x x) (suffix-of-low d x x d (le-refl d) refl)
-
--- of three ids, the two smallest common suffixes are equal
-pub suffix-three : (d x y z i : ℕ) → i ≤ commonSuffix d x y → i ≤ commonSuffix d x z → i ≤ commonSuffix d y z
-suffix-three d x y z i l g =
-    suffix-of-low d y z i (le-trans l (suffix-le d x y)) (sym (suffix-low d x y i l) ∙ suffix-low d x z i g)
 
 -- ---- valid ids
 

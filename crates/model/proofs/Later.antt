@@ -1,7 +1,7 @@
 -- A later state of the same network: nodes may have come, and the earlier ones keep their ids, stay attached and stay in the system.
 -- What the rules say of a table or a record that did not change holds on. Assumes nothing.
-use Prim.Native.Nat.{ℕ, _^_, _≤_, _<_}
-use mathlib.Core.Path.{_≡_, sym, ap, ap₂, _∙_}
+use Prim.Native.Nat.{ℕ, _≤_}
+use mathlib.Core.Path.{_≡_, refl, sym, ap, ap₂, subst, _∙_}
 use mathlib.Core.Logic.{_≢_, ⊎-elim}
 use mathlib.Core.Bool.{true}
 use mathlib.Core.List.{List}
@@ -10,13 +10,13 @@ use native.Mathlib.Omega.{arith}
 use lib.Dec.{eqb}
 use lib.Pow.{pow-mono}
 use Rattle.model.specs.Ids.{commonSuffix, digitOf}
-use Rattle.model.specs.Memory.{base, digits, depth, nodeCount, idOf, statusOf, levelOf, targetOf, pendingOf, notifiedOf, hasNode, isAttached, isInSystem}
+use Rattle.model.specs.Memory.{Node, base, digits, depth, nodeCount, nodeOf, idOf, hasNode, isAttached, isInSystem}
 use Rattle.model.specs.Tables.{qualified, slotAt, firstOf}
 use Rattle.model.specs.Nodes.{suffixOf}
 use Rattle.model.specs.Sound.{mayStand, placeUsed}
 use Rattle.model.proofs.Bools.{or-cases, or-intro-left, or-intro-right}
 use Rattle.model.proofs.Sets.{has-within}
-use Rattle.model.proofs.Status.{IsNode, JoiningOk, PendingOk, NotifiedOk, NotifyingOk, StatusOk, is-in-system, is-copying, is-waiting, is-notifying}
+use Rattle.model.proofs.Status.{IsNode, PendingOk, NotifiedOk, NotifyingOk, RecordOk, StatusOk, is-in-system, is-copying, is-waiting, is-notifying}
 use Rattle.model.proofs.Sound.{SlotOk, TableOk}
 
 pub record Later (s s′ : List ℕ) : Type 0 where
@@ -28,13 +28,16 @@ pub record Later (s s′ : List ℕ) : Type 0 where
   pub attached : (x : ℕ) → IsNode s x → isAttached s x ≡ true → isAttached s′ x ≡ true
   pub in-system : (x : ℕ) → IsNode s x → isInSystem s x ≡ true → isInSystem s′ x ≡ true
 
--- node y's record did not change
-pub record Kept (s s′ : List ℕ) (y : ℕ) : Type 0 where
-  pub status : statusOf s′ y ≡ statusOf s y
-  pub level : levelOf s′ y ≡ levelOf s y
-  pub target : targetOf s′ y ≡ targetOf s y
-  pub pending : pendingOf s′ y ≡ pendingOf s y
-  pub notified : notifiedOf s′ y ≡ notifiedOf s y
+pub later-refl : (s : List ℕ) → Later s s
+later-refl s = record {
+  base = refl;
+  digits = refl;
+  depth = refl;
+  more = omega arith;
+  ids = λ x n. refl;
+  attached = λ x n e. e;
+  in-system = λ x n e. e;
+}
 
 module _ (s s′ : List ℕ) (l : Later s s′) where
   pub node-later : (x : ℕ) → IsNode s x → IsNode s′ x
@@ -78,58 +81,52 @@ module _ (s s′ : List ℕ) (l : Later s s′) where
 
   -- ---- a record
 
-  module _ (y : ℕ) (n : IsNode s y) (k : Kept s s′ y) where
-    joining-later : JoiningOk s y → JoiningOk s′ y
-    joining-later o = record { level = k .level ∙ o .level; pending = k .pending ∙ o .pending; notified = k .notified ∙ o .notified }
-
-    target-later : IsNode s (targetOf s y) → IsNode s′ (targetOf s′ y)
-    target-later o = rw (k .target) (node-later (targetOf s y) o)
-
-    pending-later : NotifyingOk s y → (u : ℕ) → IsNode s′ u → hasNode (pendingOf s′ y) u ≡ true → PendingOk s′ y u
+  module _ (y : ℕ) (n : IsNode s y) (r : Node) where
+    pending-later : NotifyingOk s y r → (u : ℕ) → IsNode s′ u → hasNode (r .pending) u ≡ true → PendingOk s′ y (r .level) (r .notified) u
     pending-later o u nu h =
-        let h₀ : hasNode (pendingOf s y) u ≡ true = sym (ap (λ (q : ℕ). hasNode q u) (k .pending)) ∙ h in
-        let nu₀ : IsNode s u = record { low = nu .low; high = has-within (pendingOf s y) (nodeCount s) u (o .pending-within) h₀ } in
-        let r : PendingOk s y u = o .pending u nu₀ h₀ in
+        let nu₀ : IsNode s u = record { low = nu .low; high = has-within (r .pending) (nodeCount s) u (o .pending-within) h } in
+        let f : PendingOk s y (r .level) (r .notified) u = o .pending u nu₀ h in
         record {
-          attached = l .attached u nu₀ (r .attached);
-          suffix = omega (arith, k .level, suffix-later y u n nu₀, r .suffix);
-          other = r .other;
-          new = ap (λ (q : ℕ). hasNode q u) (k .notified) ∙ r .new;
+          attached = l .attached u nu₀ (f .attached);
+          suffix = omega (arith, suffix-later y u n nu₀, f .suffix);
+          other = f .other;
+          new = f .new;
         }
 
-    notified-later : NotifyingOk s y → (u : ℕ) → IsNode s′ u → hasNode (notifiedOf s′ y) u ≡ true → NotifiedOk s′ y u
+    notified-later : NotifyingOk s y r → (u : ℕ) → IsNode s′ u → hasNode (r .notified) u ≡ true → NotifiedOk s′ y u
     notified-later o u nu h =
-        let h₀ : hasNode (notifiedOf s y) u ≡ true = sym (ap (λ (q : ℕ). hasNode q u) (k .notified)) ∙ h in
-        let nu₀ : IsNode s u = record { low = nu .low; high = has-within (notifiedOf s y) (nodeCount s) u (o .notified-within) h₀ } in
-        let r : NotifiedOk s y u = o .notified u nu₀ h₀ in
-        record { attached = l .attached u nu₀ (r .attached); other = r .other }
+        let nu₀ : IsNode s u = record { low = nu .low; high = has-within (r .notified) (nodeCount s) u (o .notified-within) h } in
+        let f : NotifiedOk s y u = o .notified u nu₀ h in
+        record { attached = l .attached u nu₀ (f .attached); other = f .other }
 
-    within-later : {a a′ : ℕ} → a′ ≡ a → a < 2 ^ nodeCount s → a′ < 2 ^ nodeCount s′
-    within-later e h = rw e (lt-of-lt-of-le h (pow-mono (l .more)))
+    pub record-later : RecordOk s y r → RecordOk s′ y r
+    record-later (is-in-system e o) = is-in-system e o
+    record-later (is-copying e o) =
+        is-copying e
+        (record {
+          is-node = node-later (r .target) (o .is-node);
+          settled = l .in-system (r .target) (o .is-node) (o .settled);
+          rest = o .rest;
+        })
+    record-later (is-waiting e o) =
+        is-waiting e
+        (record {
+          is-node = node-later (r .target) (o .is-node);
+          attached = l .attached (r .target) (o .is-node) (o .attached);
+          rest = o .rest;
+        })
+    record-later (is-notifying e o) =
+        is-notifying e
+        (record {
+          target = o .target;
+          level = omega (arith, l .digits, o .level);
+          some = o .some;
+          pending-within = lt-of-lt-of-le (o .pending-within) (pow-mono (l .more));
+          notified-within = lt-of-lt-of-le (o .notified-within) (pow-mono (l .more));
+          pending = pending-later o;
+          notified = notified-later o;
+        })
 
-    pub status-later : StatusOk s y → StatusOk s′ y
-    status-later (is-in-system e o) = is-in-system (k .status ∙ e) record {
-      level = k .level ∙ o .level;
-      target = k .target ∙ o .target;
-      pending = k .pending ∙ o .pending;
-      notified = k .notified ∙ o .notified;
-    }
-    status-later (is-copying e o) = is-copying (k .status ∙ e) record {
-      is-node = target-later (o .is-node);
-      settled = ap (isInSystem s′) (k .target) ∙ l .in-system (targetOf s y) (o .is-node) (o .settled);
-      rest = joining-later (o .rest);
-    }
-    status-later (is-waiting e o) = is-waiting (k .status ∙ e) record {
-      is-node = target-later (o .is-node);
-      attached = ap (isAttached s′) (k .target) ∙ l .attached (targetOf s y) (o .is-node) (o .attached);
-      rest = joining-later (o .rest);
-    }
-    status-later (is-notifying e o) = is-notifying (k .status ∙ e) record {
-      target = k .target ∙ o .target;
-      level = omega (arith, k .level, l .digits, o .level);
-      some = omega (arith, k .pending, o .some);
-      pending-within = within-later (k .pending) (o .pending-within);
-      notified-within = within-later (k .notified) (o .notified-within);
-      pending = pending-later o;
-      notified = notified-later o;
-    }
+  -- that keeps its rules is x's
+  pub status-later : (x : ℕ) → IsNode s x → {r : Node} → nodeOf s′ x ≡ r → RecordOk s x r → StatusOk s′ x
+  status-later x n {r} e o = subst (RecordOk s′ x) (sym e) (record-later x n r o)

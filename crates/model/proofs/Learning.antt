@@ -12,11 +12,9 @@ use Rattle.model.specs.Memory.{depth, idOf}
 use Rattle.model.specs.Tables.{entrySize, holds, append}
 use Rattle.model.specs.Nodes.{suffixOf}
 use Rattle.model.specs.Learning.{floorOf, roomFor, learnAt, learn, learnPlace, learnTable}
-use Rattle.model.proofs.Bools.{and-left, and-right, true-or-false}
+use Rattle.model.proofs.Bools.{true-or-false, parts}
 use Rattle.model.proofs.Loops.{each-keeps}
 use Rattle.model.proofs.Tables.{Grows, grows-refl, grows-trans, append-grows}
-
-ruleset parts = (and-left, and-right)
 
 -- learning u at level i appended it
 pub record Appended (s : List ℕ) (u i : ℕ) (T : List ℕ) : Type 0 where

@@ -23,11 +23,12 @@ use Rattle.model.proofs.Bools.{back-false, or-right, and-left, and-righ
 use Rattle.model.proofs.Loops.{all-at, any-at, any-false, any-found, count-some, each-leads}
 use Rattle.model.proofs.Ids.{InRange, valid-digit}
 use Rattle.model.proofs.Memory.{zeroed-length, zeroed-within, table-length, table-at, stored-length, stored-outside, stored-same, stored-other}
-use Rattle.model.proofs.Founding.{Settings, settings-length, settings-stored, settings-outside}
+use Rattle.model.proofs.FoundingIsSound.{Settings, settings-length, settings-stored, settings-outside}
 use Rattle.model.proofs.Status.{IsNode, is-in-system}
 use Rattle.model.proofs.Sound.{Long, Sound}
 use Rattle.model.proofs.Tables.{entry-length, entry-at, entry-none, holds-none, gap-rest, append-length, append-entry, append-apart}
 use Rattle.model.proofs.Rules.{Entries, Addable, gap-free, append-entries}
+use Rattle.model.proofs.RecordRules.{in-order, is-allowed}
 use Rattle.model.proofs.Picked.{picked, Origin, picked-length, picked-origin, picked-first}
 
 -- what the refusals of reading leave
@@ -214,27 +215,22 @@ module _ (im s : List ℕ) (R : GoodImage im) (W : Words im s) where
   node-of a b = record { low = a; high = omega (arith, W .settings .count) }
 
   pub record-ok : (r : ℕ) → r < imRecords im → RecordOk r
-  unfolding recOrdered recAllowed sameEntry
+  unfolding sameEntry
   record-ok r h =
-      let o = R .ordered r h in
-      let a = R .allowed r h in
+      let o = in-order im r (R .ordered r h) in
+      let a = is-allowed im r (R .allowed r h) in
       let nx : IsNode s (recNode im r) = node-of (R .owners r h .0) (R .owners r h .1) in
       let nu : IsNode s (recNeighbor im r) = node-of (R .neighbors r h .0) (R .neighbors r h .1) in
-      let level : recLevel im r < imDigits im = ltb-true _ (imDigits im) (and-left _ _ o) in
-      let digit : recDigit im r < imBase im = ltb-true _ (imBase im) (and-left _ _ (and-right (ltb (recLevel im r) (imDigits im)) _ o)) in
-      let rest = and-right (qualified (imId im (recNode im r)) (imId im (recNeighbor im r)) (recLevel im r) (recDigit im r)) _ a in
-      let none : anyBelow r (sameNeighbor im r) ≡ false = not-true _ (and-left _ _ rest) in
-      let room : countBelow r (sameEntry im r) < imDepth im = ltb-true _ (imDepth im) (and-right (not (anyBelow r (sameNeighbor im r))) _ rest) in
       record {
         owner = nx;
         neighbor = nu;
-        level = omega (arith, W .settings .digits);
-        digit = omega (arith, W .settings .base);
+        level = omega (arith, W .settings .digits, o .level);
+        digit = omega (arith, W .settings .base, o .digit);
         qual =
             ap₂ (λ (a b : ℕ). qualified a b (recLevel im r) (recDigit im r)) (W .ids (recNode im r) nx) (W .ids (recNeighbor im r) nu)
-            ∙ and-left _ _ a;
-        new = λ q l e w. not-both (sameNeighbor im r q) (and-intro _ _ e (eq-eqb _ _ w)) (any-at r (sameNeighbor im r) none q l);
-        room = omega (arith, W .settings .depth, room);
+            ∙ a .qual;
+        new = λ q l e w. not-both (sameNeighbor im r q) (and-intro _ _ e (eq-eqb _ _ w)) (any-at r (sameNeighbor im r) (a .new) q l);
+        room = omega (arith, W .settings .depth, a .room);
       }
 
   -- one more record

@@ -17,7 +17,7 @@ use Rattle.model.proofs.Bools.{true-or-false}
 use Rattle.model.proofs.Ids.{next-hop, valid-digit}
 use Rattle.model.proofs.Status.{IsNode}
 use Rattle.model.proofs.Sound.{SlotOk, Sound}
-use Rattle.model.proofs.Delivering.{suffix-below}
+use Rattle.model.proofs.SoundNodes.{suffix-below}
 
 -- ---- the rule, one step of it
 

@@ -11,21 +11,42 @@ use lib.ListN.{length, getD, set, take, drop, replicate, length-set, length-appe
 use borrow.Author.Fill.{fill-more}
 use lib.Dec.{lit<}
 use lib.Seq.{sets, sets-eq, getD-set-same, getD-set-other, ext-getD}
-use Rattle.model.specs.Memory.{Node, idOf, statusOf, levelOf, targetOf, pendingOf, notifiedOf, withNode, tableStart, tableOf, withTable, zeroed}
-use Rattle.model.proofs.Splice.{splice, splice-length, splice-before, splice-at, splice-after, part-length, part-at, part-same}
+use Rattle.model.specs.Memory.{Node, nodeOf, withNode, tableStart, tableOf, withTable, zeroed}
+use Rattle.model.proofs.Splice.{splice, splice-length, splice-before, splice-at, splice-after, splice-twice, splice-back, part-length, part-at, part-same}
 
 -- ---- a node's record
 
--- the six words of x's record are those of r
-pub record Stored (s : List ℕ) (x : ℕ) (r : Node) : Type 0 where
-  pub id : idOf s x ≡ r .id
-  pub status : statusOf s x ≡ r .status
-  pub level : levelOf s x ≡ r .level
-  pub target : targetOf s x ≡ r .target
-  pub pending : pendingOf s x ≡ r .pending
-  pub notified : notifiedOf s x ≡ r .notified
+-- records with the same fields are the same, and the same records have the same fields
+pub node-eq : {a b : Node} → a .id ≡ b .id → a .status ≡ b .status → a .level ≡ b .level → a .target ≡ b .target → a .pending ≡ b .pending
+    → a .notified ≡ b .notified → a ≡ b
+node-eq e₁ e₂ e₃ e₄ e₅ e₆ = λ i. record { id = e₁ i; status = e₂ i; level = e₃ i; target = e₄ i; pending = e₅ i; notified = e₆ i }
 
-abbrev words : Node → List ℕ
+module _ {a b : Node} (e : a ≡ b) where
+  pub same-id : a .id ≡ b .id
+  same-id = ap (λ (r : Node). r .id) e
+
+  pub same-status : a .status ≡ b .status
+  same-status = ap (λ (r : Node). r .status) e
+
+  pub same-level : a .level ≡ b .level
+  same-level = ap (λ (r : Node). r .level) e
+
+  pub same-target : a .target ≡ b .target
+  same-target = ap (λ (r : Node). r .target) e
+
+  pub same-pending : a .pending ≡ b .pending
+  same-pending = ap (λ (r : Node). r .pending) e
+
+  pub same-notified : a .notified ≡ b .notified
+  same-notified = ap (λ (r : Node). r .notified) e
+
+-- a record is as it was where its words are
+pub node-same : (s s′ : List ℕ) (y : ℕ) → ((k : ℕ) → k < 8 → getD s′ (8 * y + k) 0 ≡ getD s (8 * y + k) 0) → nodeOf s′ y ≡ nodeOf s y
+node-same s s′ y h =
+    node-eq (subst (λ (p : ℕ). getD s′ p 0 ≡ getD s p 0) (add-zero (8 * y)) (h 0 (lit< tt))) (h 1 (lit< tt)) (h 2 (lit< tt))
+    (h 3 (lit< tt)) (h 4 (lit< tt)) (h 5 (lit< tt))
+
+abbrev pub words : Node → List ℕ
 words r = r .id ∷ r .status ∷ r .level ∷ r .target ∷ r .pending ∷ r .notified ∷ []
 
 stores : (s : List ℕ) (x : ℕ) (r : Node) → withNode s x r ≡ sets s (8 * x) (words r)
@@ -42,18 +63,13 @@ module _ (s : List ℕ) (x : ℕ) (r : Node) (fits : 8 * x + 6 ≤ length s) whe
   pub node-length : length (withNode s x r) ≡ length s
   node-length = ap length spliced ∙ splice-length (8 * x) 6 (words r) s refl fits
 
-  at : (k : ℕ) → k < 6 → getD (withNode s x r) (8 * x + k) 0 ≡ getD (words r) k 0
-  at k h = ap (λ (l : List ℕ). getD l (8 * x + k) 0) spliced ∙ splice-at (8 * x) 6 (words r) s refl fits k h
+  pub node-at : (k : ℕ) → k < 6 → getD (withNode s x r) (8 * x + k) 0 ≡ getD (words r) k 0
+  node-at k h = ap (λ (l : List ℕ). getD l (8 * x + k) 0) spliced ∙ splice-at (8 * x) 6 (words r) s refl fits k h
 
-  pub node-stored : Stored (withNode s x r) x r
-  node-stored = record {
-    id = ap (λ (p : ℕ). getD (withNode s x r) p 0) (sym (add-zero (8 * x))) ∙ at 0 (lit< tt);
-    status = at 1 (lit< tt);
-    level = at 2 (lit< tt);
-    target = at 3 (lit< tt);
-    pending = at 4 (lit< tt);
-    notified = at 5 (lit< tt);
-  }
+  pub node-stored : nodeOf (withNode s x r) x ≡ r
+  node-stored =
+      node-eq (ap (λ (p : ℕ). getD (withNode s x r) p 0) (sym (add-zero (8 * x))) ∙ node-at 0 (lit< tt)) (node-at 1 (lit< tt)) (node-at 2 (lit< tt))
+      (node-at 3 (lit< tt)) (node-at 4 (lit< tt)) (node-at 5 (lit< tt))
 
   -- a word outside the six is as it was
   pub node-outside : (p : ℕ) → (p < 8 * x) ⊎ (8 * x + 6 ≤ p) → getD (withNode s x r) p 0 ≡ getD s p 0
@@ -158,3 +174,18 @@ zeroed-goes i d x y e l q = q ∙ ap (λ (x : List ℕ). set x i 0) e ∙ fill-m
 
 pub zeroed-ends : (n i : ℕ) (d x : List ℕ) → x ≡ zeroed i d → i ≤ n → n ≤ i → x ≡ zeroed n d
 zeroed-ends n i d x e l g = subst (λ (m : ℕ). x ≡ zeroed m d) (le-antisymm l g) e
+
+-- ---- stores one upon the other
+
+-- the second record is what stays
+pub stored-twice : (s : List ℕ) (x : ℕ) (a b : Node) → 8 * x + 6 ≤ length s → withNode (withNode s x a) x b ≡ withNode s x b
+stored-twice s x a b fits =
+    spliced (withNode s x a) x b (omega (arith, node-length s x a fits))
+    ∙ ap (splice (8 * x) 6 (words b)) (spliced s x a fits)
+    ∙ splice-twice (8 * x) 6 (words a) s refl fits (words b)
+    ∙ sym (spliced s x b fits)
+
+-- a table put back as it was changes nothing
+pub table-back : (t : List ℕ) (x : ℕ) → withTable t x (tableOf t x) ≡ t
+unfolding withTable tableOf
+table-back t x = splice-back (tableStart x) 512 t

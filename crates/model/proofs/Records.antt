@@ -16,7 +16,7 @@ use Rattle.model.proofs.Bools.{and-left, and-right, back-false}
 use Rattle.model.proofs.Loops.{join-same}
 use Rattle.model.proofs.Memory.{table-at}
 use Rattle.model.proofs.Status.{IsNode}
-use Rattle.model.proofs.Sound.{Sound, table-fits}
+use Rattle.model.proofs.Sound.{Sound}
 use Rattle.model.proofs.Counting.{join-skip, join-blocks, join-at}
 
 -- place p of the table memory is filled
@@ -31,6 +31,13 @@ fieldsAt t p = (p / 512 + 1) ∷ p % 512 / 64 ∷ p % 64 / 4 ∷ getD t p 0 ∷ 
 unfoldable pub placeRecord : List ℕ → ℕ → List ℕ
 placeRecord t p = cond (eqb (getD t p 0) 0) [] (fieldsAt t p)
 
+-- place q of a node's table in the table memory
+pub place-at : (t : List ℕ) (y : ℕ) → 512 * y + 512 ≤ length t → (q : ℕ) → q < 512 → getD (tableOf t (y + 1)) q 0 ≡ getD t (512 * y + q) 0
+place-at t y fits q h =
+    let f : tableStart (y + 1) + 512 ≤ length t = omega arith in
+    let e : tableStart (y + 1) + q ≡ 512 * y + q = omega arith in
+    table-at t (y + 1) f q h ∙ ap (λ (p : ℕ). getD t p 0) e
+
 -- ---- the records of the book are those of the places
 
 module _ (s t : List ℕ) (S : Sound s t) (y : ℕ) (h : y < nodeCount s) where
@@ -40,11 +47,8 @@ module _ (s t : List ℕ) (S : Sound s t) (y : ℕ) (h : y < nodeCount s) where
   abbrev T : List ℕ
   T = tableOf t (y + 1)
 
-  -- place q of the node's table in the table memory
   at : (q : ℕ) → q < 512 → getD T q 0 ≡ getD t (512 * y + q) 0
-  at q l =
-      let e : tableStart (y + 1) + q ≡ 512 * y + q = omega arith in
-      table-at t (y + 1) (table-fits s t S (y + 1) is-node) q l ∙ ap (λ (p : ℕ). getD t p 0) e
+  at = place-at t y (omega (arith, S .few, S .long .tables))
 
   abbrev slotHere : ℕ → ℕ → ℕ → List ℕ
   slotHere i j k = slotRecord T (y + 1) i j k

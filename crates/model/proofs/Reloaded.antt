@@ -18,7 +18,7 @@ use Rattle.model.specs.Image.{imBase, imDigits, imDepth, imNodes, imId, 
 use Rattle.model.proofs.Bools.{true-or-false}
 use Rattle.model.proofs.Loops.{each-step, each-keeps}
 use Rattle.model.proofs.Memory.{zeroed-length, zeroed-within, table-set}
-use Rattle.model.proofs.Founding.{settings-length, settings-outside}
+use Rattle.model.proofs.FoundingIsSound.{settings-length, settings-outside}
 use Rattle.model.proofs.Tables.{GapFree, size-is, size-filled, gap-rest}
 use Rattle.model.proofs.Rules.{entries-of, gap-free}
 use Rattle.model.proofs.Status.{IsNode, StatusOk, is-in-system, is-copying, is-waiting, is-notifying}

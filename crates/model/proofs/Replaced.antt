@@ -1,22 +1,21 @@
 -- A step that replaces one node's record and two tables leaves a sound state if the new record and tables keep their rules.
 -- Assumes nothing.
 use Prim.Native.Nat.{ℕ, _+_, _*_, _≤_, _<_}
-use mathlib.Core.Path.{_≡_, sym, ap, subst, subst₃, _∙_}
+use mathlib.Core.Path.{_≡_, sym, subst, subst₃, _∙_}
 use mathlib.Core.Logic.{_≢_, _⊎_, inl, inr}
-use mathlib.Core.Bool.{true, _||_}
+use mathlib.Core.Bool.{true}
 use mathlib.Core.List.{List}
 use native.Mathlib.Decide.{ℕ-discrete, decLt}
 use native.Mathlib.Omega.{arith}
-use lib.Dec.{eqb}
 use lib.ListN.{length, getD}
 use Rattle.model.specs.Ids.{validId}
-use Rattle.model.specs.Memory.{tablesLength, base, digits, depth, nodeCount, Node, idOf, isAttached, isInSystem, withNode, tableStart, tableOf, withTable}
-use Rattle.model.proofs.Memory.{node-length, node-stored, node-outside, stored-length, stored-outside, stored-same, stored-other}
-use Rattle.model.proofs.Status.{IsNode, StatusOk}
+use Rattle.model.specs.Memory.{base, digits, depth, nodeCount, Node, nodeOf, idOf, isAttached, isInSystem, withNode, tableStart, tableOf, withTable}
+use Rattle.model.proofs.Memory.{same-id, node-same, node-length, node-stored, node-outside, stored-length, stored-outside, stored-same, stored-other}
+use Rattle.model.proofs.Status.{IsNode, RecordOk, StatusOk, attached-same, in-system-same}
 use Rattle.model.proofs.Ids.{InRange}
 use Rattle.model.proofs.Sound.{TableOk, Long, Sound, node-fits, table-fits}
 use Rattle.model.proofs.Rules.{OwnTable}
-use Rattle.model.proofs.Later.{Later, Kept, table-later, status-later}
+use Rattle.model.proofs.Later.{Later, table-later, status-later}
 
 -- two states that agree but for node x's record, in which x has the same id
 pub record Agree (x : ℕ) (s s′ : List ℕ) : Type 0 where
@@ -25,13 +24,11 @@ pub record Agree (x : ℕ) (s s′ : List ℕ) : Type 0 where
 
 module _ (s : List ℕ) (x : ℕ) (fits : 8 * x + 6 ≤ length s) where
   pub agree-node : (r : Node) → r .id ≡ idOf s x → Agree x s (withNode s x r)
-  agree-node r e = record { words = node-outside s x r fits; id = node-stored s x r fits .id ∙ e }
+  agree-node r e = record { words = node-outside s x r fits; id = same-id (node-stored s x r fits) ∙ e }
 
-  pub agree-nodes : (a b : Node) → b .id ≡ a .id → Agree x (withNode s x a) (withNode s x b)
-  agree-nodes a b e = record {
-    words = λ p h. node-outside s x b fits p h ∙ sym (node-outside s x a fits p h);
-    id = node-stored s x b fits .id ∙ e ∙ sym (node-stored s x a fits .id);
-  }
+-- two states that agree with one agree
+pub agree-both : (x : ℕ) (s s′ s″ : List ℕ) → Agree x s s′ → Agree x s s″ → Agree x s′ s″
+agree-both x s s′ s″ a b = record { words = λ p h. b .words p h ∙ sym (a .words p h); id = b .id ∙ sym (a .id) }
 
 module _ (x : ℕ) (s s′ : List ℕ) (a : Agree x s s′) where
   -- the words of another node's record
@@ -42,23 +39,15 @@ module _ (x : ℕ) (s s′ : List ℕ) (a : Agree x s s′) where
       apart (yes l) = inl (omega arith)
       apart (no g) = inr (omega arith)
 
+  pub agree-kept : (y : ℕ) → y ≢ x → nodeOf s′ y ≡ nodeOf s y
+  agree-kept y e = node-same s s′ y (λ k. agree-record y k e)
+
   pub agree-id : (y : ℕ) → idOf s′ y ≡ idOf s y
   agree-id y = go (ℕ-discrete y x)
     where
       go : Dec (y ≡ x) → idOf s′ y ≡ idOf s y
       go (yes e) = subst (λ (y : ℕ). idOf s′ y ≡ idOf s y) (sym e) (a .id)
-      go (no e) =
-          let w : 8 * y ≡ 8 * y + 0 = omega arith in
-          subst (λ (p : ℕ). getD s′ p 0 ≡ getD s p 0) (sym w) (agree-record y 0 e (omega arith))
-
-  pub agree-kept : (y : ℕ) → y ≢ x → Kept s s′ y
-  agree-kept y e = record {
-    status = agree-record y 1 e (omega arith);
-    level = agree-record y 2 e (omega arith);
-    target = agree-record y 3 e (omega arith);
-    pending = agree-record y 4 e (omega arith);
-    notified = agree-record y 5 e (omega arith);
-  }
+      go (no e) = same-id (agree-kept y e)
 
   pub agree-count : 1 ≤ x → nodeCount s′ ≡ nodeCount s
   agree-count h = a .words 3 (inl (omega arith))
@@ -77,17 +66,57 @@ module _ (x : ℕ) (s s′ : List ℕ) (a : Agree x s s′) where
     where
       attached : (y : ℕ) → Dec (y ≡ x) → isAttached s y ≡ true → isAttached s′ y ≡ true
       attached y (yes e) = subst (λ (y : ℕ). isAttached s y ≡ true → isAttached s′ y ≡ true) (sym e) f
-      attached y (no e) = λ q. ap (λ (v : ℕ). eqb v 0 || eqb v 3) (agree-kept y e .status) ∙ q
+      attached y (no e) = λ q. attached-same s s′ y (agree-kept y e) ∙ q
 
       in-system : (y : ℕ) → Dec (y ≡ x) → isInSystem s y ≡ true → isInSystem s′ y ≡ true
       in-system y (yes e) = subst (λ (y : ℕ). isInSystem s y ≡ true → isInSystem s′ y ≡ true) (sym e) g
-      in-system y (no e) = λ q. ap (λ (v : ℕ). eqb v 0) (agree-kept y e .status) ∙ q
+      in-system y (no e) = λ q. in-system-same s s′ y (agree-kept y e) ∙ q
+
+-- ---- two tables replaced
+
+module _ (s t : List ℕ) (S : Sound s t) (x y : ℕ) (nx : IsNode s x) (ny : IsNode s y) (Tx Ty : List ℕ) (size-x : length Tx ≡ 512)
+    (size-y : length Ty ≡ 512) where
+  fits : (z : ℕ) → IsNode s z → tableStart z + 512 ≤ length t
+  fits z n = table-fits s t S z n
+
+  length-y : length (withTable t y Ty) ≡ length t
+  length-y = stored-length t y Ty size-y (fits y ny)
+
+  fits-x : tableStart x + 512 ≤ length (withTable t y Ty)
+  fits-x = omega (arith, fits x nx, length-y)
+
+  replaced-length : length (withTable (withTable t y Ty) x Tx) ≡ length t
+  replaced-length = stored-length (withTable t y Ty) x Tx size-x fits-x ∙ length-y
+
+  replaced-outside : (p : ℕ) → 512 * nodeCount s ≤ p → getD (withTable (withTable t y Ty) x Tx) p 0 ≡ getD t p 0
+  replaced-outside p h =
+      let bx : x ≤ nodeCount s = nx .high in
+      let lx : 1 ≤ x = nx .low in
+      let ly : 1 ≤ y = ny .low in
+      let bY : y ≤ nodeCount s = ny .high in
+      stored-outside (withTable t y Ty) x Tx size-x fits-x p (inr (omega arith)) ∙ stored-outside t y Ty size-y (fits y ny) p (inr (omega arith))
+
+  -- what holds of the two, and of each table as it was, holds of each table after
+  pub replaced-table : (P : ℕ → List ℕ → Type 0) → P x Tx → P y Ty → ((z : ℕ) → IsNode s z → P z (tableOf t z)) → (z : ℕ) → IsNode s z
+      → P z (tableOf (withTable (withTable t y Ty) x Tx) z)
+  replaced-table P px py pz z n = go (ℕ-discrete z x) (ℕ-discrete z y)
+    where
+      other : z ≢ x → tableOf (withTable (withTable t y Ty) x Tx) z ≡ tableOf (withTable t y Ty) z
+      other e = stored-other (withTable t y Ty) x Tx size-x fits-x z (nx .low) (n .low) e (omega (arith, fits z n, length-y))
+
+      go : Dec (z ≡ x) → Dec (z ≡ y) → P z (tableOf (withTable (withTable t y Ty) x Tx) z)
+      go (yes e) q =
+          subst (λ (z : ℕ). P z (tableOf (withTable (withTable t y Ty) x Tx) z)) (sym e)
+          (rw (stored-same (withTable t y Ty) x Tx size-x fits-x) px)
+      go (no e) (yes q) =
+          rw (other e) (subst (λ (z : ℕ). P z (tableOf (withTable t y Ty) z)) (sym q) (rw (stored-same t y Ty size-y (fits y ny)) py))
+      go (no e) (no q) = rw (other e, stored-other t y Ty size-y (fits y ny) z (ny .low) (n .low) q (fits z n)) (pz z n)
 
 -- ---- the step
 
-module _ (s t : List ℕ) (x y : ℕ) (r : Node) (Tx Ty : List ℕ) (S : Sound s t) (nx : IsNode s x) (ny : IsNode s y) (ne : y ≢ x)
+module _ (s t : List ℕ) (x y : ℕ) (r : Node) (Tx Ty : List ℕ) (S : Sound s t) (nx : IsNode s x) (ny : IsNode s y)
     (same-id : r .id ≡ idOf s x) (l : Later s (withNode s x r)) (ox : OwnTable (withNode s x r) x Tx)
-    (oy : OwnTable (withNode s x r) y Ty) (ok : StatusOk (withNode s x r) x) where
+    (oy : OwnTable (withNode s x r) y Ty) (ok : RecordOk s x r) where
   s₁ : List ℕ
   s₁ = withNode s x r
 
@@ -107,37 +136,9 @@ module _ (s t : List ℕ) (x y : ℕ) (r : Node) (Tx Ty : List ℕ) (S : Sound s
   back : (z : ℕ) → IsNode s₁ z → IsNode s z
   back z n = record { low = n .low; high = omega (arith, count, n .high) }
 
-  fits : (z : ℕ) → IsNode s z → tableStart z + 512 ≤ length t
-  fits z n = table-fits s t S z n
-
-  length-y : length (withTable t y Ty) ≡ length t
-  length-y = stored-length t y Ty (oy .long) (fits y ny)
-
-  fits-x : tableStart x + 512 ≤ length (withTable t y Ty)
-  fits-x = omega (arith, fits x nx, length-y)
-
-  table : (z : ℕ) → IsNode s z → TableOk s₁ z (tableOf t₁ z)
-  unfolding s₁ t₁
-  table z n = go (ℕ-discrete z x) (ℕ-discrete z y)
-    where
-      other : z ≢ x → tableOf t₁ z ≡ tableOf (withTable t y Ty) z
-      other e = stored-other (withTable t y Ty) x Tx (ox .long) fits-x z (nx .low) (n .low) e (omega (arith, fits z n, length-y))
-
-      go : Dec (z ≡ x) → Dec (z ≡ y) → TableOk s₁ z (tableOf t₁ z)
-      go (yes e) q =
-          subst (λ (z : ℕ). TableOk s₁ z (tableOf t₁ z)) (sym e)
-          (rw (stored-same (withTable t y Ty) x Tx (ox .long) fits-x) (ox .rules))
-      go (no e) (yes q) =
-          rw (other e)
-          (subst (λ (z : ℕ). TableOk s₁ z (tableOf (withTable t y Ty) z)) (sym q)
-          (rw (stored-same t y Ty (oy .long) (fits y ny)) (oy .rules)))
-      go (no e) (no q) =
-          rw (other e, stored-other t y Ty (oy .long) (fits y ny) z (ny .low) (n .low) q (fits z n))
-          (table-later s s₁ l z (tableOf t z) n (S .tables z n))
-
   status : (z : ℕ) → IsNode s z → Dec (z ≡ x) → StatusOk s₁ z
   unfolding s₁
-  status z n (yes e) = subst (StatusOk s₁) (sym e) ok
+  status z n (yes e) = subst (StatusOk s₁) (sym e) (status-later s s₁ l x nx (node-stored s x r fits-node) ok)
   status z n (no e) = status-later s s₁ l z n (agree-kept x s s₁ a z e) (S .statuses z n)
 
   -- the spare words, of x's record too
@@ -154,19 +155,8 @@ module _ (s t : List ℕ) (x y : ℕ) (r : Node) (Tx Ty : List ℕ) (S : Sound s
   unfolding s₁ t₁
   long = record {
     state = omega (arith, node-length s x r fits-node, S .long .state);
-    tables = omega (arith, stored-length (withTable t y Ty) x Tx (ox .long) fits-x, length-y, S .long .tables);
+    tables = omega (arith, replaced-length s t S x y nx ny Tx Ty (ox .long) (oy .long), S .long .tables);
   }
-
-  tables-zero : (p : ℕ) → 512 * nodeCount s₁ ≤ p → p < tablesLength → getD t₁ p 0 ≡ 0
-  unfolding t₁
-  tables-zero p h m =
-      let bx : x ≤ nodeCount s = nx .high in
-      let lx : 1 ≤ x = nx .low in
-      let ly : 1 ≤ y = ny .low in
-      let bY : y ≤ nodeCount s = ny .high in
-      stored-outside (withTable t y Ty) x Tx (ox .long) fits-x p (inr (omega (arith, count)))
-      ∙ stored-outside t y Ty (oy .long) (fits y ny) p (inr (omega (arith, count)))
-      ∙ S .tables-rest p (omega (arith, count)) m
 
   pub replaced-ok : Sound (withNode s x r) (withTable (withTable t y Ty) x Tx)
   unfolding s₁ t₁
@@ -177,10 +167,15 @@ module _ (s t : List ℕ) (x y : ℕ) (r : Node) (Tx Ty : List ℕ) (S : Sound s
     few = omega (arith, count, S .few);
     ids = λ z n. valid z (back z n);
     new = λ z w n h g e. S .new z w (back z n) h g (sym (agree-id x s s₁ a w) ∙ e ∙ agree-id x s s₁ a z);
-    tables = λ z n. table z (back z n);
+    tables =
+        λ z n.
+        replaced-table s t S x y nx ny Tx Ty (ox .long) (oy .long) (TableOk s₁) (ox .rules) (oy .rules)
+        (λ z n. table-later s s₁ l z (tableOf t z) n (S .tables z n)) z (back z n);
     statuses = λ z n. status z (back z n) (ℕ-discrete z x);
     spare = λ z n. spare z (back z n) (ℕ-discrete z x);
     head = λ p h g. a .words p (inl (omega (arith, nx .low))) ∙ S .head p h g;
     rest = λ p h g. a .words p (inr (omega (arith, count, nx .high, h))) ∙ S .rest p (omega (arith, count, h)) g;
-    tables-rest = tables-zero;
+    tables-rest =
+        λ p h g.
+        replaced-outside s t S x y nx ny Tx Ty (ox .long) (oy .long) p (omega (arith, count, h)) ∙ S .tables-rest p (omega (arith, count, h)) g;
   }

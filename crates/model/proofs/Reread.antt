@@ -19,6 +19,7 @@ use Rattle.model.proofs.Bools.{and-left, and-right, and-intro, or-right
 use Rattle.model.proofs.Loops.{each-leads, count-same, join-same}
 use Rattle.model.proofs.Memory.{zeroed-length, zeroed-within, table-at, table-set}
 use Rattle.model.proofs.Tables.{size-is}
+use Rattle.model.proofs.RecordRules.{entryKey, key-le, SameEntry, of-same-entry, in-order, is-allowed}
 use Rattle.model.proofs.Loading.{GoodImage}
 use Rattle.model.proofs.Counting.{count-more, join-skip}
 use Rattle.model.proofs.Records.{placeRecord, filled-of, record-some, record-none}
@@ -56,30 +57,21 @@ module _ (im : List ℕ) (R : GoodImage im) where
     room : earlier im r < imDepth im
 
   kept : (r : ℕ) → r < imRecords im → Kept r
-  unfolding recOrdered recAllowed
   kept r h =
-      let o = R .ordered r h in
-      let level : recLevel im r < imDigits im = ltb-true _ (imDigits im) (and-left _ _ o) in
-      let digit : recDigit im r < imBase im = ltb-true _ (imBase im) (and-left _ _ (and-right (ltb (recLevel im r) (imDigits im)) _ o)) in
-      let rest = and-right (qualified (imId im (recNode im r)) (imId im (recNeighbor im r)) (recLevel im r) (recDigit im r)) _ (R .allowed r h) in
+      let o = in-order im r (R .ordered r h) in
       record {
         first = R .owners r h .0;
         last = R .owners r h .1;
-        level = omega (arith, R .range .digits-most);
-        digit = omega (arith, R .range .base-most);
+        level = omega (arith, o .level, R .range .digits-most);
+        digit = omega (arith, o .digit, R .range .base-most);
         some = R .neighbors r h .0;
-        room = ltb-true (earlier im r) (imDepth im) (and-right (not (anyBelow r (sameNeighbor im r))) _ rest);
+        room = is-allowed im r (R .allowed r h) .room;
       }
 
   -- the next record is of a later entry or of the same one
-  record Same (q r : ℕ) : Type 0 where
-    node : recNode im q ≡ recNode im r
-    level : recLevel im q ≡ recLevel im r
-    digit : recDigit im q ≡ recDigit im r
-
-  follows : (q : ℕ) → suc q < imRecords im → (entryOf im q < entryOf im (suc q)) ⊎ Same q (suc q)
-  unfolding recOrdered risesFrom
-  follows q h = node-case (or-cases _ _ rises)
+  follows : (q : ℕ) → suc q < imRecords im → (entryOf im q < entryOf im (suc q)) ⊎ SameEntry im (suc q) q
+  unfolding risesFrom
+  follows q h = go (ℕ-discrete (entryOf im q) (entryOf im (suc q)))
     where
       Q : Kept q
       Q = kept q (omega arith)
@@ -90,43 +82,29 @@ module _ (im : List ℕ) (R : GoodImage im) where
       one-less : suc q - 1 ≡ q
       one-less = omega arith
 
-      rises : risesFrom im q (suc q) ≡ true
+      rises : entryKey (recNode im q) (recLevel im q) (recDigit im q) ≤ entryKey (recNode im (suc q)) (recLevel im (suc q)) (recDigit im (suc q))
       rises =
-          let o = and-right (ltb (recDigit im (suc q)) (imBase im)) _ (and-right (ltb (recLevel im (suc q)) (imDigits im)) _ (R .ordered (suc q) h)) in
-          subst (λ (p : ℕ). risesFrom im p (suc q) ≡ true) one-less (or-right (eqb (suc q) 0) _ o (ne-eqb (suc q) 0 (λ z. omega arith)))
+          leb-true _ _
+          (sym
+          (key-le (recNode im q) (recLevel im q) (recDigit im q) (recNode im (suc q)) (recLevel im (suc q)) (recDigit im (suc q)) (omega (arith, Q .level))
+          (omega (arith, Q .digit)) (omega (arith, K .level)) (omega (arith, K .digit)))
+          ∙ subst (λ (p : ℕ). risesFrom im p (suc q) ≡ true) one-less (in-order im (suc q) (R .ordered (suc q) h) .rises (λ z. omega arith)))
 
-      digit-case : recNode im q ≡ recNode im (suc q) → recLevel im q ≡ recLevel im (suc q) → Dec (recDigit im q ≡ recDigit im (suc q))
-          → recDigit im q ≤ recDigit im (suc q) → (entryOf im q < entryOf im (suc q)) ⊎ Same q (suc q)
-      digit-case ex ei (yes ej) l = inr (record { node = ex; level = ei; digit = ej })
-      digit-case ex ei (no f) l = inl (omega arith)
-
-      level-case : recNode im q ≡ recNode im (suc q)
-          → (ltb (recLevel im q) (recLevel im (suc q)) ≡ true) ⊎ ((eqb (recLevel im q) (recLevel im (suc q)) && leb (recDigit im q) (recDigit im (suc q))) ≡ true)
-          → (entryOf im q < entryOf im (suc q)) ⊎ Same q (suc q)
-      level-case ex (inl e) =
-          let l : recLevel im q < recLevel im (suc q) = ltb-true _ (recLevel im (suc q)) e in
-          inl (omega (arith, Q .digit))
-      level-case ex (inr e) =
-          digit-case ex (eqb-true _ _ (and-left _ _ e)) (ℕ-discrete (recDigit im q) (recDigit im (suc q)))
-          (leb-true _ _ (and-right (eqb (recLevel im q) (recLevel im (suc q))) _ e))
-
-      node-case : (ltb (recNode im q) (recNode im (suc q)) ≡ true)
-          ⊎ ((eqb (recNode im q) (recNode im (suc q))
-          && (ltb (recLevel im q) (recLevel im (suc q)) || (eqb (recLevel im q) (recLevel im (suc q)) && leb (recDigit im q) (recDigit im (suc q))))) ≡ true)
-          → (entryOf im q < entryOf im (suc q)) ⊎ Same q (suc q)
-      node-case (inl e) =
-          let l : recNode im q < recNode im (suc q) = ltb-true _ (recNode im (suc q)) e in
-          inl (omega (arith, Q .first, Q .level, Q .digit))
-      node-case (inr e) =
-          level-case (eqb-true _ _ (and-left _ _ e)) (or-cases _ _ (and-right (eqb (recNode im q) (recNode im (suc q))) _ e))
+      go : Dec (entryOf im q ≡ entryOf im (suc q)) → (entryOf im q < entryOf im (suc q)) ⊎ SameEntry im (suc q) q
+      go (yes e) =
+          inr
+          (record {
+            node = omega (arith, Q .first, Q .level, Q .digit, K .first, K .level, K .digit);
+            level = omega (arith, Q .level, Q .digit, K .level, K .digit);
+            digit = omega (arith, Q .level, Q .digit, K .level, K .digit);
+          })
+      go (no f) = inl (omega (arith, rises, Q .first, Q .level, Q .digit, K .first, K .level, K .digit))
 
   -- one more record of the same entry
-  earlier-more : (q : ℕ) → Same q (suc q) → earlier im (suc q) ≡ earlier im q + 1
+  earlier-more : (q : ℕ) → SameEntry im (suc q) q → earlier im (suc q) ≡ earlier im q + 1
   unfolding sameEntry
   earlier-more q S =
-      let e : sameEntry im (suc q) q ≡ true =
-      and-intro _ _ (eq-eqb _ _ (S .node)) (and-intro _ _ (eq-eqb _ _ (S .level)) (eq-eqb _ _ (S .digit))) in
-      count-more q (sameEntry im (suc q)) e
+      count-more q (sameEntry im (suc q)) (of-same-entry im (suc q) q S)
       ∙ ap (λ (n : ℕ). n + 1)
       (count-same q (sameEntry im (suc q)) (sameEntry im q)
       (λ p l.
@@ -175,7 +153,7 @@ module _ (im : List ℕ) (R : GoodImage im) where
         },
       )
 
-      same : Same q (suc q) → (a : ℕ) × Goes (suc q) t (L .end) a
+      same : SameEntry im (suc q) q → (a : ℕ) × Goes (suc q) t (L .end) a
       same S =
           let e : entryOf im q ≡ entryOf im (suc q) =
           ap₂ (λ (x i : ℕ). 128 * (x - 1) + 16 * i + recDigit im q) (S .node) (S .level)

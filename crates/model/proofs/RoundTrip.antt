@@ -2,7 +2,7 @@
 -- byte of the fixed lengths; an image that reading takes, read and written, is the same image. Assumes nothing.
 use Prim.Native.Nat.{ℕ, zero, suc, _+_, _-_, _*_, _/_, _%_, _≤_, _<_}
 use mathlib.Core.Path.{_≡_, refl, sym, ap, ap₂, _∙_}
-use mathlib.Core.Bool.{true, false}
+use mathlib.Core.Bool.{true, false, not}
 use mathlib.Core.List.{List, [], _∷_, _++_}
 use native.Mathlib.Nat.{add-zero}
 use native.Mathlib.Decide.{decLt}
@@ -14,8 +14,9 @@ use borrow.Author.Tests.{eq-eqb, le-ltb}
 use Rattle.model.specs.Loops.{joinBelow}
 use Rattle.model.specs.Memory.{Memory, stateLength, tablesLength, nodeCount, isInSystem}
 use Rattle.model.specs.Image.{fourBytes, allRecords, imageOf, byteAt, imNodes, imId, imRecords, recordByte, loaded}
-use Rattle.model.specs.Refusals.{refuse, readRefusal, writeRefusal}
-use Rattle.model.specs.Calls.{refused, taken, readCall, writeCall}
+use Rattle.model.specs.Refusals.{someNotInSystem, readRefusal, writeRefusal}
+use Rattle.model.specs.Calls.{taken, readCall, writeCall}
+use Rattle.model.proofs.Refusals.{free, first-none}
 use Rattle.model.proofs.Nodes.{nodes-of}
 use Rattle.model.proofs.Status.{IsNode}
 use Rattle.model.proofs.Sound.{Long, Sound}
@@ -31,11 +32,18 @@ use Rattle.model.proofs.Reloaded.{reloaded}
 use Rattle.model.proofs.Reread.{recordBytes, records-back}
 use Rattle.model.specs.Nodes.{allNodes}
 
+-- the fixed lengths of one memory, and another's places past them
+unfoldable pub onto : Memory → Memory → Memory
+onto m m′ = record {
+  state = take stateLength (m .state) ++ drop stateLength (m′ .state);
+  tables = take tablesLength (m .tables) ++ drop tablesLength (m′ .tables);
+}
+
 -- ---- written, then read
 
-module _ (s t : List ℕ) (S : Sound s t) (s′ t′ : List ℕ) (long : Long s′ t′) where
+module _ (s t : List ℕ) (S : Sound s t) (m : Memory) (long : Long (m .state) (m .tables)) where
   -- reading takes the written image
-  pub written-taken : readRefusal s′ t′ (imageOf s t) ≡ 0
+  pub written-taken : readRefusal m (imageOf s t) ≡ 0
   written-taken =
       let P : Pictures (imageOf s t) s t = pictures s t S in
       read-free (imageOf s t)
@@ -45,13 +53,13 @@ module _ (s t : List ℕ) (S : Sound s t) (s′ t′ : List ℕ) (long : Long s�
         size = omega (arith, P .size, P .nodes, P .count);
         short = image-short s t S;
       })
-      (written-readable (imageOf s t) s t S P) s′ t′ long
+      (written-readable (imageOf s t) s t S P) m long
 
   -- and gives back a state whose nodes are all in the system
   pub written-read : ((x : ℕ) → IsNode s x → isInSystem s x ≡ true)
-      → loaded s′ t′ (imageOf s t)
-      ≡ record { state = take stateLength s ++ drop stateLength s′; tables = take tablesLength t ++ drop tablesLength t′ }
-  written-read settled = reloaded (imageOf s t) s t S (pictures s t S) settled s′ (long .state) t′ (long .tables)
+      → loaded (m .state) (m .tables) (imageOf s t) ≡ onto (record { state = s; tables = t }) m
+  unfolding onto
+  written-read settled = reloaded (imageOf s t) s t S (pictures s t S) settled (m .state) (long .state) (m .tables) (long .tables)
 
 -- ---- read, then written
 
@@ -79,21 +87,31 @@ records-length im (suc n) =
     length-append (joinBelow n (recordBytes im)) (recordBytes im n) ∙ omega (arith, records-length im n)
 
 -- the bytes of an image are below 256, as those of every slice of bytes
-module _ (s t im : List ℕ) (byte : (a : ℕ) → byteAt im a < 256) (e : readRefusal s t im ≡ 0) where
+module _ (m : Memory) (im : List ℕ) (byte : (a : ℕ) → byteAt im a < 256) (e : readRefusal m im ≡ 0) where
+  abbrev s : List ℕ
+  s = m .state
+
+  abbrev t : List ℕ
+  t = m .tables
+
+  -- what it gives
+  abbrev given : Memory
+  given = loaded (m .state) (m .tables) im
+
   s₂ : List ℕ
-  s₂ = loaded s t im .state
+  s₂ = given .state
 
   t₂ : List ℕ
-  t₂ = loaded s t im .tables
+  t₂ = given .tables
 
   long : Long s t
-  long = read-taken s t im e .0
+  long = read-taken m im e .0
 
   R : GoodImage im
-  R = read-taken s t im e .1
+  R = read-taken m im e .1
 
   F : Framed im
-  F = read-framed s t im e
+  F = read-framed m im e
 
   S : Sound s₂ t₂
   unfolding s₂ t₂
@@ -200,56 +218,50 @@ module _ (s t im : List ℕ) (byte : (a : ℕ) → byteAt im a < 256) (e : readR
           record-byte (m / 4) (m % 4) (omega arith) (omega arith) a (omega arith)
 
   -- the image, written again
-  pub read-written : imageOf (loaded s t im .state) (loaded s t im .tables) ≡ im
+  pub read-written : imageOf (given .state) (given .tables) ≡ im
   unfolding s₂ t₂
   read-written = ext-getD 0 (imageOf s₂ t₂) im same-length (λ a h. same-byte a (omega (arith, same-length)))
 
   -- "Reading makes every member settled"
-  pub read-in-system : (x : ℕ) → IsNode (loaded s t im .state) x → isInSystem (loaded s t im .state) x ≡ true
+  pub read-in-system : (x : ℕ) → IsNode (given .state) x → isInSystem (given .state) x ≡ true
   unfolding s₂
   read-in-system x n =
       eq-eqb _ 0 (W .zero (8 * x + 1) (omega (arith, n .low)) (omega (arith, n .high, S .few)) (λ y m. omega arith))
 
   -- the state that reading gives is one that writing takes, if there is room
-  pub read-can-write : (out : List ℕ) → length im ≤ length out → writeRefusal (loaded s t im .state) (loaded s t im .tables) out ≡ 0
-  unfolding s₂ t₂ writeRefusal refuse
+  pub read-can-write : (out : List ℕ) → length im ≤ length out → writeRefusal given out ≡ 0
+  unfolding s₂ t₂ writeRefusal
   read-can-write out room =
       let settled : allNodes s₂ (isInSystem s₂) ≡ true =
       nodes-of (nodeCount s₂) (isInSystem s₂) (λ x l h. read-in-system x (record { low = l; high = h })) in
       let fits : ltb (length out) (length (imageOf s₂ t₂)) ≡ false = le-ltb (length out) (length (imageOf s₂ t₂)) (omega (arith, same-length)) in
-      state-free s₂ t₂ _ S ∙ rw (settled, fits)
+      state-free given _ S (free (someNotInSystem s₂) 15 _ (ap not settled) (free _ 16 [] fits (sym first-none)))
 
 -- an image read twice, over any old contents: the same state
-pub read-again : (s t s′ t′ im : List ℕ) → ((a : ℕ) → byteAt im a < 256) → readRefusal s t im ≡ 0 → Long s′ t′
-    → loaded s′ t′ im
-    ≡ record {
-      state = take stateLength (loaded s t im .state) ++ drop stateLength s′;
-      tables = take tablesLength (loaded s t im .tables) ++ drop tablesLength t′;
-    }
-read-again s t s′ t′ im byte e long =
-    let k = read-taken s t im e in
-    ap (loaded s′ t′) (sym (read-written s t im byte e))
-    ∙ written-read (loaded s t im .state) (loaded s t im .tables) (loaded-ok s t im (k .0) (k .1)) s′ t′ long (read-in-system s t im byte e)
+pub read-again : (m m′ : Memory) (im : List ℕ) → ((a : ℕ) → byteAt im a < 256) → readRefusal m im ≡ 0 → Long (m′ .state) (m′ .tables)
+    → loaded (m′ .state) (m′ .tables) im ≡ onto (loaded (m .state) (m .tables) im) m′
+read-again m m′ im byte e long =
+    let k = read-taken m im e in
+    let g : Memory = loaded (m .state) (m .tables) im in
+    ap (loaded (m′ .state) (m′ .tables)) (sym (read-written m im byte e))
+    ∙ written-read (g .state) (g .tables) (loaded-ok (m .state) (m .tables) im (k .0) (k .1)) m′ long (read-in-system m im byte e)
 
 -- ---- the same of the calls
 
 -- what a writing wrote, read into any memory
-pub write-then-read : (s t out s′ t′ : List ℕ) → writeRefusal s t out ≡ 0 → Long s′ t′
-    → readCall s′ t′ (imageOf s t)
-    ≡ taken (take stateLength s ++ drop stateLength s′) (take tablesLength t ++ drop tablesLength t′) [] []
+pub write-then-read : (m m′ : Memory) (out : List ℕ) → writeRefusal m out ≡ 0 → Long (m′ .state) (m′ .tables)
+    → readCall m′ (imageOf (m .state) (m .tables)) ≡ taken (onto m m′) [] []
 unfolding readCall
-write-then-read s t out s′ t′ e long =
-    let k = write-taken s t out e in
-    taken-is (readRefusal s′ t′ (imageOf s t)) (refused s′ t′ [] 0) _ (written-taken s t (k .0) s′ t′ long)
-    ∙ ap (λ (m : Memory). taken (m .state) (m .tables) [] []) (written-read s t (k .0) s′ t′ long (k .1))
+write-then-read m m′ out e long =
+    let k = write-taken m out e in
+    taken-is _ _ _ (written-taken (m .state) (m .tables) (k .0) m′ long)
+    ∙ ap (λ (m : Memory). taken m [] []) (written-read (m .state) (m .tables) (k .0) m′ long (k .1))
 
 -- what a reading read, written
-pub read-then-write : (s t im out : List ℕ) → ((a : ℕ) → byteAt im a < 256) → readRefusal s t im ≡ 0 → length im ≤ length out
-    → writeCall (loaded s t im .state) (loaded s t im .tables) out
-    ≡ taken (loaded s t im .state) (loaded s t im .tables) (im ++ drop (length im) out) (length im ∷ [])
+pub read-then-write : (m : Memory) (im out : List ℕ) → ((a : ℕ) → byteAt im a < 256) → readRefusal m im ≡ 0 → length im ≤ length out
+    → writeCall (loaded (m .state) (m .tables) im) out ≡ taken (loaded (m .state) (m .tables) im) (im ++ drop (length im) out) (length im ∷ [])
 unfolding writeCall
-read-then-write s t im out byte e room =
-    let s₁ : List ℕ = loaded s t im .state in
-    let t₁ : List ℕ = loaded s t im .tables in
-    taken-is (writeRefusal s₁ t₁ out) (refused s₁ t₁ out 1) _ (read-can-write s t im byte e out room)
-    ∙ ap (λ (i : List ℕ). taken s₁ t₁ (i ++ drop (length i) out) (length i ∷ [])) (read-written s t im byte e)
+read-then-write m im out byte e room =
+    let g : Memory = loaded (m .state) (m .tables) im in
+    taken-is _ _ _ (read-can-write m im byte e out room)
+    ∙ ap (λ (i : List ℕ). taken g (i ++ drop (length i) out) (length i ∷ [])) (read-written m im byte e)

@@ -7,26 +7,30 @@ use mathlib.Core.Bool.{true, false, not, _&&_, _||_}
 use mathlib.Core.List.{List}
 use lib.Dec.{eqb}
 use borrow.Author.Tests.{eqb-true, not-false}
-use Rattle.model.specs.Memory.{statusOf, targetOf, pendingOf, inSystem, copying, waiting, notifying, isInSystem, isJoining, isAttached, hasNode}
+use Rattle.model.specs.Memory.{nodeOf, statusOf, targetOf, pendingOf, inSystem, copying, waiting, notifying, isInSystem, isJoining, isAttached, hasNode}
 use Rattle.model.specs.Join.{outstanding}
 use Rattle.model.specs.Refusals.{waitHeld}
-use Rattle.model.proofs.Bools.{and-left, and-right, or-cases, or-intro-left, not-both}
+use Rattle.model.proofs.Bools.{and-left, and-right, or-cases, not-both}
 use Rattle.model.proofs.Sets.{has-none}
-use Rattle.model.proofs.Status.{IsNode, CopyingOk, WaitingOk, NotifyingOk, StatusOk, is-in-system, is-copying, is-waiting, is-notifying}
+use Rattle.model.proofs.Status.{IsNode, CopyingOk, WaitingOk, NotifyingOk, StatusOk, is-in-system, is-copying, is-waiting, is-notifying, attached-in-system, attached-other, copying-away, waiting-away}
+use Rattle.model.proofs.Sound.{Sound}
+
+pub record CanDeliver (s : List ℕ) (x y : ℕ) : Type 0 where
+  pub sender : IsNode s x
+  pub receiver : IsNode s y
+  pub asked : outstanding s x y ≡ true
+  pub free : waitHeld s x y ≡ false
 
 -- x's request to y, by x's status
 pub data Sending (s : List ℕ) (x y : ℕ) : Type 0 where
-  copies : statusOf s x ≡ copying → targetOf s x ≡ y → CopyingOk s x → Sending s x y
-  waits : statusOf s x ≡ waiting → targetOf s x ≡ y → isInSystem s y ≡ true → WaitingOk s x → Sending s x y
-  notifies : statusOf s x ≡ notifying → hasNode (pendingOf s x) y ≡ true → NotifyingOk s x → Sending s x y
+  copies : statusOf s x ≡ copying → targetOf s x ≡ y → CopyingOk s (nodeOf s x) → Sending s x y
+  waits : statusOf s x ≡ waiting → targetOf s x ≡ y → isInSystem s y ≡ true → WaitingOk s (nodeOf s x) → Sending s x y
+  notifies : statusOf s x ≡ notifying → hasNode (pendingOf s x) y ≡ true → NotifyingOk s x (nodeOf s x) → Sending s x y
 
 -- the receiver
 pub record Receiver (s : List ℕ) (x y : ℕ) : Type 0 where
   pub attached : isAttached s y ≡ true
   pub other : y ≢ x
-
-pub attached-in-system : (s : List ℕ) (y : ℕ) → isInSystem s y ≡ true → isAttached s y ≡ true
-attached-in-system s y e = or-intro-left (isInSystem s y) (eqb (statusOf s y) notifying) e
 
 module _ (s : List ℕ) (x y : ℕ) where
   -- the test of a status at its number
@@ -42,7 +46,7 @@ module _ (s : List ℕ) (x y : ℕ) where
   its-target : (isJoining s x && eqb (targetOf s x) y) ≡ true → targetOf s x ≡ y
   its-target h = eqb-true (targetOf s x) y (and-right (isJoining s x) (eqb (targetOf s x) y) h)
 
-  pub sending : StatusOk s x → outstanding s x y ≡ true → waitHeld s x y ≡ false → Sending s x y
+  sending : StatusOk s x → outstanding s x y ≡ true → waitHeld s x y ≡ false → Sending s x y
   unfolding outstanding
   sending (is-in-system e o) h w =
       absurd (⊎-elim (not-joining inSystem e refl) (no-pending (o .pending)) (or-cases _ _ h))
@@ -54,17 +58,16 @@ module _ (s : List ℕ) (x y : ℕ) where
   sending (is-notifying e o) h w =
       ⊎-elim (λ a. absurd (not-joining notifying e refl a)) (λ a. notifies e a o) (or-cases _ _ h)
 
-  -- an attached node is not one that copies or waits
-  apart : (n : ℕ) → statusOf s x ≡ n → (eqb n inSystem || eqb n notifying) ≡ false → isAttached s y ≡ true → y ≢ x
-  apart n e f a q = not-both (isAttached s y) a (ap (isAttached s) q ∙ ap (λ (v : ℕ). eqb v inSystem || eqb v notifying) e ∙ f)
-
   pub receiver : IsNode s y → Sending s x y → Receiver s x y
   receiver ny (copies e t o) =
       let a : isAttached s y ≡ true = attached-in-system s y (ap (isInSystem s) (sym t) ∙ o .settled) in
-      record { attached = a; other = apart copying e refl a }
+      record { attached = a; other = attached-other s x y (copying-away s x e) a }
   receiver ny (waits e t i o) =
       let a : isAttached s y ≡ true = attached-in-system s y i in
-      record { attached = a; other = apart waiting e refl a }
+      record { attached = a; other = attached-other s x y (waiting-away s x e) a }
   receiver ny (notifies e h o) =
       let r = o .pending y ny h in
       record { attached = r .attached; other = r .other }
+
+pub sends : (s t : List ℕ) → Sound s t → (x y : ℕ) → CanDeliver s x y → Sending s x y
+sends s t S x y c = sending s x y (S .statuses x (c .sender)) (c .asked) (c .free)

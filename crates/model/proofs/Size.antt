@@ -11,14 +11,13 @@ use lib.ListN.{getD}
 use borrow.Author.Tests.{eqb-true, eqb-false}
 use Rattle.model.specs.Loops.{countBelow}
 use Rattle.model.specs.Ids.{digitOf}
-use Rattle.model.specs.Memory.{nodeCount, idOf, tableStart, tableOf}
+use Rattle.model.specs.Memory.{nodeCount, idOf, tableOf}
 use Rattle.model.specs.Tables.{slotPlace}
 use Rattle.model.proofs.Ids.{low-at, qualified-low, qualified-digit}
-use Rattle.model.proofs.Memory.{table-at}
 use Rattle.model.proofs.Status.{IsNode}
-use Rattle.model.proofs.Sound.{SlotOk, Sound, table-fits, filled-slot}
+use Rattle.model.proofs.Sound.{SlotOk, Sound, filled-slot}
 use Rattle.model.proofs.Counting.{count-most, count-blocks}
-use Rattle.model.proofs.Records.{filledAt, filled-nonzero}
+use Rattle.model.proofs.Records.{filledAt, place-at, filled-nonzero}
 
 -- a place of a table by its level, digit and slot
 place-of : (p : ℕ) → 64 * (p / 64) + 4 * (p % 64 / 4) + p % 4 ≡ p
@@ -44,11 +43,8 @@ module _ (s t : List ℕ) (S : Sound s t) (y : ℕ) (h : y < nodeCount s) where
   abbrev filled : ℕ → Bool
   filled q = filledAt t (512 * y + q)
 
-  -- place q of the node's table in the table memory
   at : (q : ℕ) → q < 512 → getD T q 0 ≡ getD t (512 * y + q) 0
-  at q l =
-      let e : tableStart (y + 1) + q ≡ 512 * y + q = omega arith in
-      table-at t (y + 1) (table-fits s t S (y + 1) is-node) q l ∙ ap (λ (p : ℕ). getD t p 0) e
+  at = place-at t y (omega (arith, S .few, S .long .tables))
 
   nonzero : (q : ℕ) → q < 512 → filled q ≡ true → getD T q 0 ≡ 0 → ⊥
   nonzero q l e z = filled-nonzero t (512 * y + q) e (sym (at q l) ∙ z)

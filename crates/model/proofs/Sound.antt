@@ -17,14 +17,12 @@ use Rattle.model.specs.Tables.{slotPlace, slotAt, firstOf}
 use Rattle.model.specs.Nodes.{qualifies}
 use Rattle.model.specs.Sound.{hasValidId, idDiffers, hasNewId, mayStand, slotDiffers, noGapBefore, slotSound, entrySound, levelSound, ownerFirst, statusSound}
 use Rattle.model.specs.Sound.{allZero, spareZero, placeUsed, placeSound, stateRestZero, tablesRestZero, unusedZero, tableSound, hasSoundTable, sound}
-use Rattle.model.proofs.Bools.{and-left, and-right, and-intro, or-right, or-intro-left, or-intro-right, true-or-false}
+use Rattle.model.proofs.Bools.{and-left, and-right, and-intro, or-right, or-intro-left, or-intro-right, true-or-false, parts}
 use Rattle.model.proofs.Loops.{all-at, all-of}
 use Rattle.model.proofs.Ids.{InRange, settings-range, settings-of, valid-fits}
 use Rattle.model.proofs.Nodes.{nodes-at, nodes-of}
 use Rattle.model.proofs.Zero.{part-zero-at, part-zero-of}
 use Rattle.model.proofs.Status.{IsNode, StatusOk, status-ok, status-of}
-
-ruleset parts = (and-left, and-right)
 
 -- ---- tables
 

@@ -1,11 +1,11 @@
 -- Laws of a list with a part replaced: `splice a n vs l` is l with the n elements from index a on replaced by the n of vs.
 -- A node's record in the state and a node's table in the table memory are such parts. Assumes nothing.
 use Prim.Native.Nat.{ℕ, _+_, _-_, _≤_, _<_}
-use mathlib.Core.Path.{_≡_, sym, ap, _∙_}
-use mathlib.Core.List.{List, _++_}
+use mathlib.Core.Path.{_≡_, sym, ap, ap₂, _∙_}
+use mathlib.Core.List.{List, _++_, append-assoc}
 use native.Mathlib.Omega.{arith}
-use lib.ListN.{length, getD, take, drop, length-append, length-drop, List·getD-append}
-use lib.Seq.{length-take-le, getD-take, getD-drop, getD-append-add, ext-getD}
+use lib.ListN.{length, getD, take, drop, length-append, length-drop, take-append-drop, List·getD-append}
+use lib.Seq.{length-take-le, getD-take, getD-drop, getD-append-add, take-at, drop-at, drop-drop, ext-getD}
 
 abbrev pub splice : ℕ → ℕ → List ℕ → List ℕ → List ℕ
 splice a n vs l = take a l ++ (vs ++ drop (a + n) l)
@@ -42,6 +42,20 @@ module _ (a n : ℕ) (vs l : List ℕ) (e : length vs ≡ n) (fits : a + n ≤ l
       ∙ past vs (drop (a + n) l) n q e
       ∙ getD-drop (a + n) l q 0
       ∙ ap (λ (m : ℕ). getD l m 0) (sym w′)
+
+  -- replaced once more: the second part is what stays
+  pub splice-twice : (us : List ℕ) → splice a n us (splice a n vs l) ≡ splice a n us l
+  splice-twice us =
+      ap₂ (λ (p q : List ℕ). p ++ (us ++ q)) (take-at (take a l) (vs ++ drop (a + n) l) a front)
+      (ap (drop (a + n)) (sym (append-assoc (take a l) vs (drop (a + n) l)))
+      ∙ drop-at (take a l ++ vs) (drop (a + n) l) (a + n) (length-append (take a l) vs ∙ ap₂ _+_ front e))
+
+-- a part put back as it was changes nothing
+pub splice-back : (a n : ℕ) (l : List ℕ) → splice a n (take n (drop a l)) l ≡ l
+splice-back a n l =
+    ap (λ (q : List ℕ). take a l ++ (take n (drop a l) ++ q)) (sym (drop-drop n a l))
+    ∙ ap (λ (q : List ℕ). take a l ++ q) (take-append-drop n (drop a l))
+    ∙ take-append-drop a l
 
 -- the part of a list from index a on, n long
 module _ (a n : ℕ) (l : List ℕ) (fits : a + n ≤ length l) where

@@ -1,22 +1,48 @@
 -- The rules of a node's status as facts, one record for each status, and the way there and back. Assumes nothing.
 use Prim.Native.Nat.{ℕ, _≤_, _<_, _^_}
-use mathlib.Core.Path.{_≡_, refl, ap}
+use mathlib.Core.Path.{_≡_, refl, ap, _∙_}
 use mathlib.Core.Logic.{_≢_, ⊎-elim}
 use mathlib.Core.Bool.{Bool, true, false, not, _&&_, _||_}
 use mathlib.Core.List.{List}
 use lib.Dec.{eqb}
 use borrow.Author.Tests.{eqb-true, eqb-false, eq-eqb, ne-eqb, leb-true, le-leb, ltb-true, lt-ltb, not-true}
-use Rattle.model.specs.Memory.{digits, nodeCount, statusOf, levelOf, targetOf, pendingOf, notifiedOf, inSystem, copying, waiting, notifying, hasNode, isAttached, isInSystem}
+use Rattle.model.specs.Memory.{Node, digits, nodeCount, nodeOf, statusOf, levelOf, targetOf, pendingOf, notifiedOf, inSystem, copying, waiting, notifying, hasNode, isAttached, isInSystem}
+use Rattle.model.specs.Join.{inSystemNode, joiningNode}
 use Rattle.model.specs.Nodes.{isNode, suffixOf, allNodes}
 use Rattle.model.specs.Sound.{inSystemSound, joiningSound, copyingSound, waitingSound, pendingSound, notifiedSound, notifyingSound, statusSound}
-use Rattle.model.proofs.Bools.{and-left, and-right, and-intro, or-cases, or-right, or-intro-left, or-intro-right}
+use Rattle.model.proofs.Bools.{and-left, and-right, and-intro, or-cases, or-right, or-intro-left, or-intro-right, not-both, parts}
 use Rattle.model.proofs.Nodes.{nodes-at, nodes-of}
-
-ruleset parts = (and-left, and-right)
 
 -- whether x is attached, by the number of its status
 pub attached-by : (s : List ℕ) (x n : ℕ) → statusOf s x ≡ n → isAttached s x ≡ (eqb n inSystem || eqb n notifying)
 attached-by s x n = ap (λ (v : ℕ). eqb v inSystem || eqb v notifying)
+
+pub attached-in-system : (s : List ℕ) (x : ℕ) → isInSystem s x ≡ true → isAttached s x ≡ true
+attached-in-system s x e = or-intro-left (isInSystem s x) (eqb (statusOf s x) notifying) e
+
+pub attached-notifying : (s : List ℕ) (x : ℕ) → statusOf s x ≡ notifying → isAttached s x ≡ true
+attached-notifying s x = attached-by s x notifying
+
+pub notifying-out : (s : List ℕ) (x : ℕ) → statusOf s x ≡ notifying → isInSystem s x ≡ false
+notifying-out s x = ap (λ (v : ℕ). eqb v inSystem)
+
+pub copying-away : (s : List ℕ) (x : ℕ) → statusOf s x ≡ copying → isAttached s x ≡ false
+copying-away s x = attached-by s x copying
+
+pub waiting-away : (s : List ℕ) (x : ℕ) → statusOf s x ≡ waiting → isAttached s x ≡ false
+waiting-away s x = attached-by s x waiting
+
+-- an attached node is another than one that is not
+pub attached-other : (s : List ℕ) (x y : ℕ) → isAttached s x ≡ false → isAttached s y ≡ true → y ≢ x
+attached-other s x y f a q = not-both (isAttached s y) a (ap (isAttached s) q ∙ f)
+
+-- with the same record y is attached, and in the system, as it was
+module _ (s s′ : List ℕ) (y : ℕ) (e : nodeOf s′ y ≡ nodeOf s y) where
+  pub attached-same : isAttached s′ y ≡ isAttached s y
+  attached-same = ap (λ (r : Node). eqb (r .status) inSystem || eqb (r .status) notifying) e
+
+  pub in-system-same : isInSystem s′ y ≡ isInSystem s y
+  in-system-same = ap (λ (r : Node). eqb (r .status) inSystem) e
 
 -- x is the number of a node
 pub record IsNode (s : List ℕ) (x : ℕ) : Type 0 where
@@ -29,57 +55,69 @@ is-node s x e = record { low = leb-true 1 x (search parts); high = leb-true x (n
 pub is-node-of : (s : List ℕ) (x : ℕ) → IsNode s x → isNode s x ≡ true
 is-node-of s x r = search (and-intro, le-leb)
 
-pub record InSystemOk (s : List ℕ) (x : ℕ) : Type 0 where
-  pub level : levelOf s x ≡ 0
-  pub target : targetOf s x ≡ 0
-  pub pending : pendingOf s x ≡ 0
-  pub notified : notifiedOf s x ≡ 0
+-- ---- the rules of a record r, which may be x's: a record for each status
 
-pub record JoiningOk (s : List ℕ) (x : ℕ) : Type 0 where
-  pub level : levelOf s x ≡ 0
-  pub pending : pendingOf s x ≡ 0
-  pub notified : notifiedOf s x ≡ 0
+pub record InSystemOk (r : Node) : Type 0 where
+  pub level : r .level ≡ 0
+  pub target : r .target ≡ 0
+  pub pending : r .pending ≡ 0
+  pub notified : r .notified ≡ 0
 
-pub record CopyingOk (s : List ℕ) (x : ℕ) : Type 0 where
-  pub is-node : IsNode s (targetOf s x)
-  pub settled : isInSystem s (targetOf s x) ≡ true
-  pub rest : JoiningOk s x
+pub record JoiningOk (r : Node) : Type 0 where
+  pub level : r .level ≡ 0
+  pub pending : r .pending ≡ 0
+  pub notified : r .notified ≡ 0
 
-pub record WaitingOk (s : List ℕ) (x : ℕ) : Type 0 where
-  pub is-node : IsNode s (targetOf s x)
-  pub attached : isAttached s (targetOf s x) ≡ true
-  pub rest : JoiningOk s x
+pub record CopyingOk (s : List ℕ) (r : Node) : Type 0 where
+  pub is-node : IsNode s (r .target)
+  pub settled : isInSystem s (r .target) ≡ true
+  pub rest : JoiningOk r
+
+pub record WaitingOk (s : List ℕ) (r : Node) : Type 0 where
+  pub is-node : IsNode s (r .target)
+  pub attached : isAttached s (r .target) ≡ true
+  pub rest : JoiningOk r
 
 -- a node of the pending set
-pub record PendingOk (s : List ℕ) (x u : ℕ) : Type 0 where
+pub record PendingOk (s : List ℕ) (x level notified u : ℕ) : Type 0 where
   pub attached : isAttached s u ≡ true
-  pub suffix : levelOf s x ≤ suffixOf s x u
+  pub suffix : level ≤ suffixOf s x u
   pub other : u ≢ x
-  pub new : hasNode (notifiedOf s x) u ≡ false
+  pub new : hasNode notified u ≡ false
 
 -- a node of the notified set
 pub record NotifiedOk (s : List ℕ) (x u : ℕ) : Type 0 where
   pub attached : isAttached s u ≡ true
   pub other : u ≢ x
 
-pub record NotifyingOk (s : List ℕ) (x : ℕ) : Type 0 where
-  pub target : targetOf s x ≡ 0
-  pub level : levelOf s x < digits s
-  pub some : 0 < pendingOf s x
-  pub pending-within : pendingOf s x < 2 ^ nodeCount s
-  pub notified-within : notifiedOf s x < 2 ^ nodeCount s
-  pub pending : (u : ℕ) → IsNode s u → hasNode (pendingOf s x) u ≡ true → PendingOk s x u
-  pub notified : (u : ℕ) → IsNode s u → hasNode (notifiedOf s x) u ≡ true → NotifiedOk s x u
+pub record NotifyingOk (s : List ℕ) (x : ℕ) (r : Node) : Type 0 where
+  pub target : r .target ≡ 0
+  pub level : r .level < digits s
+  pub some : 0 < r .pending
+  pub pending-within : r .pending < 2 ^ nodeCount s
+  pub notified-within : r .notified < 2 ^ nodeCount s
+  pub pending : (u : ℕ) → IsNode s u → hasNode (r .pending) u ≡ true → PendingOk s x (r .level) (r .notified) u
+  pub notified : (u : ℕ) → IsNode s u → hasNode (r .notified) u ≡ true → NotifiedOk s x u
+
+pub data RecordOk (s : List ℕ) (x : ℕ) (r : Node) : Type 0 where
+  is-in-system : r .status ≡ inSystem → InSystemOk r → RecordOk s x r
+  is-copying : r .status ≡ copying → CopyingOk s r → RecordOk s x r
+  is-waiting : r .status ≡ waiting → WaitingOk s r → RecordOk s x r
+  is-notifying : r .status ≡ notifying → NotifyingOk s x r → RecordOk s x r
 
 -- the rules of x's status
-pub data StatusOk (s : List ℕ) (x : ℕ) : Type 0 where
-  is-in-system : statusOf s x ≡ inSystem → InSystemOk s x → StatusOk s x
-  is-copying : statusOf s x ≡ copying → CopyingOk s x → StatusOk s x
-  is-waiting : statusOf s x ≡ waiting → WaitingOk s x → StatusOk s x
-  is-notifying : statusOf s x ≡ notifying → NotifyingOk s x → StatusOk s x
+abbrev pub StatusOk : List ℕ → ℕ → Type 0
+StatusOk s x = RecordOk s x (nodeOf s x)
+
+-- a record that is at rest, and one that joins
+pub rests : (s : List ℕ) (x : ℕ) (r : Node) → RecordOk s x (inSystemNode r)
+rests s x r = is-in-system refl (record { level = refl; target = refl; pending = refl; notified = refl })
+
+pub joins : (r : Node) (status target : ℕ) → JoiningOk (joiningNode r status target)
+joins r status target = record { level = refl; pending = refl; notified = refl }
 
 module _ (s : List ℕ) (x : ℕ) where
-  in-system-ok : inSystemSound s x ≡ true → InSystemOk s x
+  in-system-ok : inSystemSound s x ≡ true → InSystemOk (nodeOf s x)
   unfolding inSystemSound
   in-system-ok e = record {
     level = eqb-true _ 0 (search parts);
@@ -88,11 +126,11 @@ module _ (s : List ℕ) (x : ℕ) where
     notified = eqb-true _ 0 (search parts);
   }
 
-  in-system-of : InSystemOk s x → inSystemSound s x ≡ true
+  in-system-of : InSystemOk (nodeOf s x) → inSystemSound s x ≡ true
   unfolding inSystemSound
   in-system-of r = search (and-intro, eq-eqb)
 
-  joining-ok : joiningSound s x ≡ true → JoiningOk s x
+  joining-ok : joiningSound s x ≡ true → JoiningOk (nodeOf s x)
   unfolding joiningSound
   joining-ok e = record {
     level = eqb-true _ 0 (search parts);
@@ -100,26 +138,26 @@ module _ (s : List ℕ) (x : ℕ) where
     notified = eqb-true _ 0 (search parts);
   }
 
-  joining-of : JoiningOk s x → joiningSound s x ≡ true
+  joining-of : JoiningOk (nodeOf s x) → joiningSound s x ≡ true
   unfolding joiningSound
   joining-of r = search (and-intro, eq-eqb)
 
-  copying-ok : copyingSound s x ≡ true → CopyingOk s x
+  copying-ok : copyingSound s x ≡ true → CopyingOk s (nodeOf s x)
   unfolding copyingSound
   copying-ok e =
       record { is-node = is-node s (targetOf s x) (search parts); settled = search parts; rest = joining-ok (search parts) }
 
-  copying-of : CopyingOk s x → copyingSound s x ≡ true
+  copying-of : CopyingOk s (nodeOf s x) → copyingSound s x ≡ true
   unfolding copyingSound
   copying-of r =
       and-intro _ _ (is-node-of s (targetOf s x) (r .is-node)) (and-intro _ _ (r .settled) (joining-of (r .rest)))
 
-  waiting-ok : waitingSound s x ≡ true → WaitingOk s x
+  waiting-ok : waitingSound s x ≡ true → WaitingOk s (nodeOf s x)
   unfolding waitingSound
   waiting-ok e =
       record { is-node = is-node s (targetOf s x) (search parts); attached = search parts; rest = joining-ok (search parts) }
 
-  waiting-of : WaitingOk s x → waitingSound s x ≡ true
+  waiting-of : WaitingOk s (nodeOf s x) → waitingSound s x ≡ true
   unfolding waitingSound
   waiting-of r =
       and-intro _ _ (is-node-of s (targetOf s x) (r .is-node)) (and-intro _ _ (r .attached) (joining-of (r .rest)))
@@ -132,7 +170,7 @@ module _ (s : List ℕ) (x : ℕ) where
   asked-of true b h = h refl
   asked-of false b h = refl
 
-  pending-ok : (u : ℕ) → pendingSound s x u ≡ true → hasNode (pendingOf s x) u ≡ true → PendingOk s x u
+  pending-ok : (u : ℕ) → pendingSound s x u ≡ true → hasNode (pendingOf s x) u ≡ true → PendingOk s x (levelOf s x) (notifiedOf s x) u
   unfolding pendingSound
   pending-ok u e q =
       let h = asked (hasNode (pendingOf s x) u) _ e q in
@@ -143,12 +181,12 @@ module _ (s : List ℕ) (x : ℕ) where
         new = not-true _ (search parts);
       }
 
-  pending-of : (u : ℕ) → (hasNode (pendingOf s x) u ≡ true → PendingOk s x u) → pendingSound s x u ≡ true
+  pending-of : (u : ℕ) → (hasNode (pendingOf s x) u ≡ true → PendingOk s x (levelOf s x) (notifiedOf s x) u) → pendingSound s x u ≡ true
   unfolding pendingSound
   pending-of u h =
       asked-of (hasNode (pendingOf s x) u) _
       (λ q.
-      let r : PendingOk s x u = h q in
+      let r : PendingOk s x (levelOf s x) (notifiedOf s x) u = h q in
       and-intro _ _ (r .attached)
       (and-intro _ _ (le-leb _ _ (r .suffix)) (and-intro _ _ (ap not (ne-eqb u x (r .other))) (ap not (r .new)))))
 
@@ -166,7 +204,7 @@ module _ (s : List ℕ) (x : ℕ) where
       let r : NotifiedOk s x u = h q in
       and-intro _ _ (r .attached) (ap not (ne-eqb u x (r .other))))
 
-  notifying-ok : notifyingSound s x ≡ true → NotifyingOk s x
+  notifying-ok : notifyingSound s x ≡ true → NotifyingOk s x (nodeOf s x)
   unfolding notifyingSound
   notifying-ok e = record {
     target = eqb-true _ 0 (search parts);
@@ -178,7 +216,7 @@ module _ (s : List ℕ) (x : ℕ) where
     notified = λ u n. notified-ok u (nodes-at (nodeCount s) (notifiedSound s x) (search parts) u (n .low) (n .high));
   }
 
-  notifying-of : NotifyingOk s x → notifyingSound s x ≡ true
+  notifying-of : NotifyingOk s x (nodeOf s x) → notifyingSound s x ≡ true
   unfolding notifyingSound
   notifying-of r =
       let p : allNodes s (pendingSound s x) ≡ true =

@@ -114,23 +114,23 @@ module _ (s : List ℕ) (x : ℕ) (Y : List ℕ) (p : ℕ) (T : List ℕ) where
 
 -- ---- a place of a table, gathered by x from level k on; m is what the code has for the common suffix
 
-module _ (s : List ℕ) (x k told : ℕ) (T : List ℕ) (p nodes : ℕ) where
-  pub gather-empty : getD T p 0 ≡ 0 → nodes ≡ gatherPlace s x k told T p nodes
+module _ (s : List ℕ) (x k notified : ℕ) (T : List ℕ) (p nodes : ℕ) where
+  pub gather-empty : getD T p 0 ≡ 0 → nodes ≡ gatherPlace s x k notified T p nodes
   gather-empty e = simp (eq-eqb (getD T p 0) 0 e)
 
-  pub gather-own : getD T p 0 ≡ x → nodes ≡ gatherPlace s x k told T p nodes
+  pub gather-own : getD T p 0 ≡ x → nodes ≡ gatherPlace s x k notified T p nodes
   gather-own e = simp (eq-eqb (getD T p 0) x e, and-false)
 
-  pub gather-far : (m : ℕ) → m ≡ suffixOf s x (getD T p 0) → m < k → nodes ≡ gatherPlace s x k told T p nodes
+  pub gather-far : (m : ℕ) → m ≡ suffixOf s x (getD T p 0) → m < k → nodes ≡ gatherPlace s x k notified T p nodes
   gather-far m e l = simp (lt-leb k (suffixOf s x (getD T p 0)) (omega arith), and-false)
 
-  pub gather-told : (r : Bool) → r ≡ hasNode told (getD T p 0) → r ≡ true → nodes ≡ gatherPlace s x k told T p nodes
-  gather-told r e h = let w : hasNode told (getD T p 0) ≡ true = sym e ∙ h in simp (w, and-false)
+  pub gather-notified : (r : Bool) → r ≡ hasNode notified (getD T p 0) → r ≡ true → nodes ≡ gatherPlace s x k notified T p nodes
+  gather-notified r e h = let w : hasNode notified (getD T p 0) ≡ true = sym e ∙ h in simp (w, and-false)
 
   pub gather-adds : (m : ℕ) (r : Bool) (y : ℕ) → getD T p 0 ≢ 0 → getD T p 0 ≢ x → m ≡ suffixOf s x (getD T p 0) → k ≤ m
-      → r ≡ hasNode told (getD T p 0) → r ≡ false → y ≡ addNode nodes (getD T p 0) → y ≡ gatherPlace s x k told T p nodes
+      → r ≡ hasNode notified (getD T p 0) → r ≡ false → y ≡ addNode nodes (getD T p 0) → y ≡ gatherPlace s x k notified T p nodes
   gather-adds m r y nz ne e l q h a =
-      let w : hasNode told (getD T p 0) ≡ false = sym q ∙ h in
+      let w : hasNode notified (getD T p 0) ≡ false = sym q ∙ h in
       a ∙ simp (ne-eqb (getD T p 0) 0 nz, ne-eqb (getD T p 0) x ne, le-leb k (suffixOf s x (getD T p 0)) (omega arith), w)
 
 -- ---- the own slots of a new table, level by level; j is what the code has for the digit

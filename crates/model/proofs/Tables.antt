@@ -12,7 +12,7 @@ use lib.Dec.{eqb}
 use lib.ListN.{length, getD, set, take, drop, length-set, length-drop}
 use lib.Seq.{ext-getD, getD-set-same, getD-set-other, drop-set-add, take-suc-set}
 use borrow.Author.Tests.{eqb-true, eqb-false, eq-eqb, ne-eqb}
-use Rattle.model.specs.Tables.{slotPlace, slotAt, slotIs, entrySize, entry, holds, append, firstOf}
+use Rattle.model.specs.Tables.{slotPlace, slotAt, slotIs, entrySize, entry, holds, append}
 use Rattle.model.proofs.Splice.{part-length, part-at}
 use Rattle.model.proofs.Loops.{first-le, first-before, first-holds, first-unique, first-min, first-same, any-at, any-false}
 
@@ -190,8 +190,3 @@ append-grows K T i j u h = record {
   long = append-length K T i j u;
   kept = λ p f. append-away K T i j u p (λ e. f (ap (λ (q : ℕ). getD T q 0) e ∙ size-empty K T i j h));
 }
-
--- the first of a non-empty entry never changes by appending, to this entry or another
-pub append-first : (K : ℕ) (T : List ℕ) (i j u : ℕ) → entrySize K T i j < K → (i′ j′ : ℕ) → firstOf T i′ j′ ≢ 0
-    → firstOf (append K T i j u) i′ j′ ≡ firstOf T i′ j′
-append-first K T i j u h i′ j′ = append-grows K T i j u h .kept (slotPlace i′ j′ 0)

@@ -14,7 +14,7 @@ use Rattle.model.specs.Consistency.{consistent}
 use Rattle.model.proofs.Status.{IsNode}
 use Rattle.model.proofs.Sound.{Sound}
 use Rattle.model.proofs.Later.{Later, node-later, suffix-later}
-use Rattle.model.proofs.Growing.{Onward}
+use Rattle.model.proofs.TablesOnlyGrow.{Onward}
 use Rattle.model.proofs.Lookup.{walk, lookup-hop, path-hop, arrives-is, arrives-path}
 use Rattle.model.proofs.Consistency.{not-lost}
 

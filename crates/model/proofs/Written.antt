@@ -1,7 +1,7 @@
 -- A written image is one that reading takes: the image of a state pictures it, and what pictures a sound state keeps every rule of an
 -- image. Record r of the image is that of the place with r filled places before it. Assumes nothing.
 use Prim.Native.Nat.{ℕ, _+_, _-_, _*_, _/_, _%_, _≤_, _<_}
-use mathlib.Core.Path.{_≡_, refl, sym, ap, ap₂, subst, subst₃, _∙_}
+use mathlib.Core.Path.{_≡_, refl, sym, ap, ap₂, subst, subst₂, subst₃, _∙_}
 use mathlib.Core.Logic.{_≢_, _⊎_, inl, inr}
 use mathlib.Core.Bool.{Bool, true, false, not, _&&_, _||_}
 use mathlib.Core.List.{List}
@@ -22,9 +22,10 @@ use Rattle.model.proofs.Ids.{InRange, valid-digit}
 use Rattle.model.proofs.Memory.{table-at}
 use Rattle.model.proofs.Status.{IsNode}
 use Rattle.model.proofs.Sound.{SlotOk, Sound, table-fits}
+use Rattle.model.proofs.RecordRules.{entryKey, key-le, SameEntry, same-entry, of-same-entry}
 use Rattle.model.proofs.Loading.{GoodImage}
 use Rattle.model.proofs.Counting.{Ranked, count-finds, count-mono, count-rises, count-most}
-use Rattle.model.proofs.Records.{filledAt, filled-nonzero, filled-of}
+use Rattle.model.proofs.Records.{filledAt, place-at, filled-nonzero, filled-of}
 use Rattle.model.proofs.Sections.{Pictures}
 
 -- ---- a filled place of a sound state
@@ -33,9 +34,8 @@ use Rattle.model.proofs.Sections.{Pictures}
 pub slot-place : (t : List ℕ) (p : ℕ) → 512 * (p / 512) + 512 ≤ length t → (k : ℕ) → k < 4
     → slotAt (tableOf t (p / 512 + 1)) (p % 512 / 64) (p % 64 / 4) k ≡ getD t (4 * (p / 4) + k) 0
 slot-place t p fits k h =
-    let l : tableStart (p / 512 + 1) + 512 ≤ length t = omega arith in
-    let w : tableStart (p / 512 + 1) + slotPlace (p % 512 / 64) (p % 64 / 4) k ≡ 4 * (p / 4) + k = omega arith in
-    table-at t (p / 512 + 1) l (slotPlace (p % 512 / 64) (p % 64 / 4) k) (omega arith) ∙ ap (λ (p : ℕ). getD t p 0) w
+    let w : 512 * (p / 512) + slotPlace (p % 512 / 64) (p % 64 / 4) k ≡ 4 * (p / 4) + k = omega arith in
+    place-at t (p / 512) fits (slotPlace (p % 512 / 64) (p % 64 / 4) k) (omega arith) ∙ ap (λ (p : ℕ). getD t p 0) w
 
 -- p is in the table of node p / 512 + 1, at level p % 512 / 64, digit p % 64 / 4 and slot p % 4
 pub record SlotIn (s t : List ℕ) (p : ℕ) : Type 0 where
@@ -60,13 +60,11 @@ module _ (s t : List ℕ) (S : Sound s t) where
       x : IsNode s (p / 512 + 1)
       x = record { low = omega arith; high = omega arith }
 
-      in-table : (q : ℕ) → q < 512 → getD (tableOf t (p / 512 + 1)) q 0 ≡ getD t (512 * (p / 512) + q) 0
-      in-table q h =
-          let w : tableStart (p / 512 + 1) + q ≡ 512 * (p / 512) + q = omega arith in
-          table-at t (p / 512 + 1) (table-fits s t S (p / 512 + 1) x) q h ∙ ap (λ (p : ℕ). getD t p 0) w
+      fits : 512 * (p / 512) + 512 ≤ length t
+      fits = omega (arith, S .few, S .long .tables)
 
       at : (k : ℕ) → k < 4 → slotAt (tableOf t (p / 512 + 1)) (p % 512 / 64) (p % 64 / 4) k ≡ getD t (4 * (p / 4) + k) 0
-      at = slot-place t p (omega (arith, S .few, S .long .tables))
+      at = slot-place t p fits
 
       here : slotAt (tableOf t (p / 512 + 1)) (p % 512 / 64) (p % 64 / 4) (p % 4) ≡ getD t p 0
       here = let w : 4 * (p / 4) + p % 4 ≡ p = omega arith in at (p % 4) (omega arith) ∙ ap (λ (p : ℕ). getD t p 0) w
@@ -75,7 +73,7 @@ module _ (s t : List ℕ) (S : Sound s t) where
       used =
           let w : 512 * (p / 512) + p % 512 ≡ p = omega arith in
           back-true (placeUsed s (p % 512)) true
-          (λ f. absurd (filled-nonzero t p e (sym (in-table (p % 512) (omega arith) ∙ ap (λ (p : ℕ). getD t p 0) w) ∙ S .tables (p / 512 + 1) x .unused (p % 512) (omega arith) f))) refl
+          (λ f. absurd (filled-nonzero t p e (sym (place-at t (p / 512) fits (p % 512) (omega arith) ∙ ap (λ (p : ℕ). getD t p 0) w) ∙ S .tables (p / 512 + 1) x .unused (p % 512) (omega arith) f))) refl
 
       level : p % 512 / 64 < digits s
       level = ltb-true (p % 512 / 64) (digits s) (and-left _ _ used)
@@ -99,30 +97,26 @@ module _ (s t : List ℕ) (S : Sound s t) where
 entry-of : (p : ℕ) → p / 4 ≡ 128 * (p / 512) + 16 * (p % 512 / 64) + p % 64 / 4
 entry-of p = omega arith
 
--- places of the same entry
-same-entry : (p q : ℕ) → p / 512 ≡ q / 512 → p % 512 / 64 ≡ q % 512 / 64 → p % 64 / 4 ≡ q % 64 / 4 → p / 4 ≡ q / 4
-same-entry p q ex ei ej =
-    entry-of p
-    ∙ ap₂ (λ (x i : ℕ). 128 * x + 16 * i + p % 64 / 4) ex ei
-    ∙ ap (λ (j : ℕ). 128 * (q / 512) + 16 * (q % 512 / 64) + j) ej
-    ∙ sym (entry-of q)
+abbrev keyAt : ℕ → ℕ
+keyAt p = entryKey (p / 512 + 1) (p % 512 / 64) (p % 64 / 4)
 
--- "Records rise by member, level, digit"
-lexical : (a b c a′ b′ c′ : ℕ) → a ≤ a′ → (a ≡ a′ → b ≤ b′) → (a ≡ a′ → b ≡ b′ → c ≤ c′)
-    → (ltb a a′ || (eqb a a′ && (ltb b b′ || (eqb b b′ && leb c c′)))) ≡ true
-lexical a b c a′ b′ c′ la lb lc = go (decLt a a′) (decLt b b′)
-  where
-    go : Dec (a < a′) → Dec (b < b′) → (ltb a a′ || (eqb a a′ && (ltb b b′ || (eqb b b′ && leb c c′)))) ≡ true
-    go (yes l) d = or-intro-left _ _ (lt-ltb a a′ l)
-    go (no g) (yes l) =
-        let e : a ≡ a′ = omega arith in
-        or-intro-right (ltb a a′) _ (and-intro _ _ (eq-eqb a a′ e) (or-intro-left _ _ (lt-ltb b b′ l)))
-    go (no g) (no k) =
-        let e : a ≡ a′ = omega arith in
-        let l : b ≤ b′ = lb e in
-        let f : b ≡ b′ = omega arith in
-        or-intro-right (ltb a a′) _
-        (and-intro _ _ (eq-eqb a a′ e) (or-intro-right (ltb b b′) _ (and-intro _ _ (eq-eqb b b′ f) (le-leb c c′ (lc e f)))))
+-- and their keys rise and are equal as these numbers do
+key-number : (x i j y k l : ℕ) → i < 8 → j < 16 → k < 8 → l < 16 → entryKey (x + 1) i j ≡ entryKey (y + 1) k l
+    → 128 * x + 16 * i + j ≡ 128 * y + 16 * k + l
+key-number x i j y k l hi hj hk hl e = omega arith
+
+number-rises : (x i j y k l : ℕ) → i < 8 → j < 16 → k < 8 → l < 16 → 128 * x + 16 * i + j ≤ 128 * y + 16 * k + l
+    → entryKey (x + 1) i j ≤ entryKey (y + 1) k l
+number-rises x i j y k l hi hj hk hl e = omega arith
+
+key-place : (p q : ℕ) → keyAt p ≡ keyAt q → p / 4 ≡ q / 4
+key-place p q e =
+    entry-of p ∙ key-number _ _ _ _ _ _ (omega arith) (omega arith) (omega arith) (omega arith) e ∙ sym (entry-of q)
+
+place-rises : (q p : ℕ) → q < p → keyAt q ≤ keyAt p
+place-rises q p l =
+    let e : q / 4 ≤ p / 4 = omega arith in
+    number-rises _ _ _ _ _ _ (omega arith) (omega arith) (omega arith) (omega arith) (subst₂ _≤_ (entry-of q) (entry-of p) e)
 
 -- ---- the records of an image that pictures the state
 
@@ -184,22 +178,21 @@ module _ (im s t : List ℕ) (S : Sound s t) (P : Pictures im s t) where
 
   -- records of the same entry
   same-of : (q r p′ p : ℕ) → Of q p′ → Of r p → sameEntry im r q ≡ true → p′ / 4 ≡ p / 4
-  unfolding sameEntry
   same-of q r p′ p A B e =
-      let e′ = and-right (eqb (recNode im q) (recNode im r)) _ e in
-      let ex : recNode im q ≡ recNode im r = eqb-true _ _ (and-left _ _ e) in
-      let ei : recLevel im q ≡ recLevel im r = eqb-true _ _ (and-left _ _ e′) in
-      let ej : recDigit im q ≡ recDigit im r = eqb-true _ _ (and-right (eqb (recLevel im q) (recLevel im r)) _ e′) in
-      same-entry p′ p (omega (arith, A .node, B .node)) (sym (A .level) ∙ ei ∙ B .level) (sym (A .digit) ∙ ej ∙ B .digit)
+      let S : SameEntry im r q = same-entry im r q e in
+      key-place p′ p (omega (arith, A .node, A .level, A .digit, B .node, B .level, B .digit, S .node, S .level, S .digit))
 
   of-same : (q r p′ p : ℕ) → Of q p′ → Of r p → p′ / 4 ≡ p / 4 → sameEntry im r q ≡ true
-  unfolding sameEntry
   of-same q r p′ p A B e =
       let ex : p′ / 512 + 1 ≡ p / 512 + 1 = omega arith in
       let ei : p′ % 512 / 64 ≡ p % 512 / 64 = omega arith in
       let ej : p′ % 64 / 4 ≡ p % 64 / 4 = omega arith in
-      and-intro _ _ (eq-eqb _ _ (A .node ∙ ex ∙ sym (B .node)))
-      (and-intro _ _ (eq-eqb _ _ (A .level ∙ ei ∙ sym (B .level))) (eq-eqb _ _ (A .digit ∙ ej ∙ sym (B .digit))))
+      of-same-entry im r q
+      (record {
+        node = A .node ∙ ex ∙ sym (B .node);
+        level = A .level ∙ ei ∙ sym (B .level);
+        digit = A .digit ∙ ej ∙ sym (B .digit);
+      })
 
   im-node : (x : ℕ) → 1 ≤ x → x ≤ imNodes im → IsNode s x
   im-node x l h = record { low = l; high = omega (arith, P .nodes) }
@@ -242,15 +235,13 @@ module _ (im s t : List ℕ) (S : Sound s t) (P : Pictures im s t) where
         go (no nz) =
             let B : Of (r - 1) (place (r - 1)) = Q nz in
             let l : place (r - 1) < p = before (r - 1) r (place (r - 1)) p (omega arith) B A in
-            or-intro-right (eqb r 0) _
-            (rises l (B .node) (B .level) (B .digit))
+            or-intro-right (eqb r 0) _ (rises (place (r - 1)) l B)
           where
-            rises : {q : ℕ} → q < p → recNode im (r - 1) ≡ q / 512 + 1 → recLevel im (r - 1) ≡ q % 512 / 64 → recDigit im (r - 1) ≡ q % 64 / 4
-                → risesFrom im (r - 1) r ≡ true
-            rises {q} l a b c =
-                let la : q / 512 + 1 ≤ p / 512 + 1 = omega arith in
-                rw (a, b, c, A .node, A .level, A .digit)
-                (lexical (q / 512 + 1) (q % 512 / 64) (q % 64 / 4) (p / 512 + 1) (p % 512 / 64) (p % 64 / 4) la (λ e. omega arith) (λ e f. omega arith))
+            rises : (q : ℕ) → q < p → Of (r - 1) q → risesFrom im (r - 1) r ≡ true
+            rises q l B =
+                rw (B .node, B .level, B .digit, A .node, A .level, A .digit)
+                (key-le (q / 512 + 1) (q % 512 / 64) (q % 64 / 4) (p / 512 + 1) (p % 512 / 64) (p % 64 / 4) (omega arith) (omega arith) (omega arith) (omega arith)
+                ∙ le-leb (keyAt q) (keyAt p) (place-rises q p l))
 
     ids-of : (a b : ℕ) → a ≡ x → b ≡ getD t p 0 → (imId im a ≡ idOf s x) × (imId im b ≡ idOf s (getD t p 0))
     ids-of a b ea eb =

@@ -6,12 +6,36 @@ use lib.ListN.{getD, set}
 use lib.Dec.{leb, ltb, eqb}
 use Rattle.model.specs.Loops.{allBelow, firstBelow, eachBelow}
 use Rattle.model.specs.Ids.{digitOf}
-use Rattle.model.specs.Memory.{stateLength, tablesLength, digits, depth, nodeCount, zeroed, Node, Memory, idOf, statusOf, levelOf, targetOf}
+use Rattle.model.specs.Memory.{stateLength, tablesLength, digits, depth, nodeCount, zeroed, Node, Memory, nodeOf, idOf, statusOf, levelOf, targetOf}
 use Rattle.model.specs.Memory.{pendingOf, notifiedOf, withNode, inSystem, copying, waiting, notifying, isInSystem, isJoining}
 use Rattle.model.specs.Memory.{hasNode, addNode, removeNode, tableOf, withTable}
 use Rattle.model.specs.Tables.{entrySize, firstOf, ownTable}
 use Rattle.model.specs.Nodes.{suffixOf}
 use Rattle.model.specs.Learning.{learn, learnTable}
+
+-- ---- the records that a step gives a node; r is its record before
+
+-- a new node, at rest
+abbrev pub newNode : ℕ → Node
+newNode id = record { id = id; status = inSystem; level = 0; target = 0; pending = 0; notified = 0 }
+
+-- a node at rest
+abbrev pub inSystemNode : Node → Node
+inSystemNode r = record { id = r .id; status = inSystem; level = 0; target = 0; pending = 0; notified = 0 }
+
+-- one that copies or waits, by its status and target
+abbrev pub joiningNode : Node → ℕ → ℕ → Node
+joiningNode r status target =
+    record { id = r .id; status = status; level = 0; target = target; pending = 0; notified = 0 }
+
+-- one that notifies
+abbrev pub notifyingNode : Node → ℕ → ℕ → ℕ → Node
+notifyingNode r level pending notified =
+    record { id = r .id; status = notifying; level = level; target = 0; pending = pending; notified = notified }
+
+-- "A notifying member whose asked set is empty settles in the same step: attach level, target and both sets become zero."
+unfoldable pub settle : Node → Node
+settle r = cond (eqb (r .status) notifying && eqb (r .pending) 0) (inSystemNode r) r
 
 -- ---- founding and beginning
 
@@ -19,20 +43,11 @@ use Rattle.model.specs.Learning.{learn, learnTable}
 abbrev pub withSettings : List ℕ → ℕ → ℕ → ℕ → ℕ → List ℕ
 withSettings s b d K n = set (set (set (set s 0 b) 1 d) 2 K) 3 n
 
--- the record of a node at rest
-abbrev pub inSystemNode : ℕ → Node
-inSystemNode id = record { id = id; status = inSystem; level = 0; target = 0; pending = 0; notified = 0 }
-
--- the record of a node that copies or waits, by its status and target
-abbrev pub joiningNode : ℕ → ℕ → ℕ → Node
-joiningNode id status target =
-    record { id = id; status = status; level = 0; target = target; pending = 0; notified = 0 }
-
 -- "Founding makes member 1, settled, with only its own entries." Every place of the fixed lengths is decided.
 unfoldable pub founded : List ℕ → List ℕ → ℕ → ℕ → ℕ → ℕ → Memory
 founded s t b d K id =
     record {
-      state = withNode (withSettings (zeroed stateLength s) b d K 1) 1 (inSystemNode id);
+      state = withNode (withSettings (zeroed stateLength s) b d K 1) 1 (newNode id);
       tables = withTable (zeroed tablesLength t) 1 (ownTable d id 1);
     }
 
@@ -41,7 +56,7 @@ unfoldable pub begun : List ℕ → List ℕ → ℕ → ℕ → Memory
 begun s t id gateway =
     let x = nodeCount s + 1 in
     record {
-      state = withNode (set s 3 x) x (joiningNode id copying gateway);
+      state = withNode (set s 3 x) x (joiningNode (newNode id) copying gateway);
       tables = withTable t x (ownTable (digits s) id x);
     }
 
@@ -93,8 +108,8 @@ deliverCopying s x y Tx Ty =
     let next = firstAtSuffix s Ty x y in
     record {
       sender =
-          cond (roomAtSuffix s Ty x y) (joiningNode (idOf s x) waiting y)
-          (joiningNode (idOf s x) (cond (isInSystem s next) copying waiting) next);
+          cond (roomAtSuffix s Ty x y) (joiningNode (nodeOf s x) waiting y)
+          (joiningNode (nodeOf s x) (cond (isInSystem s next) copying waiting) next);
       senderTable = learnTable s x Ty Tx;
       receiverTable = Ty;
       kind = kindCopied;
@@ -105,7 +120,7 @@ deliverCopying s x y Tx Ty =
 unfoldable pub deliverSentOn : List ℕ → ℕ → ℕ → List ℕ → List ℕ → Delivery
 deliverSentOn s x y Tx Ty =
     record {
-      sender = joiningNode (idOf s x) waiting (firstAtSuffix s Ty x y);
+      sender = joiningNode (nodeOf s x) waiting (firstAtSuffix s Ty x y);
       senderTable = learnTable s x Ty Tx;
       receiverTable = Ty;
       kind = kindSentOn;
@@ -126,38 +141,28 @@ attachLevel s Ty x h = firstBelow (suc h) (roomFrom s Ty x h)
 
 -- u may join x's pending set: it "matches x in k digits or more and isn't x or told"
 abbrev pub toNotify : List ℕ → ℕ → ℕ → ℕ → ℕ → Bool
-toNotify s x k told u = not (eqb u 0) && (not (eqb u x) && (leb k (suffixOf s x u) && not (hasNode told u)))
+toNotify s x k notified u = not (eqb u 0) && (not (eqb u x) && (leb k (suffixOf s x u) && not (hasNode notified u)))
 
 abbrev pub gatherPlace : List ℕ → ℕ → ℕ → ℕ → List ℕ → ℕ → ℕ → ℕ
-gatherPlace s x k told T p nodes = let u = getD T p 0 in cond (toNotify s x k told u) (addNode nodes u) nodes
+gatherPlace s x k notified T p nodes = let u = getD T p 0 in cond (toNotify s x k notified u) (addNode nodes u) nodes
 
 -- the set with every such node of the table T added
 unfoldable pub gather : List ℕ → ℕ → ℕ → ℕ → List ℕ → ℕ → ℕ
-gather s x k told T nodes = eachBelow 512 (gatherPlace s x k told T) nodes
-
--- "A notifying member whose asked set is empty settles in the same step: attach level, target and both sets become zero."
-unfoldable pub settle : Node → Node
-settle r = cond (eqb (r .status) notifying && eqb (r .pending) 0) (inSystemNode (r .id)) r
-
--- a notifying node's record, settled where nothing is pending
-abbrev pub notifyingNode : ℕ → ℕ → ℕ → ℕ → Node
-notifyingNode id level pending told =
-    settle
-    (record { id = id; status = notifying; level = level; target = 0; pending = pending; notified = told })
+gather s x k notified T nodes = eachBelow 512 (gatherPlace s x k notified T) nodes
 
 -- "x becomes notifying with it and target zero, learns y's table, and y learns x. The told set is y. The asked set is every member of
 -- x's table or y's that matches x in k digits or more and isn't x or told." s′ has x notifying: y learns x from that level on.
 unfoldable pub deliverAttached : List ℕ → ℕ → ℕ → List ℕ → List ℕ → Delivery
 deliverAttached s x y Tx Ty =
     let k = attachLevel s Ty x (suffixOf s x y) in
-    let told = addNode 0 y in
-    let s′ =
-    withNode s x
-    (record { id = idOf s x; status = notifying; level = k; target = 0; pending = 0; notified = told }) in
+    let notified = addNode 0 y in
+    let s′ = withNode s x (notifyingNode (nodeOf s x) k 0 notified) in
     let Tx′ = learnTable s′ x Ty Tx in
     let Ty′ = learn s′ y x Ty in
     record {
-      sender = notifyingNode (idOf s x) k (gather s x k told Ty′ (gather s x k told Tx′ 0)) told;
+      sender =
+          settle
+          (notifyingNode (nodeOf s x) k (gather s x k notified Ty′ (gather s x k notified Tx′ 0)) notified);
       senderTable = Tx′;
       receiverTable = Ty′;
       kind = kindAttached;
@@ -174,10 +179,12 @@ deliverWaiting s x y Tx Ty =
 unfoldable pub deliverNotifying : List ℕ → ℕ → ℕ → List ℕ → List ℕ → Delivery
 deliverNotifying s x y Tx Ty =
     let k = levelOf s x in
-    let told = addNode (notifiedOf s x) y in
+    let notified = addNode (notifiedOf s x) y in
     let Ty′ = learn s y x Ty in
     record {
-      sender = notifyingNode (idOf s x) k (gather s x k told Ty′ (removeNode (pendingOf s x) y)) told;
+      sender =
+          settle
+          (notifyingNode (nodeOf s x) k (gather s x k notified Ty′ (removeNode (pendingOf s x) y)) notified);
       senderTable = learnTable s x Ty′ Tx;
       receiverTable = Ty′;
       kind = kindNotified;

@@ -60,6 +60,18 @@ pendingOf s x = getD s (8 * x + 4) 0
 abbrev pub notifiedOf : List ℕ → ℕ → ℕ
 notifiedOf s x = getD s (8 * x + 5) 0
 
+-- node x's record
+abbrev pub nodeOf : List ℕ → ℕ → Node
+nodeOf s x =
+    record {
+      id = idOf s x;
+      status = statusOf s x;
+      level = levelOf s x;
+      target = targetOf s x;
+      pending = pendingOf s x;
+      notified = notifiedOf s x;
+    }
+
 -- the state with r as node x's record
 unfoldable pub withNode : List ℕ → ℕ → Node → List ℕ
 withNode s x r =

@@ -26,17 +26,17 @@ pub data Call : Type 0 where
 
 -- "Each call gets the state and table memory as the one before left it"
 unfoldable pub step : Memory → Call → Outcome
-step m (found b d K id) = foundCall (m .state) (m .tables) b d K id
-step m (read im) = readCall (m .state) (m .tables) im
-step m (begin id gateway) = beginCall (m .state) (m .tables) id gateway
-step m (deliver x y) = deliverCall (m .state) (m .tables) x y
-step m (lookup u z) = lookupCall (m .state) (m .tables) u z
-step m verdict = verdictCall (m .state) (m .tables)
-step m (write out) = writeCall (m .state) (m .tables) out
+step m (found b d K id) = foundCall m b d K id
+step m (read im) = readCall m im
+step m (begin id gateway) = beginCall m id gateway
+step m (deliver x y) = deliverCall m x y
+step m (lookup u z) = lookupCall m u z
+step m verdict = verdictCall m
+step m (write out) = writeCall m out
 
 -- the memory after a call
 unfoldable pub after : Memory → Call → Memory
-after m c = let o = step m c in record { state = o .state; tables = o .tables }
+after m c = step m c .memory
 
 -- the memory after a list of calls
 unfoldable pub play : Memory → List Call → Memory
@@ -96,7 +96,14 @@ isSentBy x (lookup u z) answer = false
 isSentBy x verdict answer = false
 isSentBy x (write out) answer = false
 
+-- what x has sent after an event, where it had sent n before
+unfoldable pub tally : ℕ → Event → ℕ → ℕ
+tally x e n = cond (isTaken (e .answer) && isSentBy x (e .call) (e .answer)) (n + 1) n
+
+unfoldable pub sentFrom : ℕ → ℕ → List Event → ℕ
+sentFrom n x [] = n
+sentFrom n x (e ∷ es) = sentFrom (tally x e n) x es
+
 -- "What a member has sent is the number of its own among these over the history, 0 for one that sent none in this run."
-unfoldable pub sent : ℕ → List Event → ℕ
-sent x [] = 0
-sent x (e ∷ es) = cond (isTaken (e .answer) && isSentBy x (e .call) (e .answer)) 1 0 + sent x es
+abbrev pub sent : ℕ → List Event → ℕ
+sent x es = sentFrom 0 x es

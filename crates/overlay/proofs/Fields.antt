@@ -6,15 +6,17 @@ use mathlib.Core.List.{List, [], _∷_}
 use native.Mathlib.Omega.{arith}
 use native.Mathlib.Nat.{pow-succ', div-div-eq-div-mul, zero-div}
 use lib.ListN.{getD}
+use Rattle.model.specs.Memory.{Memory}
 use Rattle.model.specs.Calls.{Outcome, beginCall, deliverCall, lookupCall, verdictCall}
 use Rattle.answers.specs.declared.DeliverAnswer.{DeliverAnswer}
 use Rattle.delivery_parts.specs.Answers.{outcome, answerFields}
+use Rattle.state.specs.Lent.{memory}
 use Rattle.engine.specs.Outcomes.{leaves}
 use Rattle.packing.specs.declared.delivered.Numbers.{Numbers}
 use Rattle.packing.specs.Numbers.{listed}
-use Rattle.packing.specs.Packed.{packed}
+use Rattle.packing.specs.Packed.{packed, Fit}
 use Rattle.overlay.specs.Packed.{packing, gives}
-use Rattle.model.proofs.Fields.{Bytes, bit-below, begin-bytes, deliver-bytes, lookup-bytes, verdict-bytes}
+use Rattle.model.proofs.Fields.{Bytes, begin-bytes, deliver-bytes, lookup-bytes, verdict-bytes}
 
 -- ---- shift and mask give a field back
 
@@ -37,115 +39,68 @@ unpacked (field ∷ fields) (suc k) h = ap (λ (n : ℕ). n % 256) (later-fields
 
 -- ---- what the calls pack
 
--- a field that is not there
-pub zero-fits : 0 < 256
-zero-fits = omega arith
+field-below : (fields : List ℕ) (k : ℕ) → Bytes fields → getD fields k 0 < 256
+unfolding Bytes
+field-below [] k h = omega arith
+field-below (field ∷ fields) zero h = h .0
+field-below (field ∷ fields) (suc k) h = field-below fields k (h .1)
 
-packs : (o : Outcome) (s t fields : List ℕ) (n : ℕ) → leaves s t fields ≡ o → n ≡ packed fields → gives s t n ≡ packing o
-unfolding packing
-packs o s t fields n e f = ap (λ (n : ℕ). gives s t n) f ∙ ap packing e
+-- a call whose outcome is o, with at most five fields
+module _ (o : Outcome) (bytes : Bytes (o .answer)) (m : Memory) (fields : List ℕ) (e : leaves m fields ≡ o) where
+  abbrev at : ℕ → ℕ
+  at k = getD fields k 0
 
-answered : (o : Outcome) (s t fields : List ℕ) → Bytes (o .answer) → leaves s t fields ≡ o → Bytes fields
-answered o s t fields h e = subst (λ (o : Outcome). Bytes (o .answer)) (sym e) h
+  fits : Fit (at 0) (at 1) (at 2) (at 3) (at 4)
+  fits =
+      let b : Bytes fields = subst (λ (o : Outcome). Bytes (o .answer)) (sym e) bytes in
+      let f : (k : ℕ) → at k < 256 = λ k. field-below fields k b in
+      record { refusal = f 0; first = f 1; second = f 2; third = f 3; fourth = f 4 }
 
-module _ (s t s₁ t₁ : List ℕ) (id g r x : ℕ) (e : leaves s₁ t₁ (r ∷ x ∷ []) ≡ beginCall s t id g) where
-  fields-begun : Bytes (r ∷ x ∷ [])
-  fields-begun = answered (beginCall s t id g) s₁ t₁ (r ∷ x ∷ []) (begin-bytes s t id g) e
+  packs : (n : ℕ) → n ≡ packed fields → gives m n ≡ packing o
+  unfolding packing
+  packs n f = ap (λ (n : ℕ). gives m n) f ∙ ap packing e
 
-  pub begun-refusal : r < 256
-  unfolding Bytes
-  begun-refusal = fields-begun .0
+module _ (m m₁ : Memory) (id g r x : ℕ) (e : leaves m₁ (r ∷ x ∷ []) ≡ beginCall m id g) where
+  pub begin-fits : Fit r x 0 0 0
+  begin-fits = fits (beginCall m id g) (begin-bytes m id g) m₁ (r ∷ x ∷ []) e
 
-  pub begun-node : x < 256
-  unfolding Bytes
-  begun-node = fields-begun .1 .0
-
-  pub begin-packs : (n : ℕ) → n ≡ packed (r ∷ x ∷ 0 ∷ 0 ∷ 0 ∷ []) → gives s₁ t₁ n ≡ packing (beginCall s t id g)
+  pub begin-packs : (n : ℕ) → n ≡ packed (r ∷ x ∷ 0 ∷ 0 ∷ 0 ∷ []) → gives m₁ n ≡ packing (beginCall m id g)
   unfolding packed
-  begin-packs n f = packs (beginCall s t id g) s₁ t₁ (r ∷ x ∷ []) n e f
+  begin-packs n f = packs (beginCall m id g) (begin-bytes m id g) m₁ (r ∷ x ∷ []) e n f
 
-pub ruleset begun-fits = (begun-refusal, begun-node, zero-fits)
+module _ (m : Memory) (s₁ t₁ : List ℕ) (x y : ℕ) (a : DeliverAnswer) (n : Numbers) (e : outcome s₁ t₁ a ≡ deliverCall m x y) (f : listed n ≡ answerFields a) where
+  delivered-is : leaves (memory s₁ t₁) (listed n) ≡ deliverCall m x y
+  delivered-is = ap (leaves (memory s₁ t₁)) f ∙ e
 
-module _ (s t s₁ t₁ : List ℕ) (x y : ℕ) (a : DeliverAnswer) (n : Numbers) (e : outcome s₁ t₁ a ≡ deliverCall s t x y) (f : listed n ≡ answerFields a) where
-  delivered-is : leaves s₁ t₁ (listed n) ≡ deliverCall s t x y
-  delivered-is = ap (leaves s₁ t₁) f ∙ e
+  pub deliver-fits : Fit (n .refusal) (n .kind) (n .level) (n .settled) 0
+  deliver-fits = fits (deliverCall m x y) (deliver-bytes m x y) (memory s₁ t₁) (listed n) delivered-is
 
-  fields-delivered : Bytes (listed n)
-  fields-delivered = answered (deliverCall s t x y) s₁ t₁ (listed n) (deliver-bytes s t x y) delivered-is
-
-  pub delivered-refusal : n .refusal < 256
-  unfolding Bytes
-  delivered-refusal = fields-delivered .0
-
-  pub delivered-kind : n .kind < 256
-  unfolding Bytes
-  delivered-kind = fields-delivered .1 .0
-
-  pub delivered-level : n .level < 256
-  unfolding Bytes
-  delivered-level = fields-delivered .1 .1 .0
-
-  pub delivered-settled : n .settled < 256
-  unfolding Bytes
-  delivered-settled = fields-delivered .1 .1 .1 .0
-
-  pub deliver-packs : (m : ℕ) → m ≡ packed (n .refusal ∷ n .kind ∷ n .level ∷ n .settled ∷ 0 ∷ []) → gives s₁ t₁ m ≡ packing (deliverCall s t x y)
+  pub deliver-packs : (p : ℕ) → p ≡ packed (n .refusal ∷ n .kind ∷ n .level ∷ n .settled ∷ 0 ∷ []) → gives (memory s₁ t₁) p ≡ packing (deliverCall m x y)
   unfolding packed
-  deliver-packs m h = packs (deliverCall s t x y) s₁ t₁ (listed n) m delivered-is h
+  deliver-packs p h = packs (deliverCall m x y) (deliver-bytes m x y) (memory s₁ t₁) (listed n) delivered-is p h
 
-pub ruleset delivered-fits = (delivered-refusal, delivered-kind, delivered-level, delivered-settled, zero-fits)
+-- a bit that the code made of a test
+bit-field : (m : Memory) (o : Outcome) (b : ℕ) (a : Bool) (r : ℕ) (fields : List ℕ) → b ≡ cond a 1 0 → leaves m (r ∷ cond a 1 0 ∷ fields) ≡ o
+    → leaves m (r ∷ b ∷ fields) ≡ o
+bit-field m o b a r fields q e = ap (λ (b : ℕ). leaves m (r ∷ b ∷ fields)) q ∙ e
 
-module _ (s t : List ℕ) (u z r hops last : ℕ) (a : Bool) (e : leaves s t (r ∷ cond a 1 0 ∷ hops ∷ last ∷ []) ≡ lookupCall s t u z) where
-  fields-found : Bytes (r ∷ cond a 1 0 ∷ hops ∷ last ∷ [])
-  fields-found = answered (lookupCall s t u z) s t (r ∷ cond a 1 0 ∷ hops ∷ last ∷ []) (lookup-bytes s t u z) e
+module _ (m : Memory) (u z r b hops last : ℕ) (a : Bool) (e : leaves m (r ∷ cond a 1 0 ∷ hops ∷ last ∷ []) ≡ lookupCall m u z) (q : b ≡ cond a 1 0) where
+  found-is : leaves m (r ∷ b ∷ hops ∷ last ∷ []) ≡ lookupCall m u z
+  found-is = bit-field m (lookupCall m u z) b a r (hops ∷ last ∷ []) q e
 
-  pub found-refusal : r < 256
-  unfolding Bytes
-  found-refusal = fields-found .0
+  pub lookup-fits : Fit r b hops last 0
+  lookup-fits = fits (lookupCall m u z) (lookup-bytes m u z) m (r ∷ b ∷ hops ∷ last ∷ []) found-is
 
-  pub found-arrived : (b : ℕ) → b ≡ cond a 1 0 → b < 256
-  found-arrived b q = subst (λ (b : ℕ). b < 256) (sym q) (bit-below a)
-
-  pub found-hops : hops < 256
-  unfolding Bytes
-  found-hops = fields-found .1 .1 .0
-
-  pub found-last : last < 256
-  unfolding Bytes
-  found-last = fields-found .1 .1 .1 .0
-
-  pub lookup-packs : (b n : ℕ) → b ≡ cond a 1 0 → n ≡ packed (r ∷ b ∷ hops ∷ last ∷ 0 ∷ []) → gives s t n ≡ packing (lookupCall s t u z)
+  pub lookup-packs : (n : ℕ) → n ≡ packed (r ∷ b ∷ hops ∷ last ∷ 0 ∷ []) → gives m n ≡ packing (lookupCall m u z)
   unfolding packed
-  lookup-packs b n q h =
-      packs (lookupCall s t u z) s t (r ∷ b ∷ hops ∷ last ∷ []) n (ap (λ (b : ℕ). leaves s t (r ∷ b ∷ hops ∷ last ∷ [])) q ∙ e) h
+  lookup-packs n h = packs (lookupCall m u z) (lookup-bytes m u z) m (r ∷ b ∷ hops ∷ last ∷ []) found-is n h
 
-pub ruleset found-fits = (found-refusal, found-arrived, found-hops, found-last, zero-fits)
+module _ (m : Memory) (r b x i j : ℕ) (a : Bool) (e : leaves m (r ∷ cond a 1 0 ∷ x ∷ i ∷ j ∷ []) ≡ verdictCall m) (q : b ≡ cond a 1 0) where
+  judged-is : leaves m (r ∷ b ∷ x ∷ i ∷ j ∷ []) ≡ verdictCall m
+  judged-is = bit-field m (verdictCall m) b a r (x ∷ i ∷ j ∷ []) q e
 
-module _ (s t : List ℕ) (r x i j : ℕ) (a : Bool) (e : leaves s t (r ∷ cond a 1 0 ∷ x ∷ i ∷ j ∷ []) ≡ verdictCall s t) where
-  fields-judged : Bytes (r ∷ cond a 1 0 ∷ x ∷ i ∷ j ∷ [])
-  fields-judged = answered (verdictCall s t) s t (r ∷ cond a 1 0 ∷ x ∷ i ∷ j ∷ []) (verdict-bytes s t) e
+  pub verdict-fits : Fit r b x i j
+  verdict-fits = fits (verdictCall m) (verdict-bytes m) m (r ∷ b ∷ x ∷ i ∷ j ∷ []) judged-is
 
-  pub judged-refusal : r < 256
-  unfolding Bytes
-  judged-refusal = fields-judged .0
-
-  pub judged-consistent : (b : ℕ) → b ≡ cond a 1 0 → b < 256
-  judged-consistent b q = subst (λ (b : ℕ). b < 256) (sym q) (bit-below a)
-
-  pub judged-node : x < 256
-  unfolding Bytes
-  judged-node = fields-judged .1 .1 .0
-
-  pub judged-level : i < 256
-  unfolding Bytes
-  judged-level = fields-judged .1 .1 .1 .0
-
-  pub judged-digit : j < 256
-  unfolding Bytes
-  judged-digit = fields-judged .1 .1 .1 .1 .0
-
-  pub verdict-packs : (b n : ℕ) → b ≡ cond a 1 0 → n ≡ packed (r ∷ b ∷ x ∷ i ∷ j ∷ []) → gives s t n ≡ packing (verdictCall s t)
-  verdict-packs b n q h =
-      packs (verdictCall s t) s t (r ∷ b ∷ x ∷ i ∷ j ∷ []) n (ap (λ (b : ℕ). leaves s t (r ∷ b ∷ x ∷ i ∷ j ∷ [])) q ∙ e) h
-
-pub ruleset judged-fits = (judged-refusal, judged-consistent, judged-node, judged-level, judged-digit)
+  pub verdict-packs : (n : ℕ) → n ≡ packed (r ∷ b ∷ x ∷ i ∷ j ∷ []) → gives m n ≡ packing (verdictCall m)
+  verdict-packs n h = packs (verdictCall m) (verdict-bytes m) m (r ∷ b ∷ x ∷ i ∷ j ∷ []) judged-is n h

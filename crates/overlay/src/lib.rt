@@ -4,6 +4,7 @@ ghost use mathlib.Core.Path.{_≡_};
 ghost use mathlib.Core.List.{[], _∷_};
 ghost use Rattle.model.specs.Refusals.{stateRefusal};
 ghost use Rattle.model.specs.Calls.{foundCall, readCall, beginCall, deliverCall, lookupCall, verdictCall, writeCall};
+ghost use Rattle.state.specs.Lent.{memory};
 ghost use Rattle.engine.specs.Outcomes.{leaves};
 ghost use Rattle.overlay.specs.Packed.{gives, fills, packing};
 use packing::delivered::as_numbers;
@@ -21,7 +22,7 @@ pub extern "C" fn overlay_found(
     depth: u64,
     id: u32,
 ) -> u64
-    ensures { λ r. ⌜ leaves (now (state .exit)) (now (tables .exit)) (r ∷ []) ≡ foundCall (now (state .entry)) (now (tables .entry)) base digits depth id ⌝ }
+    ensures { λ r. ⌜ leaves (memory (now (state .exit)) (now (tables .exit))) (r ∷ []) ≡ foundCall (memory (now (state .entry)) (now (tables .entry))) base digits depth id ⌝ }
 {
     engine::founding::found(state, tables, base, digits, depth, id)
 }
@@ -29,7 +30,7 @@ pub extern "C" fn overlay_found(
 // Reading an image into the memory, every node in the system. Answers the refusal.
 #[no_mangle]
 pub extern "C" fn overlay_read(state: &mut [u64], tables: &mut [u8], image: &[u8]) -> u64
-    ensures { λ r. ⌜ leaves (now (state .exit)) (now (tables .exit)) (r ∷ []) ≡ readCall (now (state .entry)) (now (tables .entry)) (now (image .entry)) ⌝ }
+    ensures { λ r. ⌜ leaves (memory (now (state .exit)) (now (tables .exit))) (r ∷ []) ≡ readCall (memory (now (state .entry)) (now (tables .entry))) (now (image .entry)) ⌝ }
 {
     engine::reading::read(state, tables, image)
 }
@@ -37,7 +38,7 @@ pub extern "C" fn overlay_read(state: &mut [u64], tables: &mut [u8], image: &[u8
 // Beginning a join: the id and the gateway. Answers the new node.
 #[no_mangle]
 pub extern "C" fn overlay_begin(state: &mut [u64], tables: &mut [u8], id: u32, gateway: u64) -> u64
-    ensures { λ r. ⌜ gives (now (state .exit)) (now (tables .exit)) r ≡ packing (beginCall (now (state .entry)) (now (tables .entry)) id gateway) ⌝ }
+    ensures { λ r. ⌜ gives (memory (now (state .exit)) (now (tables .exit))) r ≡ packing (beginCall (memory (now (state .entry)) (now (tables .entry))) id gateway) ⌝ }
 {
     let begun = engine::beginning::begin(state, tables, id, gateway);
     pack(begun.refusal, begun.node, 0, 0, 0)
@@ -51,7 +52,7 @@ pub extern "C" fn overlay_deliver(
     sender: u64,
     receiver: u64,
 ) -> u64
-    ensures { λ r. ⌜ gives (now (state .exit)) (now (tables .exit)) r ≡ packing (deliverCall (now (state .entry)) (now (tables .entry)) sender receiver) ⌝ }
+    ensures { λ r. ⌜ gives (memory (now (state .exit)) (now (tables .exit))) r ≡ packing (deliverCall (memory (now (state .entry)) (now (tables .entry))) sender receiver) ⌝ }
 {
     let answer = as_numbers(engine::delivering::deliver(state, tables, sender, receiver));
     pack(answer.refusal, answer.kind, answer.level, answer.settled, 0)
@@ -60,7 +61,7 @@ pub extern "C" fn overlay_deliver(
 // Lookup from one node to another. Answers whether it arrived, the hops and the last node.
 #[no_mangle]
 pub extern "C" fn overlay_lookup(state: &[u64], tables: &[u8], from: u64, to: u64) -> u64
-    ensures { λ r. ⌜ gives (now (state .entry)) (now (tables .entry)) r ≡ packing (lookupCall (now (state .entry)) (now (tables .entry)) from to) ⌝ }
+    ensures { λ r. ⌜ gives (memory (now (state .entry)) (now (tables .entry))) r ≡ packing (lookupCall (memory (now (state .entry)) (now (tables .entry))) from to) ⌝ }
 {
     let found = engine::lookup::lookup(state, tables, from, to);
     pack(found.refusal, bit(found.arrived), found.hops, found.last, 0)
@@ -69,7 +70,7 @@ pub extern "C" fn overlay_lookup(state: &[u64], tables: &[u8], from: u64, to: u6
 // The verdict. Answers whether the network is K-consistent, and if not, node, level and digit of the first entry that falls short.
 #[no_mangle]
 pub extern "C" fn overlay_verdict(state: &[u64], tables: &[u8]) -> u64
-    ensures { λ r. ⌜ gives (now (state .entry)) (now (tables .entry)) r ≡ packing (verdictCall (now (state .entry)) (now (tables .entry))) ⌝ }
+    ensures { λ r. ⌜ gives (memory (now (state .entry)) (now (tables .entry))) r ≡ packing (verdictCall (memory (now (state .entry)) (now (tables .entry)))) ⌝ }
 {
     let judged = engine::verdict::verdict(state, tables);
     pack(
@@ -84,7 +85,7 @@ pub extern "C" fn overlay_verdict(state: &[u64], tables: &[u8]) -> u64
 // Writing the image to out. Answers its length, in bits 8 to 39.
 #[no_mangle]
 pub extern "C" fn overlay_write(state: &[u64], tables: &[u8], out: &mut [u8]) -> u64
-    ensures { λ r. ⌜ fills (now (state .entry)) (now (tables .entry)) (now (out .exit)) r ≡ packing (writeCall (now (state .entry)) (now (tables .entry)) (now (out .entry))) ⌝ }
+    ensures { λ r. ⌜ fills (memory (now (state .entry)) (now (tables .entry))) (now (out .exit)) r ≡ packing (writeCall (memory (now (state .entry)) (now (tables .entry))) (now (out .entry))) ⌝ }
 {
     let written = engine::writing::write(state, tables, out);
     pack_length(written.refusal, written.image_length)
@@ -93,7 +94,7 @@ pub extern "C" fn overlay_write(state: &[u64], tables: &[u8], out: &mut [u8]) ->
 // What sentences 1 and 2 say of this memory: 1 too short, 2 not sound, 0 neither.
 #[no_mangle]
 pub extern "C" fn overlay_sound(state: &[u64], tables: &[u8]) -> u64
-    ensures { λ r. ⌜ r ≡ stateRefusal (now (state .entry)) (now (tables .entry)) 0 ⌝ }
+    ensures { λ r. ⌜ r ≡ stateRefusal (memory (now (state .entry)) (now (tables .entry))) ⌝ }
 {
-    sentences::state_refusal(state, tables)
+    refusals::sentences::state_refusal(state, tables)
 }

@@ -2,12 +2,10 @@
 use Prim.Native.Nat.{ℕ, _+_, _-_, _≤_}
 use mathlib.Core.Path.{_≡_, refl, sym, ap, subst, _∙_}
 use mathlib.Core.Logic.{_⊎_, inl, inr}
-use mathlib.Core.Bool.{Bool, true, false, cond, not, _&&_, and-false, false≢true}
+use mathlib.Core.Bool.{Bool, true, false, cond, not, false≢true}
 use mathlib.Core.List.{List, [], _∷_, _++_}
-use native.Mathlib.Decide.{ℕ-discrete}
 use native.Mathlib.Omega.{arith}
 use lib.ListN.{length, getD}
-use borrow.Author.Tests.{ne-eqb}
 use Rattle.model.specs.Memory.{Memory, digits}
 use Rattle.model.specs.Nodes.{isNode, suffixOf}
 use Rattle.model.specs.Lookup as book
@@ -15,79 +13,60 @@ use Rattle.model.specs.Lookup.{Lookup, veryHops}
 use Rattle.model.specs.Consistency as book2
 use Rattle.model.specs.Consistency.{consistent, firstShort}
 use Rattle.model.specs.Refusals.{foundRefusal, readRefusal, lookupRefusal, verdictRefusal}
-use Rattle.model.specs.Calls.{Outcome, refused, taken, unlessRefused, lookupFields, verdictFields, foundCall, readCall, lookupCall, verdictCall}
-use Rattle.model.specs.Run.{Call, found, read, begin, deliver, lookup, verdict, write, step, after, play, history, isTaken, starts, goesOn, isRun, isSentBy, sent}
+use Rattle.model.specs.Calls.{Outcome, refused, taken, lookupFields, verdictFields, foundCall, readCall, lookupCall, verdictCall}
+use Rattle.model.specs.Run.{Call, found, read, begin, deliver, lookup, verdict, write, step, after, play, history, isTaken, starts, goesOn, isRun, sentFrom, sent}
 use Rattle.model.proofs.Bools.{and-left, and-right, and-intro, not-both, true-or-false}
 use Rattle.model.proofs.Status.{IsNode, is-node, is-node-of}
 use Rattle.model.proofs.Sound.{Sound}
-use Rattle.model.proofs.Founding.{founded-ok}
+use Rattle.model.proofs.FoundingIsSound.{founded-ok}
 use Rattle.model.proofs.Loading.{loaded-ok}
-use Rattle.model.proofs.Requests.{limit-le}
+use Rattle.model.proofs.RequestBound.{limit-le}
 use Rattle.model.proofs.Lookup.{hops-bound, path-length}
 use Rattle.model.proofs.Unchanged.{same-lookup, same-hops}
 use Rattle.model.proofs.Later.{node-later}
-use Rattle.model.proofs.Growing.{Onward}
+use Rattle.model.proofs.TablesOnlyGrow.{Onward}
 use Rattle.model.proofs.Taken.{found-taken, read-taken, lookup-free}
 use Rattle.promise.specs.Promise.{lookupIn, alreadyMatched, Passes, NodeIn, Demand3}
-use Rattle.model.proofs.Calls.{taken-is, refused-is}
+use Rattle.model.proofs.Calls.{taken-is, taken-zero}
+use Rattle.promise.proofs.Steps.{Silent, quiet}
 use Rattle.promise.proofs.Run.{Holds, run-goes}
-
--- ---- a call that was taken
-
--- the refusal of a call whose answer says that it was taken is 0
-taken-zero : (n : ℕ) (s t out : List ℕ) (fields : ℕ) (done : Outcome) → isTaken (unlessRefused n (refused s t out fields) done .answer) ≡ true → n ≡ 0
-unfolding refused
-taken-zero n s t out fields done e = go (ℕ-discrete n 0)
-  where
-    go : Dec (n ≡ 0) → n ≡ 0
-    go (yes z) = z
-    go (no nz) =
-        absurd
-        (not-both (isTaken (unlessRefused n (refused s t out fields) done .answer)) e
-        (ap (λ (o : Outcome). isTaken (o .answer)) (refused-is n (refused s t out fields) done nz) ∙ ne-eqb n 0 nz))
 
 -- ---- the start
 
--- a taken founding or reading leaves a sound state, and nobody has sent anything
-module _ (m : Memory) where
-  start-sound : (c : Call) → starts m c ≡ true → Sound (after m c .state) (after m c .tables)
-  unfolding starts step after foundCall readCall taken
-  start-sound (found b d K id) e =
-      let z = taken-zero (foundRefusal (m .state) (m .tables) b d K id) (m .state) (m .tables) [] 0 _ e in
-      let k = found-taken (m .state) (m .tables) b d K id z in
-      rw (taken-is (foundRefusal (m .state) (m .tables) b d K id) (refused (m .state) (m .tables) [] 0) _ z)
-      (founded-ok (m .state) (m .tables) b d K id (k .long) (k .range) (k .valid))
-  start-sound (read im) e =
-      let z = taken-zero (readRefusal (m .state) (m .tables) im) (m .state) (m .tables) [] 0 _ e in
-      let k = read-taken (m .state) (m .tables) im z in
-      rw (taken-is (readRefusal (m .state) (m .tables) im) (refused (m .state) (m .tables) [] 0) _ z)
-      (loaded-ok (m .state) (m .tables) im (k .0) (k .1))
-  start-sound (begin id g) e = absurd (false≢true e)
-  start-sound (deliver x y) e = absurd (false≢true e)
-  start-sound (lookup u z) e = absurd (false≢true e)
-  start-sound verdict e = absurd (false≢true e)
-  start-sound (write out) e = absurd (false≢true e)
+abbrev SoundAfter : Outcome → Type 0
+SoundAfter o = Sound (o .memory .state) (o .memory .tables)
 
-  start-silent : (c : Call) → starts m c ≡ true → (x : ℕ) (answer : List ℕ) → isSentBy x c answer ≡ false
-  unfolding starts
-  start-silent (found b d K id) e x answer = refl
-  start-silent (read im) e x answer = refl
-  start-silent (begin id g) e x answer = absurd (false≢true e)
-  start-silent (deliver y z) e x answer = absurd (false≢true e)
-  start-silent (lookup u z) e x answer = absurd (false≢true e)
-  start-silent verdict e x answer = absurd (false≢true e)
-  start-silent (write out) e x answer = absurd (false≢true e)
+-- a taken founding or reading leaves a sound state, and nobody has sent anything
+pub record Started (m : Memory) (c : Call) : Type 0 where
+  pub sound : Sound (after m c .state) (after m c .tables)
+  pub silent : Silent m c
+
+module _ (m : Memory) where
+  started : (c : Call) → starts m c ≡ true → Started m c
+  unfolding starts step after foundCall readCall taken
+  started (found b d K id) e =
+      let z = taken-zero m (foundRefusal m b d K id) [] _ _ e in
+      let k = found-taken m b d K id z in
+      let S = founded-ok (m .state) (m .tables) b d K id (k .long) (k .range) (k .valid) in
+      record { sound = subst SoundAfter (sym (taken-is (foundRefusal m b d K id) (refused m [] 0) _ z)) S; silent = quiet m (found b d K id) (λ x a. refl) }
+  started (read im) e =
+      let z = taken-zero m (readRefusal m im) [] _ _ e in
+      let k = read-taken m im z in
+      let S = loaded-ok (m .state) (m .tables) im (k .0) (k .1) in
+      record { sound = subst SoundAfter (sym (taken-is (readRefusal m im) (refused m [] 0) _ z)) S; silent = quiet m (read im) (λ x a. refl) }
+  started (begin id g) e = absurd (false≢true e)
+  started (deliver x y) e = absurd (false≢true e)
+  started (lookup u z) e = absurd (false≢true e)
+  started verdict e = absurd (false≢true e)
+  started (write out) e = absurd (false≢true e)
 
   -- so the count of the run is that of the calls after its start
-  sent-after : (c : Call) → starts m c ≡ true → (x : ℕ) (cs : List Call) → sent x (history m (c ∷ cs)) ≡ 0 + sent x (history (after m c) cs)
-  unfolding history sent
-  sent-after c e x cs =
-      let a : Bool = isTaken (step m c .answer) in
-      ap (λ (b : Bool). cond b 1 0 + sent x (history (after m c) cs))
-      (ap (λ (b : Bool). isTaken (step m c .answer) && b) (start-silent c e x (step m c .answer)) ∙ and-false (isTaken (step m c .answer)))
+  sent-after : (c : Call) → starts m c ≡ true → (x : ℕ) (cs : List Call) → sent x (history m (c ∷ cs)) ≡ sent x (history (after m c) cs)
+  unfolding history sentFrom
+  sent-after c e x cs = ap (λ (n : ℕ). sentFrom n x (history (after m c) cs)) (started c e .silent x 0)
 
   start-holds : (c : Call) → starts m c ≡ true → Holds (λ (x : ℕ). 0) (after m c)
-  start-holds c e = record { sound = start-sound c e; nodes = λ x n. omega arith; others = λ x f. refl }
+  start-holds c e = record { sound = started c e .sound; nodes = λ x n. omega arith; others = λ x f. refl }
 
 -- ---- a verdict that says yes
 
@@ -104,11 +83,9 @@ yes-whole s t e = go (consistent s t) refl
 passes-whole : (m : Memory) → Passes m → consistent (m .state) (m .tables) ≡ true
 unfolding verdictCall taken
 passes-whole m p =
-    let s : List ℕ = m .state in
-    let t : List ℕ = m .tables in
-    let z = taken-zero (verdictRefusal s t) s t [] 4 _ (p .taken) in
-    let w : verdictCall s t ≡ taken s t [] (verdictFields (book2.verdict s t)) = taken-is (verdictRefusal s t) (refused s t [] 4) _ z in
-    yes-whole s t (sym (ap (λ (o : Outcome). getD (o .answer) 1 0) w) ∙ p .yes)
+    let z = taken-zero m (verdictRefusal m) [] _ _ (p .taken) in
+    let w : verdictCall m ≡ taken m [] (verdictFields (book2.verdict (m .state) (m .tables))) = taken-is _ _ _ z in
+    yes-whole (m .state) (m .tables) (sym (ap (λ (o : Outcome). getD (o .answer) 1 0) w) ∙ p .yes)
 
 -- ---- lists of calls
 
@@ -145,9 +122,7 @@ module _ (m : Memory) (S : Sound (m .state) (m .tables)) (u z : ℕ) (nu : IsNod
   lookup-answer : lookupIn m u z .answer ≡ 0 ∷ lookupFields (book.lookup (m .state) (m .tables) u z)
   unfolding lookupCall taken
   lookup-answer =
-      ap (λ (o : Outcome). o .answer)
-      (taken-is (lookupRefusal (m .state) (m .tables) u z) (refused (m .state) (m .tables) [] 3) _
-      (lookup-free (m .state) (m .tables) u z S nu nz))
+      ap (λ (o : Outcome). o .answer) (taken-is (lookupRefusal m u z) (refused m [] 3) _ (lookup-free m u z S nu nz))
 
   lookup-bound : (isTaken (lookupIn m u z .answer) ≡ true)
       × (getD (lookupIn m u z .answer) 2 0 ≤ digits (m .state) - alreadyMatched m u z)
@@ -185,7 +160,7 @@ promise m c cs run =
     let G = run-goes (λ (x : ℕ). 0) (after m c) cs H on in
     let M : Memory = play (after m c) cs in
     record {
-      requests = λ x. rw (sent-after m c start x cs) (requests-bound (λ (x : ℕ). 0 + sent x (history (after m c) cs)) M (G .holds) x);
+      requests = λ x. rw (sent-after m c start x cs) (requests-bound (λ (x : ℕ). sent x (history (after m c) cs)) M (G .holds) x);
       lookups = λ u z a b. lookup-bound M (G .holds .sound) u z (is-node (M .state) u a) (is-node (M .state) z b);
       unchanged =
           λ early late e.

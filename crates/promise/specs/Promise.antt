@@ -13,7 +13,7 @@ use Rattle.model.specs.Run.{Call, play, history, sent, isTaken, isRun}
 
 -- the lookup from u to z in a memory
 abbrev pub lookupIn : Memory → ℕ → ℕ → Outcome
-lookupIn m u z = lookupCall (m .state) (m .tables) u z
+lookupIn m u z = lookupCall m u z
 
 -- "The digits already matched are the match of u and z at its start."
 abbrev pub alreadyMatched : Memory → ℕ → ℕ → ℕ
@@ -21,8 +21,8 @@ alreadyMatched m u z = suffixOf (m .state) u z
 
 -- "The network passes the verdict .. when a verdict there says yes"
 pub record Passes (m : Memory) : Type 0 where
-  pub taken : isTaken (verdictCall (m .state) (m .tables) .answer) ≡ true
-  pub yes : getD (verdictCall (m .state) (m .tables) .answer) 1 0 ≡ 1
+  pub taken : isTaken (verdictCall m .answer) ≡ true
+  pub yes : getD (verdictCall m .answer) 1 0 ≡ 1
 
 -- u is a node of the network in this memory
 abbrev pub NodeIn : Memory → ℕ → Type 0

@@ -1,8 +1,11 @@
 // The refusals of beginning a join.
 ghost use mathlib.Core.Path.{_≡_};
-ghost use Rattle.model.specs.Refusals.{idTaken, beginSentences, beginRefusal};
+ghost use Rattle.model.specs.Memory.{nodeCount};
+ghost use Rattle.model.specs.Refusals.{firstTrue, idTaken, beginSentences, beginRefusal};
+ghost use Rattle.state.specs.Lent.{memory};
 ghost use Rattle.model.proofs.Sound.{Sound};
-ghost use Rattle.refusals.specs.Refused.{Placed};
+ghost use Rattle.refusals.specs.Refused.{Counted};
+use crate::sentences;
 use answers::refusal::Refusal;
 use ident::valid_id;
 use state::record;
@@ -11,7 +14,8 @@ use state::status::Status;
 
 // 8: "An id is a member's already".
 fn id_taken(state: &[u64], nodes: usize, id: u32) -> bool
-    requires { ⌜ Placed (now state) nodes ⌝ }
+    requires { ⌜ Counted (now state) ⌝ }
+    requires { ⌜ nodes ≡ nodeCount (now state) ⌝ }
     ensures { λ r. ⌜ r ≡ idTaken (now (state .entry)) id ⌝ }
 {
     let mut k = 0;
@@ -27,7 +31,7 @@ fn id_taken(state: &[u64], nodes: usize, id: u32) -> bool
 // 7, 8, 9, 11 and 12, on a sound state.
 fn sentences_on(state: &[u64], tables: &[u8], id: u32, gateway: u64) -> u64
     requires { ⌜ Sound (now state) (now tables) ⌝ }
-    ensures { λ r. ⌜ r ≡ beginSentences (now (state .entry)) id gateway ⌝ }
+    ensures { λ r. ⌜ r ≡ firstTrue (beginSentences (now (state .entry)) id gateway) ⌝ }
 {
     let s = settings::load(state);
     if !valid_id(s.base, s.digits, id) {
@@ -49,7 +53,7 @@ fn sentences_on(state: &[u64], tables: &[u8], id: u32, gateway: u64) -> u64
 }
 
 pub fn refusal(state: &[u64], tables: &[u8], id: u32, gateway: u64) -> u64
-    ensures { λ r. ⌜ r ≡ beginRefusal (now (state .entry)) (now (tables .entry)) id gateway ⌝ }
+    ensures { λ r. ⌜ r ≡ beginRefusal (memory (now (state .entry)) (now (tables .entry))) id gateway ⌝ }
 {
     let r = sentences::state_refusal(state, tables);
     if r != 0 {

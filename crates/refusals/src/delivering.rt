@@ -2,11 +2,13 @@
 ghost use mathlib.Core.Path.{_≡_};
 ghost use mathlib.Core.Bool.{_&&_, _||_};
 ghost use lib.Dec.{eqb};
+ghost use lib.ListN.{drop};
 ghost use Rattle.model.specs.Memory.{copying, waiting};
 ghost use Rattle.model.specs.Join as book;
-ghost use Rattle.model.specs.Refusals.{waitHeld, deliverRefusal};
+ghost use Rattle.model.specs.Refusals.{firstTrue, waitHeld, deliverSentences, deliverRefusal};
+ghost use Rattle.state.specs.Lent.{memory};
 ghost use Rattle.state.specs.Loaded.{Placed};
-ghost use Rattle.refusals.specs.Refused.{deliverSentences};
+use crate::sentences;
 use answers::refusal::Refusal;
 use state::record;
 use state::record::Node;
@@ -55,7 +57,7 @@ fn wait_held(state: &[u64], x: usize, y: usize) -> bool
 fn sentences_on(state: &[u64], x: usize, y: usize) -> u64
     requires { ⌜ Placed (now state) x ⌝ }
     requires { ⌜ Placed (now state) y ⌝ }
-    ensures { λ r. ⌜ r ≡ deliverSentences (now (state .entry)) x y ⌝ }
+    ensures { λ r. ⌜ r ≡ firstTrue (drop 1 (deliverSentences (now (state .entry)) x y)) ⌝ }
 {
     if !outstanding(state, x, y) {
         return Refusal::NOT_OUTSTANDING;
@@ -67,7 +69,7 @@ fn sentences_on(state: &[u64], x: usize, y: usize) -> u64
 }
 
 pub fn refusal(state: &[u64], tables: &[u8], sender: u64, receiver: u64) -> u64
-    ensures { λ r. ⌜ r ≡ deliverRefusal (now (state .entry)) (now (tables .entry)) sender receiver ⌝ }
+    ensures { λ r. ⌜ r ≡ deliverRefusal (memory (now (state .entry)) (now (tables .entry))) sender receiver ⌝ }
 {
     let r = sentences::state_refusal(state, tables);
     if r != 0 {

@@ -4,5 +4,6 @@ pub mod delivering;
 pub mod founding;
 pub mod lookup;
 pub mod reading;
+pub mod sentences;
 pub mod verdict;
 pub mod writing;

@@ -1,10 +1,12 @@
 // The refusals of lookup.
 ghost use mathlib.Core.Path.{_≡_};
 ghost use Rattle.model.specs.Refusals.{lookupRefusal};
+ghost use Rattle.state.specs.Lent.{memory};
+use crate::sentences;
 use answers::refusal::Refusal;
 
 pub fn refusal(state: &[u64], tables: &[u8], from: u64, to: u64) -> u64
-    ensures { λ r. ⌜ r ≡ lookupRefusal (now (state .entry)) (now (tables .entry)) from to ⌝ }
+    ensures { λ r. ⌜ r ≡ lookupRefusal (memory (now (state .entry)) (now (tables .entry))) from to ⌝ }
 {
     let r = sentences::state_refusal(state, tables);
     if r != 0 {

@@ -1,10 +1,12 @@
 // The refusals of writing an image.
 ghost use mathlib.Core.Path.{_≡_};
 ghost use Rattle.model.specs.Refusals.{writeRefusal};
+ghost use Rattle.state.specs.Lent.{memory};
+use crate::sentences;
 use answers::refusal::Refusal;
 
 pub fn refusal(state: &[u64], tables: &[u8], out: &[u8]) -> u64
-    ensures { λ r. ⌜ r ≡ writeRefusal (now (state .entry)) (now (tables .entry)) (now (out .entry)) ⌝ }
+    ensures { λ r. ⌜ r ≡ writeRefusal (memory (now (state .entry)) (now (tables .entry))) (now (out .entry)) ⌝ }
 {
     let r = sentences::state_refusal(state, tables);
     if r != 0 {

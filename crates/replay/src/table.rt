@@ -81,7 +81,7 @@ fn shown(state: &[u64], tables: &[u8], x: usize)
 
 // Refusals: 1, 2, 9.
 pub fn show(state: &[u64], tables: &[u8], x: u64) {
-    let r = sentences::state_refusal(state, tables);
+    let r = refusals::sentences::state_refusal(state, tables);
     if r != 0 {
         say::refused(r);
         return;

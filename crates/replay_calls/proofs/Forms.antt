@@ -2,7 +2,7 @@
 -- zeros. Assumes nothing.
 use Prim.Native.Nat.{ℕ, zero, suc, _+_, _*_, _/_, _%_, _^_, _≤_, _<_, min}
 use mathlib.Core.Path.{_≡_, refl, sym, ap, _∙_}
-use mathlib.Core.Bool.{Bool, true, false, cond, not}
+use mathlib.Core.Bool.{Bool, true, false, cond}
 use mathlib.Core.Logic.{⊎-elim}
 use mathlib.Core.List.{List, [], _∷_, _++_}
 use native.Mathlib.Omega.{arith}
@@ -11,10 +11,9 @@ use lib.ListN.{length, getD, length-append, length-replicate, List·getD-append}
 use lib.Seq.{getD-append-add}
 use borrow.Author.Tests.{lt-ltb, le-ltb}
 use Rattle.model.specs.Memory.{Memory}
-use Rattle.model.specs.Sound.{sound}
 use Rattle.model.specs.Image.{imageOf}
-use Rattle.model.specs.Refusals.{refuse, memoryShort, someNotInSystem, stateRefusal, writeRefusal}
-use Rattle.model.specs.Calls.{refused, taken, unlessRefused, writeCall}
+use Rattle.model.specs.Refusals.{firstTrue, memoryShort, unsound, someNotInSystem, writeSentences, stateRefusal, writeRefusal}
+use Rattle.model.specs.Calls.{refusedAt, refused, taken, unlessRefused, writeCall}
 use Rattle.model.specs.Run.{Call, step, write}
 use Rattle.model.proofs.Bools.{le-or-lt}
 use Rattle.model.proofs.Sound.{Sound}
@@ -119,42 +118,44 @@ call-back images bs kind a b c id whole ha hb hc hi =
 
 -- ---- writing into any memory
 
-state-same : (s t : List ℕ) (x y : ℕ) → (Sound s t → x ≡ y) → stateRefusal s t x ≡ stateRefusal s t y
-unfolding stateRefusal refuse
-state-same s t x y h = go (memoryShort s t) (sound s t) (λ e. h (state-taken s t 0 e .0))
-  where
-    go : (p q : Bool) → (refuse p 1 (refuse (not q) 2 0) ≡ 0 → x ≡ y) → refuse p 1 (refuse (not q) 2 x) ≡ refuse p 1 (refuse (not q) 2 y)
-    go true q k = refl
-    go false false k = refl
-    go false true k = k refl
-
 -- an image has at most 65,535 bytes, so more room than 65,536 is no other test
 room-same : (room n : ℕ) → n ≤ 65535 → ltb (min room 65536) n ≡ ltb room n
 room-same room n h =
     ⊎-elim (λ l. le-ltb (min room 65536) n (omega (arith, l)) ∙ sym (le-ltb room n l))
     (λ l. lt-ltb (min room 65536) n (omega (arith, l)) ∙ sym (lt-ltb room n l)) (le-or-lt n room)
 
-module _ (s t out : List ℕ) where
-  refusal-same : writeRefusal s t out ≡ writeRefusal s t (zeros (length out))
-  unfolding writeRefusal zeros
-  refusal-same =
-      state-same s t _ _ (λ S.
-      ap (λ (b : Bool). refuse (someNotInSystem s) 15 (refuse b 16 0))
-      (sym (room-same (length out) (length (imageOf s t)) (image-short s t S))
-      ∙ ap (λ (n : ℕ). ltb n (length (imageOf s t))) (sym (length-replicate {A = ℕ} (min (length out) 65536) 0))))
+-- 15 and 16
+abbrev late : Memory → List ℕ → ℕ
+late m out = firstTrue (writeSentences m out)
+
+late-same : (m : Memory) (out : List ℕ) → Sound (m .state) (m .tables) → late m out ≡ late m (zeros (length out))
+unfolding firstTrue zeros
+late-same m out S =
+    ap (λ (b : Bool). cond (someNotInSystem (m .state)) 15 (cond b 16 0))
+    (sym (room-same (length out) (length (imageOf (m .state) (m .tables))) (image-short (m .state) (m .tables) S))
+    ∙ ap (λ (k : ℕ). ltb k (length (imageOf (m .state) (m .tables)))) (sym (length-replicate {A = ℕ} (min (length out) 65536) 0)))
+
+refusal-same : (m : Memory) (out : List ℕ) → writeRefusal m out ≡ writeRefusal m (zeros (length out))
+unfolding writeRefusal stateRefusal firstTrue
+refusal-same m out = go (memoryShort m) (unsound m) (λ e. late-same m out (state-taken m e))
+  where
+    go : (p q : Bool) → (_≡_ {A = ℕ} (cond p 1 (cond q 2 0)) 0 → late m out ≡ late m (zeros (length out)))
+        → _≡_ {A = ℕ} (cond p 1 (cond q 2 (late m out))) (cond p 1 (cond q 2 (late m (zeros (length out)))))
+    go true q k = refl
+    go false true k = refl
+    go false false k = k refl
 
 -- what it wrote is no part of what is played
-answer-same : (s t o o₁ p p₁ fields : List ℕ) (n k : ℕ) → n ≡ k
-    → playing (unlessRefused n (refused s t o 1) (taken s t o₁ fields)) ≡ playing (unlessRefused k (refused s t p 1) (taken s t p₁ fields))
-unfolding playing unlessRefused refused taken
-answer-same s t o o₁ p p₁ fields n k e =
-    go (eqb n 0) ∙ ap (λ (n : ℕ). playing (unlessRefused n (refused s t p 1) (taken s t p₁ fields))) e
+answer-same : (m : Memory) (o o₁ p p₁ fields : List ℕ) (n k : ℕ) → n ≡ k
+    → playing (unlessRefused n (refused m o 1) (taken m o₁ fields)) ≡ playing (unlessRefused k (refused m p 1) (taken m p₁ fields))
+unfolding playing unlessRefused refusedAt taken
+answer-same m o o₁ p p₁ fields n k e =
+    go (eqb n 0) ∙ ap (λ (n : ℕ). playing (unlessRefused n (refused m p 1) (taken m p₁ fields))) e
   where
-    go : (b : Bool) → playing (cond b (taken s t o₁ fields) (refused s t o 1 n)) ≡ playing (cond b (taken s t p₁ fields) (refused s t p 1 n))
+    go : (b : Bool) → playing (cond b (taken m o₁ fields) (refused m o 1 n)) ≡ playing (cond b (taken m p₁ fields) (refused m p 1 n))
     go true = refl
     go false = refl
 
 pub any-writing : (m : Memory) (out : List ℕ) → playing (step m (write out)) ≡ playing (step m (write (zeros (length out))))
 unfolding step writeCall
-any-writing m out =
-    answer-same (m .state) (m .tables) out _ (zeros (length out)) _ _ _ _ (refusal-same (m .state) (m .tables) out)
+any-writing m out = answer-same m out _ (zeros (length out)) _ _ _ _ (refusal-same m out)

@@ -8,6 +8,7 @@ use native.Mathlib.Numerals.{add-one}
 use lib.ListN.{length, getD, set, take, drop, replicate, length-drop, length-replicate}
 use lib.Seq.{length-take-le, take-suc-set}
 use borrow.Author.Tests.{ne-eqb}
+use Rattle.model.specs.Memory.{Memory}
 use Rattle.model.specs.Calls.{foundCall, readCall, beginCall, deliverCall, lookupCall, verdictCall, writeCall}
 use Rattle.model.specs.Run.{step}
 use Rattle.answers.specs.declared.DeliverAnswer.{DeliverAnswer}
@@ -70,85 +71,85 @@ words-before u v w x y o a b c d e ea eb ec ed ee = ee ∙ rw (ed, ec, eb, ea) (
 
 -- ---- each kind of call
 
-module _ (s t s₁ t₁ : List ℕ) where
-  pub found-words : (b d K id r : ℕ) → leaves s₁ t₁ (r ∷ []) ≡ foundCall s t b d K id
-      → shown s₁ t₁ (record { refusal = r; first = 0; second = 0; third = 0; fourth = 0 }) ≡ playing (foundCall s t b d K id)
+module _ (m m₁ : Memory) where
+  pub found-words : (b d K id r : ℕ) → leaves m₁ (r ∷ []) ≡ foundCall m b d K id
+      → shown m₁ (record { refusal = r; first = 0; second = 0; third = 0; fourth = 0 }) ≡ playing (foundCall m b d K id)
   unfolding playing
   found-words b d K id r e = ap playing e
 
-  pub read-words : (im images : List ℕ) (a b r : ℕ) → im ≡ imageAt images a b → leaves s₁ t₁ (r ∷ []) ≡ readCall s t im
-      → shown s₁ t₁ (record { refusal = r; first = 0; second = 0; third = 0; fourth = 0 }) ≡ playing (readCall s t (imageAt images a b))
+  pub read-words : (im images : List ℕ) (a b r : ℕ) → im ≡ imageAt images a b → leaves m₁ (r ∷ []) ≡ readCall m im
+      → shown m₁ (record { refusal = r; first = 0; second = 0; third = 0; fourth = 0 }) ≡ playing (readCall m (imageAt images a b))
   unfolding playing
-  read-words im images a b r h e = ap playing (e ∙ ap (readCall s t) h)
+  read-words im images a b r h e = ap playing (e ∙ ap (readCall m) h)
 
-  pub begin-words : (id g r x : ℕ) → leaves s₁ t₁ (r ∷ x ∷ []) ≡ beginCall s t id g
-      → shown s₁ t₁ (record { refusal = r; first = x; second = 0; third = 0; fourth = 0 }) ≡ playing (beginCall s t id g)
+  pub begin-words : (id g r x : ℕ) → leaves m₁ (r ∷ x ∷ []) ≡ beginCall m id g
+      → shown m₁ (record { refusal = r; first = x; second = 0; third = 0; fourth = 0 }) ≡ playing (beginCall m id g)
   unfolding playing
   begin-words id g r x e = ap playing e
 
-  pub deliver-words : (x y : ℕ) (a : DeliverAnswer) (n : Numbers) → outcome s₁ t₁ a ≡ deliverCall s t x y → numbers.listed n ≡ answerFields a
-      → shown s₁ t₁ (record { refusal = n .refusal; first = n .kind; second = n .level; third = n .settled; fourth = 0 })
-      ≡ playing (deliverCall s t x y)
+module _ (m : Memory) where
+  pub deliver-words : (s₁ t₁ : List ℕ) (x y : ℕ) (a : DeliverAnswer) (n : Numbers) → outcome s₁ t₁ a ≡ deliverCall m x y → numbers.listed n ≡ answerFields a
+      → shown (memory s₁ t₁) (record { refusal = n .refusal; first = n .kind; second = n .level; third = n .settled; fourth = 0 })
+      ≡ playing (deliverCall m x y)
   unfolding playing
-  deliver-words x y a n e f = ap (λ (l : List ℕ). record { state = s₁; tables = t₁; words = padded l }) f ∙ ap playing e
+  deliver-words s₁ t₁ x y a n e f = ap (λ (l : List ℕ). record { memory = memory s₁ t₁; words = padded l }) f ∙ ap playing e
 
-module _ (s t : List ℕ) where
-  pub lookup-words : (u z r h l b : ℕ) (a : Bool) → leaves s t (r ∷ cond a 1 0 ∷ h ∷ l ∷ []) ≡ lookupCall s t u z → b ≡ cond a 1 0
-      → shown s t (record { refusal = r; first = b; second = h; third = l; fourth = 0 }) ≡ playing (lookupCall s t u z)
+  pub lookup-words : (u z r h l b : ℕ) (a : Bool) → leaves m (r ∷ cond a 1 0 ∷ h ∷ l ∷ []) ≡ lookupCall m u z → b ≡ cond a 1 0
+      → shown m (record { refusal = r; first = b; second = h; third = l; fourth = 0 }) ≡ playing (lookupCall m u z)
   unfolding playing
   lookup-words u z r h l b a e f =
-      ap (λ (b : ℕ). shown s t (record { refusal = r; first = b; second = h; third = l; fourth = 0 })) f ∙ ap playing e
+      ap (λ (b : ℕ). shown m (record { refusal = r; first = b; second = h; third = l; fourth = 0 })) f ∙ ap playing e
 
-  pub verdict-words : (r x i j b : ℕ) (a : Bool) → leaves s t (r ∷ cond a 1 0 ∷ x ∷ i ∷ j ∷ []) ≡ verdictCall s t → b ≡ cond a 1 0
-      → shown s t (record { refusal = r; first = b; second = x; third = i; fourth = j }) ≡ playing (verdictCall s t)
+  pub verdict-words : (r x i j b : ℕ) (a : Bool) → leaves m (r ∷ cond a 1 0 ∷ x ∷ i ∷ j ∷ []) ≡ verdictCall m → b ≡ cond a 1 0
+      → shown m (record { refusal = r; first = b; second = x; third = i; fourth = j }) ≡ playing (verdictCall m)
   unfolding playing
   verdict-words r x i j b a e f =
-      ap (λ (b : ℕ). shown s t (record { refusal = r; first = b; second = x; third = i; fourth = j })) f ∙ ap playing e
+      ap (λ (b : ℕ). shown m (record { refusal = r; first = b; second = x; third = i; fourth = j })) f ∙ ap playing e
 
   -- the zeros are the first of 65,536
   pub write-words : (out : List ℕ) (room end r n : ℕ) → end ≡ min room 65536
-      → writes s t out (r ∷ n ∷ []) ≡ writeCall s t (take end (replicate 65536 0))
-      → shown s t (record { refusal = r; first = n; second = 0; third = 0; fourth = 0 }) ≡ playing (writeCall s t (zeros room))
+      → writes m out (r ∷ n ∷ []) ≡ writeCall m (take end (replicate 65536 0))
+      → shown m (record { refusal = r; first = n; second = 0; third = 0; fourth = 0 }) ≡ playing (writeCall m (zeros room))
   unfolding playing zeros
   write-words out room end r n h e =
-      ap playing (e ∙ ap (writeCall s t) (ap (λ (k : ℕ). take k (replicate 65536 0)) h ∙ take-replicate (min room 65536) 65536 (min-le-right room 65536)))
+      ap playing (e ∙ ap (writeCall m) (ap (λ (k : ℕ). take k (replicate 65536 0)) h ∙ take-replicate (min room 65536) 65536 (min-le-right room 65536)))
 
 -- ---- the kind decides
 
-module _ (s t images : List ℕ) (kind a b c id : ℕ) (x : Played) where
-  by-kind : (k : ℕ) → kind ≡ k → x ≡ playing (step (memory s t) (callOf images k a b c id)) → x ≡ playing (step (memory s t) (callOf images kind a b c id))
-  by-kind k h e = e ∙ ap (λ (k : ℕ). playing (step (memory s t) (callOf images k a b c id))) (sym h)
+module _ (m : Memory) (images : List ℕ) (kind a b c id : ℕ) (x : Played) where
+  by-kind : (k : ℕ) → kind ≡ k → x ≡ playing (step m (callOf images k a b c id)) → x ≡ playing (step m (callOf images kind a b c id))
+  by-kind k h e = e ∙ ap (λ (k : ℕ). playing (step m (callOf images k a b c id))) (sym h)
 
-  pub kind-found : kind ≡ 0 → x ≡ playing (foundCall s t a b c id) → x ≡ playing (step (memory s t) (callOf images kind a b c id))
+  pub kind-found : kind ≡ 0 → x ≡ playing (foundCall m a b c id) → x ≡ playing (step m (callOf images kind a b c id))
   unfolding callOf step
   kind-found h e = by-kind 0 h e
 
-  pub kind-begin : kind ≡ 1 → x ≡ playing (beginCall s t id a) → x ≡ playing (step (memory s t) (callOf images kind a b c id))
+  pub kind-begin : kind ≡ 1 → x ≡ playing (beginCall m id a) → x ≡ playing (step m (callOf images kind a b c id))
   unfolding callOf step
   kind-begin h e = by-kind 1 h e
 
-  pub kind-deliver : kind ≡ 2 → x ≡ playing (deliverCall s t a b) → x ≡ playing (step (memory s t) (callOf images kind a b c id))
+  pub kind-deliver : kind ≡ 2 → x ≡ playing (deliverCall m a b) → x ≡ playing (step m (callOf images kind a b c id))
   unfolding callOf step
   kind-deliver h e = by-kind 2 h e
 
-  pub kind-lookup : kind ≡ 3 → x ≡ playing (lookupCall s t a b) → x ≡ playing (step (memory s t) (callOf images kind a b c id))
+  pub kind-lookup : kind ≡ 3 → x ≡ playing (lookupCall m a b) → x ≡ playing (step m (callOf images kind a b c id))
   unfolding callOf step
   kind-lookup h e = by-kind 3 h e
 
-  pub kind-verdict : kind ≡ 4 → x ≡ playing (verdictCall s t) → x ≡ playing (step (memory s t) (callOf images kind a b c id))
+  pub kind-verdict : kind ≡ 4 → x ≡ playing (verdictCall m) → x ≡ playing (step m (callOf images kind a b c id))
   unfolding callOf step
   kind-verdict h e = by-kind 4 h e
 
-  pub kind-read : kind ≡ 5 → x ≡ playing (readCall s t (imageAt images a b)) → x ≡ playing (step (memory s t) (callOf images kind a b c id))
+  pub kind-read : kind ≡ 5 → x ≡ playing (readCall m (imageAt images a b)) → x ≡ playing (step m (callOf images kind a b c id))
   unfolding callOf step
   kind-read h e = by-kind 5 h e
 
-  pub kind-write : kind ≡ 6 → x ≡ playing (writeCall s t (zeros a)) → x ≡ playing (step (memory s t) (callOf images kind a b c id))
+  pub kind-write : kind ≡ 6 → x ≡ playing (writeCall m (zeros a)) → x ≡ playing (step m (callOf images kind a b c id))
   unfolding callOf step
   kind-write h e = by-kind 6 h e
 
   pub kind-other : (kind ≡ 0 → ⊥) → (kind ≡ 1 → ⊥) → (kind ≡ 2 → ⊥) → (kind ≡ 3 → ⊥) → (kind ≡ 4 → ⊥)
-      → (kind ≡ 5 → ⊥) → (kind ≡ 6 → ⊥) → x ≡ playing (lookupCall s t 0 0) → x ≡ playing (step (memory s t) (callOf images kind a b c id))
+      → (kind ≡ 5 → ⊥) → (kind ≡ 6 → ⊥) → x ≡ playing (lookupCall m 0 0) → x ≡ playing (step m (callOf images kind a b c id))
   unfolding callOf step
   kind-other h₀ h₁ h₂ h₃ h₄ h₅ h₆ e =
       rw (ne-eqb kind 0 h₀, ne-eqb kind 1 h₁, ne-eqb kind 2 h₂, ne-eqb kind 3 h₃, ne-eqb kind 4 h₄, ne-eqb kind 5 h₅, ne-eqb kind 6 h₆) e

@@ -36,7 +36,7 @@ unfolding answersTo wordsOf history firstCalls
 no-answers m images bs out = refl
 
 module _ (m : Memory) (images bs s t s₁ t₁ : List ℕ) (k : ℕ) (w : Words) (r : Coded) (is : memory s t ≡ play m (firstCalls k images bs))
-    (coded : r ≡ fieldsAt bs (32 * k)) (e : shown s₁ t₁ w ≡ playing (step (memory s t) (called images r))) where
+    (coded : r ≡ fieldsAt bs (32 * k)) (e : shown (memory s₁ t₁) w ≡ playing (step (memory s t) (called images r))) where
   longer : firstCalls (k + 1) images bs ≡ firstCalls k images bs ++ (called images r ∷ [])
   unfolding firstCalls callAt
   longer = rw (add-one, coded) refl
@@ -44,7 +44,7 @@ module _ (m : Memory) (images bs s t s₁ t₁ : List ℕ) (k : ℕ) (w : Words)
   pub next-memory : memory s₁ t₁ ≡ play m (firstCalls (k + 1) images bs)
   unfolding playing after
   next-memory =
-      ap (λ (p : Played). memory (p .state) (p .tables)) e
+      ap (λ (p : Played). p .memory) e
       ∙ ap (λ (n : Memory). after n (called images r)) is
       ∙ sym (play-snoc m (firstCalls k images bs) (called images r))
       ∙ ap (play m) (sym longer)

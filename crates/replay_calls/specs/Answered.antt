@@ -11,12 +11,11 @@ padded fields = getD fields 0 0 ∷ getD fields 1 0 ∷ getD fields 2 0 ∷ getD
 
 -- what a call leaves, its answer as five words
 pub record Played : Type 0 where
-  pub state : List ℕ
-  pub tables : List ℕ
+  pub memory : Memory
   pub words : List ℕ
 
 unfoldable pub playing : Outcome → Played
-playing o = record { state = o .state; tables = o .tables; words = padded (o .answer) }
+playing o = record { memory = o .memory; words = padded (o .answer) }
 
 -- the answers of a history, one behind the other
 unfoldable pub wordsOf : List Event → List ℕ

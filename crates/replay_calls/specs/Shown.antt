@@ -2,6 +2,7 @@
 use Prim.Native.Nat.{ℕ, _+_}
 use mathlib.Core.List.{List, [], _∷_}
 use lib.ListN.{getD}
+use Rattle.model.specs.Memory.{Memory}
 use Rattle.model.specs.Run.{Call}
 use Rattle.image_fields.specs.Parts.{fourAt}
 use Rattle.replay_calls.specs.Coded.{callOf, numberAt}
@@ -26,5 +27,5 @@ called images r = callOf images (r .kind) (r .a) (r .b) (r .c) (r .id)
 abbrev pub listed : Words → List ℕ
 listed w = w .refusal ∷ w .first ∷ w .second ∷ w .third ∷ w .fourth ∷ []
 
-abbrev pub shown : List ℕ → List ℕ → Words → Played
-shown s t w = record { state = s; tables = t; words = listed w }
+abbrev pub shown : Memory → Words → Played
+shown m w = record { memory = m; words = listed w }

@@ -18,7 +18,7 @@ use packing::delivered::as_numbers;
 use packing::pack::bit;
 
 fn found(state: &mut [u64], tables: &mut [u8], base: u64, digits: u64, depth: u64, id: u32) -> Words
-    ensures { λ r. ⌜ shown (now (state .exit)) (now (tables .exit)) r ≡ playing (foundCall (now (state .entry)) (now (tables .entry)) base digits depth id) ⌝ }
+    ensures { λ r. ⌜ shown (memory (now (state .exit)) (now (tables .exit))) r ≡ playing (foundCall (memory (now (state .entry)) (now (tables .entry))) base digits depth id) ⌝ }
 {
     let refusal = founding::found(state, tables, base, digits, depth, id);
     Words {
@@ -31,7 +31,7 @@ fn found(state: &mut [u64], tables: &mut [u8], base: u64, digits: u64, depth: u6
 }
 
 fn begin(state: &mut [u64], tables: &mut [u8], id: u32, gateway: u64) -> Words
-    ensures { λ r. ⌜ shown (now (state .exit)) (now (tables .exit)) r ≡ playing (beginCall (now (state .entry)) (now (tables .entry)) id gateway) ⌝ }
+    ensures { λ r. ⌜ shown (memory (now (state .exit)) (now (tables .exit))) r ≡ playing (beginCall (memory (now (state .entry)) (now (tables .entry))) id gateway) ⌝ }
 {
     let r = beginning::begin(state, tables, id, gateway);
     Words {
@@ -44,7 +44,7 @@ fn begin(state: &mut [u64], tables: &mut [u8], id: u32, gateway: u64) -> Words
 }
 
 fn deliver(state: &mut [u64], tables: &mut [u8], sender: u64, receiver: u64) -> Words
-    ensures { λ r. ⌜ shown (now (state .exit)) (now (tables .exit)) r ≡ playing (deliverCall (now (state .entry)) (now (tables .entry)) sender receiver) ⌝ }
+    ensures { λ r. ⌜ shown (memory (now (state .exit)) (now (tables .exit))) r ≡ playing (deliverCall (memory (now (state .entry)) (now (tables .entry))) sender receiver) ⌝ }
 {
     let n = as_numbers(delivering::deliver(state, tables, sender, receiver));
     Words {
@@ -57,7 +57,7 @@ fn deliver(state: &mut [u64], tables: &mut [u8], sender: u64, receiver: u64) -> 
 }
 
 fn lookup(state: &[u64], tables: &[u8], from: u64, to: u64) -> Words
-    ensures { λ r. ⌜ shown (now (state .entry)) (now (tables .entry)) r ≡ playing (lookupCall (now (state .entry)) (now (tables .entry)) from to) ⌝ }
+    ensures { λ r. ⌜ shown (memory (now (state .entry)) (now (tables .entry))) r ≡ playing (lookupCall (memory (now (state .entry)) (now (tables .entry))) from to) ⌝ }
 {
     let r = engine::lookup::lookup(state, tables, from, to);
     Words {
@@ -70,7 +70,7 @@ fn lookup(state: &[u64], tables: &[u8], from: u64, to: u64) -> Words
 }
 
 fn verdict(state: &[u64], tables: &[u8]) -> Words
-    ensures { λ r. ⌜ shown (now (state .entry)) (now (tables .entry)) r ≡ playing (verdictCall (now (state .entry)) (now (tables .entry))) ⌝ }
+    ensures { λ r. ⌜ shown (memory (now (state .entry)) (now (tables .entry))) r ≡ playing (verdictCall (memory (now (state .entry)) (now (tables .entry)))) ⌝ }
 {
     let r = engine::verdict::verdict(state, tables);
     Words {
@@ -102,7 +102,7 @@ fn image(images: &[u8], a: u64, b: u64) -> &[u8]
 }
 
 fn read(state: &mut [u64], tables: &mut [u8], images: &[u8], a: u64, b: u64) -> Words
-    ensures { λ r. ⌜ shown (now (state .exit)) (now (tables .exit)) r ≡ playing (readCall (now (state .entry)) (now (tables .entry)) (imageAt (now (images .entry)) a b)) ⌝ }
+    ensures { λ r. ⌜ shown (memory (now (state .exit)) (now (tables .exit))) r ≡ playing (readCall (memory (now (state .entry)) (now (tables .entry))) (imageAt (now (images .entry)) a b)) ⌝ }
 {
     let refusal = reading::read(state, tables, image(images, a, b));
     Words {
@@ -116,7 +116,7 @@ fn read(state: &mut [u64], tables: &mut [u8], images: &[u8], a: u64, b: u64) -> 
 
 // Writes into zeros that are not kept.
 fn write(state: &[u64], tables: &[u8], room: u64) -> Words
-    ensures { λ r. ⌜ shown (now (state .entry)) (now (tables .entry)) r ≡ playing (writeCall (now (state .entry)) (now (tables .entry)) (zeros room)) ⌝ }
+    ensures { λ r. ⌜ shown (memory (now (state .entry)) (now (tables .entry))) r ≡ playing (writeCall (memory (now (state .entry)) (now (tables .entry))) (zeros room)) ⌝ }
 {
     let mut out = [0u8; 65536];
     let end = at_most(room, 65536);
@@ -131,7 +131,7 @@ fn write(state: &[u64], tables: &[u8], room: u64) -> Words
 }
 
 pub fn play(state: &mut [u64], tables: &mut [u8], images: &[u8], r: Coded) -> Words
-    ensures { λ w. ⌜ shown (now (state .exit)) (now (tables .exit)) w ≡ playing (step (memory (now (state .entry)) (now (tables .entry))) (called (now (images .entry)) r)) ⌝ }
+    ensures { λ w. ⌜ shown (memory (now (state .exit)) (now (tables .exit))) w ≡ playing (step (memory (now (state .entry)) (now (tables .entry))) (called (now (images .entry)) r)) ⌝ }
 {
     if r.kind == 0 {
         return found(state, tables, r.a, r.b, r.c, r.id);

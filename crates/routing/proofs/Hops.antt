@@ -13,7 +13,7 @@ use Rattle.model.specs.Lookup as book
 use Rattle.model.specs.Lookup.{nextHop, oneHopMore}
 use Rattle.model.proofs.Status.{IsNode}
 use Rattle.model.proofs.Sound.{Sound}
-use Rattle.model.proofs.Delivering.{suffix-below}
+use Rattle.model.proofs.SoundNodes.{suffix-below}
 use Rattle.model.proofs.Lookup.{hop-node, left-falls, lookup-hop, hops-bound}
 use Rattle.routing.specs.declared.answer.Lookup.{Lookup}
 use Rattle.routing.specs.Answer.{bookLookup}

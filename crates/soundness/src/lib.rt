@@ -6,6 +6,7 @@ ghost use lib.ListN.{length};
 ghost use Rattle.model.specs.Sound as book;
 ghost use Rattle.model.specs.Refusals.{memoryShort};
 ghost use Rattle.model.specs.Memory.{stateLength, tablesLength};
+ghost use Rattle.state.specs.Lent.{memory};
 ghost use Rattle.state.specs.Loaded.{SettingsOf};
 ghost use Rattle.state.specs.Checked.{Ranged};
 ghost use Rattle.soundness.specs.Clauses.{nodesSound};
@@ -18,7 +19,7 @@ mod unused;
 // The lent memory is as long as it must be, and the state in it is sound.
 pub fn sound(state: &[u64], tables: &[u8]) -> bool
     ensures { λ r. ⌜
-        r ≡ (not (memoryShort (now (state .entry)) (now (tables .entry))) && book.sound (now (state .entry)) (now (tables .entry)))
+        r ≡ (not (memoryShort (memory (now (state .entry)) (now (tables .entry)))) && book.sound (now (state .entry)) (now (tables .entry)))
         ⌝ }
 {
     if lent::short(state, tables) {

@@ -4,9 +4,8 @@ use mathlib.Core.Path.{_≡_, refl, sym, ap, ap₂, subst, _∙_}
 use mathlib.Core.Logic.{⊎-elim}
 use mathlib.Core.Bool.{Bool, true, false, not}
 use mathlib.Core.List.{List}
-use native.Mathlib.Nat.{lt-of-lt-of-le, eq-or-lt-of-le}
+use native.Mathlib.Nat.{eq-or-lt-of-le}
 use native.Mathlib.Omega.{arith}
-use lib.Pow.{pow-mono}
 use lib.Dec.{eqb}
 use lib.ListN.{length, getD, set, replicate, length-set}
 use lib.Seq.{getD-set-same, getD-set-other}
@@ -15,18 +14,13 @@ use Rattle.model.specs.Ids.{validId}
 use Rattle.model.specs.Memory.{base, digits, nodeCount, idOf}
 use Rattle.model.specs.Sound.{hasValidId, idDiffers, hasNewId}
 use Rattle.model.proofs.Bools.{is-false}
-use Rattle.model.proofs.Ids.{valid-lt, power-bits}
+use Rattle.model.proofs.Ids.{valid-fits}
 use Rattle.model.proofs.Loops.{all-same, all-goes, all-leaves}
 use Rattle.model.proofs.Nodes.{nodes-at}
 use Rattle.model.proofs.Status.{IsNode}
 use Rattle.model.specs.Nodes.{allNodes}
 use Rattle.state.specs.Checked.{Identified}
 use Rattle.soundness_ids.specs.Rows.{InRow, differsAt}
-
-pub valid-fits : (b d id : ℕ) → d ≤ 8 → validId b d id ≡ true → id < 2 ^ 32
-valid-fits b d id l e =
-    let g : 4 * d ≤ 32 = omega arith in
-    let h : 16 ^ d ≤ 2 ^ 32 = rw power-bits (pow-mono g) in lt-of-lt-of-le (valid-lt b d id e) h
 
 pub word-invalid : (b d id : ℕ) → d ≤ 8 → 4294967295 < id → false ≡ validId b d id
 word-invalid b d id l h =

@@ -7,14 +7,14 @@ use native.Mathlib.Omega.{arith}
 use lib.Dec.{eqb, leb, ltb}
 use borrow.Author.Tests.{eqb-true, eqb-false, eq-eqb, ne-eqb}
 use Rattle.model.specs.Ids.{commonSuffix}
-use Rattle.model.specs.Memory.{digits, idOf, isAttached, hasNode}
+use Rattle.model.specs.Memory.{Node as Record, digits, nodeOf, idOf, isAttached, hasNode}
 use Rattle.model.specs.Nodes.{suffixOf, allNodes}
 use Rattle.model.specs.Sound.{pendingSound, notifiedSound, notifyingSound}
 use Rattle.model.proofs.Early.{true-goes, false-leaves, false-or-goes, true-or-leaves, le-goes, le-leaves, lt-goes, lt-leaves}
-use Rattle.state.specs.Loaded.{SettingsOf, NodeOf}
+use Rattle.state.specs.Loaded.{SettingsOf, bookNode}
 use Rattle.state.specs.declared.record.Node.{Node}
 use Rattle.state.specs.declared.settings.Settings.{Settings}
-use Rattle.state.proofs.Loads.{node-is, carried}
+use Rattle.state.proofs.Loads.{carried}
 use Rattle.soundness_notifying.specs.Sets.{setsSound}
 
 -- a node that is not in the set, and one that is
@@ -41,20 +41,20 @@ other-leaves u x b e = false-leaves (not (eqb u x)) b (ap not (eq-eqb u x e))
 pub other-goes : (u x : ℕ) (b q : Bool) → (u ≡ x → ⊥) → q ≡ b → q ≡ (not (eqb u x) && b)
 other-goes u x b q h = true-goes (not (eqb u x)) b q (ap not (ne-eqb u x h))
 
-pub pending-of : (s : List ℕ) (x u : ℕ) (r : Node) (q : Bool) → NodeOf s x r
+pub pending-of : (s : List ℕ) (x u : ℕ) (r : Node) (q : Bool) → bookNode r ≡ nodeOf s x
     → q ≡ (not (hasNode (r .pending) u) || (isAttached s u && (leb (r .level) (suffixOf s x u) && (not (eqb u x) && not (hasNode (r .notified) u)))))
     → q ≡ pendingSound s x u
 unfolding pendingSound
 pending-of s x u r q w =
     subst
-    (λ (r : Node). q ≡ (not (hasNode (r .pending) u) || (isAttached s u && (leb (r .level) (suffixOf s x u) && (not (eqb u x) && not (hasNode (r .notified) u))))))
-    (node-is s x r w)
+    (λ (r : Record). q ≡ (not (hasNode (r .pending) u) || (isAttached s u && (leb (r .level) (suffixOf s x u) && (not (eqb u x) && not (hasNode (r .notified) u))))))
+    w
 
-pub notified-of : (s : List ℕ) (x u : ℕ) (r : Node) (q : Bool) → NodeOf s x r
+pub notified-of : (s : List ℕ) (x u : ℕ) (r : Node) (q : Bool) → bookNode r ≡ nodeOf s x
     → q ≡ (not (hasNode (r .notified) u) || (isAttached s u && not (eqb u x))) → q ≡ notifiedSound s x u
 unfolding notifiedSound
 notified-of s x u r q w =
-    subst (λ (r : Node). q ≡ (not (hasNode (r .notified) u) || (isAttached s u && not (eqb u x)))) (node-is s x r w)
+    subst (λ (r : Record). q ≡ (not (hasNode (r .notified) u) || (isAttached s u && not (eqb u x)))) w
 
 -- a set that is empty, and one that is not
 pub some-leaves : (nodes : ℕ) (h b : Bool) → h ≡ eqb nodes 0 → h ≡ true → false ≡ (ltb 0 nodes && b)
@@ -65,7 +65,7 @@ pub some-goes : (nodes : ℕ) (h b q : Bool) → h ≡ eqb nodes 0 → h ≡ fal
 some-goes nodes h b q e g =
     let z : nodes ≡ 0 → ⊥ = eqb-false nodes 0 (sym e ∙ g) in lt-goes 0 nodes b q (omega arith)
 
-pub sets-of : (s : List ℕ) (x : ℕ) (v : Settings) (r : Node) (q : Bool) → SettingsOf s v → NodeOf s x r
+pub sets-of : (s : List ℕ) (x : ℕ) (v : Settings) (r : Node) (q : Bool) → SettingsOf s v → bookNode r ≡ nodeOf s x
     → q ≡ (ltb (r .pending) (2 ^ v .nodes) && (ltb (r .notified) (2 ^ v .nodes) && (allNodes s (pendingSound s x) && allNodes s (notifiedSound s x))))
     → q ≡ setsSound s x
 sets-of s x v r q =
@@ -73,7 +73,7 @@ sets-of s x v r q =
     (λ v r. q ≡ (ltb (r .pending) (2 ^ v .nodes) && (ltb (r .notified) (2 ^ v .nodes) && (allNodes s (pendingSound s x) && allNodes s (notifiedSound s x)))))
     s x v r
 
-pub notifying-of : (s : List ℕ) (x : ℕ) (v : Settings) (r : Node) (q : Bool) → SettingsOf s v → NodeOf s x r
+pub notifying-of : (s : List ℕ) (x : ℕ) (v : Settings) (r : Node) (q : Bool) → SettingsOf s v → bookNode r ≡ nodeOf s x
     → q ≡ (eqb (r .target) 0 && (ltb (r .level) (v .digits) && (ltb 0 (r .pending) && setsSound s x))) → q ≡ notifyingSound s x
 unfolding notifyingSound
 notifying-of s x v r q =

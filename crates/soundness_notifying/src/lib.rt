@@ -1,7 +1,8 @@
 // The rules of a notifying node: "target zero, attach level below d, a nonempty asked set", and what its two sets may name.
 ghost use mathlib.Core.Path.{_≡_};
+ghost use Rattle.model.specs.Memory.{nodeOf};
 ghost use Rattle.model.specs.Sound.{notifyingSound};
-ghost use Rattle.state.specs.Loaded.{SettingsOf, NodeOf};
+ghost use Rattle.state.specs.Loaded.{SettingsOf, bookNode};
 ghost use Rattle.model.proofs.Status.{IsNode};
 ghost use Rattle.state.specs.Checked.{Identified};
 ghost use Rattle.soundness_notifying.specs.Sets.{setsSound};
@@ -19,7 +20,7 @@ fn sets_sound(state: &[u64], s: Settings, x: usize, r: Node) -> bool
     requires { ⌜ Identified (now state) ⌝ }
     requires { ⌜ SettingsOf (now state) s ⌝ }
     requires { ⌜ IsNode (now state) x ⌝ }
-    requires { ⌜ NodeOf (now state) x r ⌝ }
+    requires { ⌜ bookNode r ≡ nodeOf (now state) x ⌝ }
     ensures { λ q. ⌜ q ≡ setsSound (now (state .entry)) x ⌝ }
 {
     if !sets::only_below(r.pending, s.nodes) {
@@ -42,7 +43,7 @@ pub fn sound(state: &[u64], s: Settings, x: usize, r: Node) -> bool
     requires { ⌜ Identified (now state) ⌝ }
     requires { ⌜ SettingsOf (now state) s ⌝ }
     requires { ⌜ IsNode (now state) x ⌝ }
-    requires { ⌜ NodeOf (now state) x r ⌝ }
+    requires { ⌜ bookNode r ≡ nodeOf (now state) x ⌝ }
     ensures { λ q. ⌜ q ≡ notifyingSound (now (state .entry)) x ⌝ }
 {
     if r.target != 0 {

@@ -1,8 +1,9 @@
 // The notified set: it "names only settled or notifying others".
 ghost use mathlib.Core.Path.{_≡_};
 ghost use Rattle.model.specs.Loops.{node};
+ghost use Rattle.model.specs.Memory.{nodeOf};
 ghost use Rattle.model.specs.Sound.{notifiedSound};
-ghost use Rattle.state.specs.Loaded.{SettingsOf, NodeOf};
+ghost use Rattle.state.specs.Loaded.{SettingsOf, bookNode};
 ghost use Rattle.model.proofs.Status.{IsNode};
 ghost use Rattle.model.specs.Nodes.{allNodes};
 ghost use Rattle.state.specs.Checked.{Ranged};
@@ -14,7 +15,7 @@ use state::settings::Settings;
 // Node u is not in the set, or may be.
 fn one(state: &[u64], x: usize, r: Node, u: usize) -> bool
     requires { ⌜ Ranged (now state) ⌝ }
-    requires { ⌜ NodeOf (now state) x r ⌝ }
+    requires { ⌜ bookNode r ≡ nodeOf (now state) x ⌝ }
     requires { ⌜ IsNode (now state) u ⌝ }
     ensures { λ q. ⌜ q ≡ notifiedSound (now (state .entry)) x u ⌝ }
 {
@@ -30,7 +31,7 @@ fn one(state: &[u64], x: usize, r: Node, u: usize) -> bool
 pub fn all(state: &[u64], s: Settings, x: usize, r: Node) -> bool
     requires { ⌜ Ranged (now state) ⌝ }
     requires { ⌜ SettingsOf (now state) s ⌝ }
-    requires { ⌜ NodeOf (now state) x r ⌝ }
+    requires { ⌜ bookNode r ≡ nodeOf (now state) x ⌝ }
     ensures { λ q. ⌜ q ≡ allNodes (now (state .entry)) (notifiedSound (now (state .entry)) x) ⌝ }
 {
     let mut k = 0;

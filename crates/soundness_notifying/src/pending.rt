@@ -2,8 +2,9 @@
 // told set".
 ghost use mathlib.Core.Path.{_≡_};
 ghost use Rattle.model.specs.Loops.{node};
+ghost use Rattle.model.specs.Memory.{nodeOf};
 ghost use Rattle.model.specs.Sound.{pendingSound};
-ghost use Rattle.state.specs.Loaded.{SettingsOf, NodeOf};
+ghost use Rattle.state.specs.Loaded.{SettingsOf, bookNode};
 ghost use Rattle.model.proofs.Status.{IsNode};
 ghost use Rattle.model.specs.Nodes.{allNodes};
 ghost use Rattle.state.specs.Checked.{Identified, OwnerOf};
@@ -18,7 +19,7 @@ fn one(state: &[u64], s: Settings, o: Owner, r: Node, u: usize) -> bool
     requires { ⌜ Identified (now state) ⌝ }
     requires { ⌜ SettingsOf (now state) s ⌝ }
     requires { ⌜ OwnerOf (now state) o ⌝ }
-    requires { ⌜ NodeOf (now state) (o .number) r ⌝ }
+    requires { ⌜ bookNode r ≡ nodeOf (now state) (o .number) ⌝ }
     requires { ⌜ IsNode (now state) u ⌝ }
     ensures { λ q. ⌜ q ≡ pendingSound (now (state .entry)) (o .number) u ⌝ }
 {
@@ -41,7 +42,7 @@ pub fn all(state: &[u64], s: Settings, o: Owner, r: Node) -> bool
     requires { ⌜ Identified (now state) ⌝ }
     requires { ⌜ SettingsOf (now state) s ⌝ }
     requires { ⌜ OwnerOf (now state) o ⌝ }
-    requires { ⌜ NodeOf (now state) (o .number) r ⌝ }
+    requires { ⌜ bookNode r ≡ nodeOf (now state) (o .number) ⌝ }
     ensures { λ q. ⌜ q ≡ allNodes (now (state .entry)) (pendingSound (now (state .entry)) (o .number)) ⌝ }
 {
     let mut k = 0;

@@ -3,8 +3,9 @@
 ghost use mathlib.Core.Path.{_≡_};
 ghost use mathlib.Core.Bool.{_&&_};
 ghost use lib.Dec.{leb};
+ghost use Rattle.model.specs.Memory.{nodeOf};
 ghost use Rattle.model.specs.Sound.{copyingSound, waitingSound};
-ghost use Rattle.state.specs.Loaded.{SettingsOf, NodeOf};
+ghost use Rattle.state.specs.Loaded.{SettingsOf, bookNode};
 ghost use Rattle.state.specs.Checked.{Ranged};
 ghost use Rattle.soundness_status.specs.StatusFacts.{joiningAtRest};
 use state::node;
@@ -13,7 +14,7 @@ use state::sets;
 use state::settings::Settings;
 
 fn at_rest(r: Node) -> bool
-    ensures { λ q. ⌜ q ≡ joiningAtRest r ⌝ }
+    ensures { λ q. ⌜ q ≡ joiningAtRest (bookNode r) ⌝ }
 {
     if r.level != 0 {
         return false;
@@ -37,7 +38,7 @@ fn is_node(nodes: usize, x: u64) -> bool
 pub fn copying(state: &[u64], s: Settings, x: usize, r: Node) -> bool
     requires { ⌜ Ranged (now state) ⌝ }
     requires { ⌜ SettingsOf (now state) s ⌝ }
-    requires { ⌜ NodeOf (now state) x r ⌝ }
+    requires { ⌜ bookNode r ≡ nodeOf (now state) x ⌝ }
     ensures { λ q. ⌜ q ≡ copyingSound (now (state .entry)) x ⌝ }
 {
     if !is_node(s.nodes, r.target) {
@@ -53,7 +54,7 @@ pub fn copying(state: &[u64], s: Settings, x: usize, r: Node) -> bool
 pub fn waiting(state: &[u64], s: Settings, x: usize, r: Node) -> bool
     requires { ⌜ Ranged (now state) ⌝ }
     requires { ⌜ SettingsOf (now state) s ⌝ }
-    requires { ⌜ NodeOf (now state) x r ⌝ }
+    requires { ⌜ bookNode r ≡ nodeOf (now state) x ⌝ }
     ensures { λ q. ⌜ q ≡ waitingSound (now (state .entry)) x ⌝ }
 {
     if !is_node(s.nodes, r.target) {

@@ -1,7 +1,7 @@
 // The rules of each status: a settled member is in system here, the asked set is pending, the told set notified.
 ghost use mathlib.Core.Path.{_≡_};
 ghost use Rattle.model.specs.Sound.{statusSound};
-ghost use Rattle.state.specs.Loaded.{SettingsOf};
+ghost use Rattle.state.specs.Loaded.{SettingsOf, bookNode};
 ghost use Rattle.model.proofs.Status.{IsNode};
 ghost use Rattle.model.specs.Nodes.{allNodes};
 ghost use Rattle.state.specs.Checked.{Identified};
@@ -16,7 +16,7 @@ mod joining;
 
 // "a settled member's attach level, target and sets are zero"
 fn in_system(r: Node) -> bool
-    ensures { λ q. ⌜ q ≡ atRest r ⌝ }
+    ensures { λ q. ⌜ q ≡ atRest (bookNode r) ⌝ }
 {
     if r.level != 0 {
         return false;

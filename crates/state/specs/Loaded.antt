@@ -4,7 +4,7 @@ use mathlib.Core.Path.{_≡_}
 use mathlib.Core.List.{List}
 use lib.ListN.{length}
 use Rattle.model.specs.Memory as memory
-use Rattle.model.specs.Memory.{base, digits, depth, nodeCount, idOf, statusOf, levelOf, targetOf, pendingOf, notifiedOf, stateLength}
+use Rattle.model.specs.Memory.{base, digits, depth, nodeCount, stateLength}
 use Rattle.state.specs.declared.record.Node.{Node}
 use Rattle.state.specs.declared.settings.Settings.{Settings}
 
@@ -25,15 +25,6 @@ pub record Placed (s : List ℕ) (x : ℕ) : Type 0 where
   pub long : stateLength ≤ length s
   pub first : 1 ≤ x
   pub last : x ≤ 64
-
--- node x's record
-pub record NodeOf (s : List ℕ) (x : ℕ) (r : Node) : Type 0 where
-  pub id : r .id ≡ idOf s x
-  pub status : r .status ≡ statusOf s x
-  pub level : r .level ≡ levelOf s x
-  pub target : r .target ≡ targetOf s x
-  pub pending : r .pending ≡ pendingOf s x
-  pub notified : r .notified ≡ notifiedOf s x
 
 -- a record as the book has it
 abbrev pub bookNode : Node → memory.Node

@@ -1,6 +1,7 @@
 // The lent memory: its fixed lengths, which every call asks for first.
 ghost use mathlib.Core.Path.{_≡_};
 ghost use Rattle.model.specs.Refusals.{memoryShort};
+ghost use Rattle.state.specs.Lent.{memory};
 
 // The fixed length of the state, in words.
 pub const STATE_LENGTH: usize = 520;
@@ -10,7 +11,7 @@ pub const TABLES_LENGTH: usize = 32768;
 
 // 1: "Lent table memory is shorter than 32,768 bytes, or other lent state memory than the fixed length".
 pub fn short(state: &[u64], tables: &[u8]) -> bool
-    ensures { λ r. ⌜ r ≡ memoryShort (now (state .entry)) (now (tables .entry)) ⌝ }
+    ensures { λ r. ⌜ r ≡ memoryShort (memory (now (state .entry)) (now (tables .entry))) ⌝ }
 {
     if tables.len() < TABLES_LENGTH {
         return true;

@@ -1,6 +1,8 @@
-// The lent memory: its lengths, and of its words the settings, a node's record, the status of a node, sets of nodes, words that are zero.
+// The lent memory: its lengths, and of its words the settings, a node's record, the record that a step gives it next, its status, what a
+// check asks of it, sets of nodes, and words that are zero.
 pub mod clear;
 pub mod lent;
+pub mod next_record;
 pub mod node;
 pub mod record;
 pub mod sets;

@@ -1,7 +1,7 @@
 // A node's record: words 8x to 8x + 5 of the state for node x.
 ghost use mathlib.Core.Path.{_≡_};
-ghost use Rattle.model.specs.Memory.{withNode, idOf, statusOf};
-ghost use Rattle.state.specs.Loaded.{Placed, NodeOf, bookNode};
+ghost use Rattle.model.specs.Memory.{withNode, nodeOf, idOf, statusOf};
+ghost use Rattle.state.specs.Loaded.{Placed, bookNode};
 
 pub struct Node {
     pub id: u64,
@@ -14,7 +14,7 @@ pub struct Node {
 
 pub fn load(state: &[u64], x: usize) -> Node
     requires { ⌜ Placed (now state) x ⌝ }
-    ensures { λ r. ⌜ NodeOf (now (state .entry)) x r ⌝ }
+    ensures { λ r. ⌜ bookNode r ≡ nodeOf (now (state .entry)) x ⌝ }
 {
     let at = 8 * x;
     Node {

@@ -1,31 +1,29 @@
 -- Lines put together piece by piece, and the answers they show. Assumes nothing.
-use Prim.Native.Nat.{ℕ, _<_}
-use mathlib.Core.Path.{_≡_, sym, ap, subst, _∙_}
+use Prim.Native.Nat.{ℕ, _≤_}
+use mathlib.Core.Path.{_≡_, sym, ap, _∙_}
 use mathlib.Core.Bool.{Bool, true, false, cond}
 use mathlib.Core.List.{List, [], _∷_, _++_, append-assoc}
-use lib.ListN.{getD}
+use lib.ListN.{length, getD, take}
 use borrow.Author.Tests.{eq-eqb, ne-eqb}
 use Rattle.model.specs.Calls.{Outcome, readCall, verdictCall}
-use Rattle.model.proofs.Fields.{Bytes, read-bytes, verdict-bytes}
-use Rattle.text.specs.Numbers.{decimal}
+use Rattle.text.specs.Numbers.{decimalWithin, decimal, space, newline}
+use Rattle.image_program.specs.Printed.{lineOne, printed}
+use Rattle.image_program.proofs.Printing.{printed-refused, printed-taken}
+use Rattle.image_program.proofs.Overlong.{overlong}
+use Rattle.state.specs.Lent.{memory}
 use Rattle.engine.specs.Outcomes.{leaves}
 use Rattle.answers.specs.declared.VerdictAnswer.{VerdictAnswer}
-use Rattle.verdict.specs.Lines.{refusalWord, consistentWord, atWord, space, newline, lineOne, judgement, place, lineTwo, verdictText, verdictLines}
-use Rattle.verdict.specs.Fits.{verdictAnswerFields, Fits}
+use Rattle.verdict.specs.Lines.{consistentWord, atWord, judgement, place, lineTwo, verdictAnswerFields, verdictText, verdictLines}
 
 -- ---- the lines, each piece behind the one before it
 
-pub line-one-is : (n : ℕ) (a b : List ℕ) → a ≡ refusalWord → b ≡ a ++ (decimal n ++ newline) → b ≡ lineOne n
-unfolding lineOne
-line-one-is n a b e f = f ∙ ap (λ (l : List ℕ). l ++ (decimal n ++ newline)) e
-
 -- "consistent 1 at " and "consistent 0 at "
 pub start-yes : (b : Bool) (o a : List ℕ) → b ≡ true → a ≡ o ++ (consistentWord ++ (49 ∷ atWord)) → a ≡ o ++ judgement (cond b 1 0)
-unfolding judgement decimal
+unfolding judgement decimal decimalWithin
 start-yes b o a h e = rw h e
 
 pub start-no : (b : Bool) (o a : List ℕ) → b ≡ false → a ≡ o ++ (consistentWord ++ (48 ∷ atWord)) → a ≡ o ++ judgement (cond b 1 0)
-unfolding judgement decimal
+unfolding judgement decimal decimalWithin
 start-no b o a h e = rw h e
 
 pub place-is : (x i j : ℕ) (o a b c : List ℕ) → a ≡ o ++ (decimal x ++ space) → b ≡ a ++ (decimal i ++ space) → c ≡ b ++ (decimal j ++ newline)
@@ -56,26 +54,25 @@ unfolding verdictText
 judged-taken j a b h e f =
     rw (eq-eqb (j .refusal) 0 h) (f ∙ ap (λ (l : List ℕ). l ++ lineTwo (cond (j .consistent) 1 0) (j .node) (j .level) (j .digit)) e)
 
-module _ (s t im s₁ t₁ : List ℕ) (r : ℕ) (e : leaves s₁ t₁ (r ∷ []) ≡ readCall s t im) where
-  number : getD (readCall s t im .answer) 0 0 ≡ r
+module _ (s t im s₁ t₁ : List ℕ) (r : ℕ) (e : leaves (memory s₁ t₁) (r ∷ []) ≡ readCall (memory s t) im) where
+  number : getD (readCall (memory s t) im .answer) 0 0 ≡ r
   number = ap (λ (o : Outcome). getD (o .answer) 0 0) (sym e)
-
-  pub read-fits : r < 256
-  unfolding Bytes
-  read-fits = subst (λ (o : Outcome). Bytes (o .answer)) (sym e) (read-bytes s t im) .0
 
   pub lines-refused : (a : List ℕ) → (r ≡ 0 → ⊥) → a ≡ lineOne r → a ≡ verdictLines s t im
   unfolding verdictLines
-  lines-refused a h f = rw (number, ne-eqb r 0 h) f
+  lines-refused a = printed-refused _ _ r number a
 
-  module _ (z : r ≡ 0) (j : VerdictAnswer) (f : leaves s₁ t₁ (verdictAnswerFields j) ≡ verdictCall s₁ t₁) where
-    pub judged-fits : Fits j
-    unfolding Bytes
-    judged-fits =
-        let b : Bytes (verdictAnswerFields j) = subst (λ (o : Outcome). Bytes (o .answer)) (sym f) (verdict-bytes s₁ t₁) in
-        record { refusal = b .0; node = b .1 .1 .0; level = b .1 .1 .1 .0; digit = b .1 .1 .1 .1 .0 }
+  pub lines-judged : r ≡ 0 → (j : VerdictAnswer) → leaves (memory s₁ t₁) (verdictAnswerFields j) ≡ verdictCall (memory s₁ t₁) → (a : List ℕ) → a ≡ verdictText (verdictAnswerFields j)
+      → a ≡ verdictLines s t im
+  unfolding verdictLines
+  lines-judged z j f a g =
+      printed-taken _ _ r number a z
+      (g
+      ∙ ap (λ (o : Outcome). verdictText (o .answer)) f
+      ∙ ap (λ (o : Outcome). verdictText (verdictCall (o .memory) .answer)) e)
 
-    pub lines-judged : (a : List ℕ) → a ≡ verdictText (verdictAnswerFields j) → a ≡ verdictLines s t im
-    unfolding verdictLines
-    lines-judged a g =
-        rw (← e, eq-eqb r 0 z) (g ∙ ap (λ (o : Outcome). verdictText (o .answer)) f)
+-- the program prints for an overlong input what the whole of it deserves
+pub overlong-lines : (im s t : List ℕ) → 65536 ≤ length im → verdictLines s t (take 65536 im) ≡ verdictLines s t im
+unfolding verdictLines
+overlong-lines im s t long =
+    ap (λ (r : Outcome). printed r (verdictText (verdictCall (r .memory) .answer))) (overlong im (memory s t) long)

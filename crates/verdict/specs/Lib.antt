@@ -1,3 +1,2 @@
--- The verdict program's output, and what the functions that make it ask.
+-- The verdict program's output.
 pub mod Lines
-pub mod Fits

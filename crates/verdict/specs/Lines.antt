@@ -6,11 +6,10 @@ use mathlib.Core.List.{List, [], _∷_, _++_}
 use lib.Dec.{eqb}
 use lib.ListN.{getD}
 use Rattle.model.specs.Calls.{readCall, verdictCall}
-use Rattle.text.specs.Numbers.{decimal}
-
--- "refusal "
-abbrev pub refusalWord : List ℕ
-refusalWord = 114 ∷ 101 ∷ 102 ∷ 117 ∷ 115 ∷ 97 ∷ 108 ∷ 32 ∷ []
+use Rattle.state.specs.Lent.{memory}
+use Rattle.answers.specs.declared.VerdictAnswer.{VerdictAnswer}
+use Rattle.text.specs.Numbers.{decimal, space, newline}
+use Rattle.image_program.specs.Printed.{lineOne, printed}
 
 -- "consistent "
 abbrev pub consistentWord : List ℕ
@@ -19,15 +18,6 @@ consistentWord = 99 ∷ 111 ∷ 110 ∷ 115 ∷ 105 ∷ 115 ∷ 116 ∷ 101 ∷ 
 -- " at "
 abbrev pub atWord : List ℕ
 atWord = 32 ∷ 97 ∷ 116 ∷ 32 ∷ []
-
-abbrev pub space : List ℕ
-space = 32 ∷ []
-
-abbrev pub newline : List ℕ
-newline = 10 ∷ []
-
-unfoldable pub lineOne : ℕ → List ℕ
-lineOne number = refusalWord ++ (decimal number ++ newline)
 
 -- `consistent`, 1 or 0, `at`
 unfoldable pub judgement : ℕ → List ℕ
@@ -40,6 +30,10 @@ place x i j = (decimal x ++ space) ++ ((decimal i ++ space) ++ (decimal j ++ new
 unfoldable pub lineTwo : ℕ → ℕ → ℕ → ℕ → List ℕ
 lineTwo consistent x i j = judgement consistent ++ place x i j
 
+-- the fields of a verdict's answer as the code holds it
+abbrev pub verdictAnswerFields : VerdictAnswer → List ℕ
+verdictAnswerFields j = j .refusal ∷ cond (j .consistent) 1 0 ∷ j .node ∷ j .level ∷ j .digit ∷ []
+
 -- by the whole answer, which has its refusal first
 unfoldable pub verdictText : List ℕ → List ℕ
 verdictText answer =
@@ -48,6 +42,4 @@ verdictText answer =
 
 -- the output for an image that is read into this memory: the refusal of reading, or what the verdict answers
 unfoldable pub verdictLines : List ℕ → List ℕ → List ℕ → List ℕ
-verdictLines s t im =
-    let r = readCall s t im in
-    cond (eqb (getD (r .answer) 0 0) 0) (verdictText (verdictCall (r .state) (r .tables) .answer)) (lineOne (getD (r .answer) 0 0))
+verdictLines s t im = let r = readCall (memory s t) im in printed r (verdictText (verdictCall (r .memory) .answer))

@@ -3,22 +3,12 @@
 ghost use mathlib.Core.Path.{_≡_};
 ghost use mathlib.Core.Bool.{cond};
 ghost use mathlib.Core.List.{_++_};
-ghost use Prim.Native.Nat.{_+_, _<_, _≤_};
+ghost use Prim.Native.Nat.{_+_, _≤_};
 ghost use lib.ListN.{length, take};
-ghost use Rattle.verdict.specs.Lines.{lineOne, judgement, place, lineTwo, verdictText, verdictLines};
-ghost use Rattle.verdict.specs.Fits.{verdictAnswerFields, Fits};
+ghost use Rattle.verdict.specs.Lines.{judgement, place, lineTwo, verdictAnswerFields, verdictText, verdictLines};
 use answers::VerdictAnswer;
 use engine::reading;
-
-fn line_one(out: &mut [u8], number: u64) -> usize
-    requires { ⌜ 12 ≤ length (now out) ⌝ }
-    requires { ⌜ number < 256 ⌝ }
-    ensures { λ r. ⌜ take r (now (out .exit)) ≡ lineOne number ⌝ }
-    ensures { λ r. ⌜ r ≤ 12 ⌝ }
-{
-    let at = text::put(out, 0, b"refusal ");
-    text::number_then(out, at, number, b"\n")
-}
+use image_program::line_one;
 
 fn line_start(out: &mut [u8], at: usize, consistent: bool) -> usize
     requires { ⌜ at + 16 ≤ length (now out) ⌝ }
@@ -33,12 +23,9 @@ fn line_start(out: &mut [u8], at: usize, consistent: bool) -> usize
 
 // Node, level and digit.
 fn line_end(out: &mut [u8], at: usize, x: u64, i: u64, j: u64) -> usize
-    requires { ⌜ at + 12 ≤ length (now out) ⌝ }
-    requires { ⌜ x < 256 ⌝ }
-    requires { ⌜ i < 256 ⌝ }
-    requires { ⌜ j < 256 ⌝ }
+    requires { ⌜ at + 63 ≤ length (now out) ⌝ }
     ensures { λ r. ⌜ take r (now (out .exit)) ≡ take at (now (out .entry)) ++ place x i j ⌝ }
-    ensures { λ r. ⌜ r ≤ at + 12 ⌝ }
+    ensures { λ r. ⌜ r ≤ at + 63 ⌝ }
 {
     let second = text::number_then(out, at, x, b" ");
     let third = text::number_then(out, second, i, b" ");
@@ -46,20 +33,18 @@ fn line_end(out: &mut [u8], at: usize, x: u64, i: u64, j: u64) -> usize
 }
 
 fn line_two(out: &mut [u8], at: usize, j: VerdictAnswer) -> usize
-    requires { ⌜ at + 28 ≤ length (now out) ⌝ }
-    requires { ⌜ Fits j ⌝ }
+    requires { ⌜ at + 79 ≤ length (now out) ⌝ }
     ensures { λ r. ⌜ take r (now (out .exit)) ≡ take at (now (out .entry)) ++ lineTwo (cond (j .consistent) 1 0) (j .node) (j .level) (j .digit) ⌝ }
-    ensures { λ r. ⌜ r ≤ at + 28 ⌝ }
+    ensures { λ r. ⌜ r ≤ at + 79 ⌝ }
 {
     let end = line_start(out, at, j.consistent);
     line_end(out, end, j.node, j.level, j.digit)
 }
 
 fn judged(out: &mut [u8], j: VerdictAnswer) -> usize
-    requires { ⌜ 40 ≤ length (now out) ⌝ }
-    requires { ⌜ Fits j ⌝ }
+    requires { ⌜ 108 ≤ length (now out) ⌝ }
     ensures { λ r. ⌜ take r (now (out .exit)) ≡ verdictText (verdictAnswerFields j) ⌝ }
-    ensures { λ r. ⌜ r ≤ 40 ⌝ }
+    ensures { λ r. ⌜ r ≤ 108 ⌝ }
 {
     if j.refusal != 0 {
         return line_one(out, j.refusal);
@@ -70,9 +55,9 @@ fn judged(out: &mut [u8], j: VerdictAnswer) -> usize
 
 // Reads the image into the lent memory, judges it, and puts the lines at the start of out; answers how many bytes they are.
 pub fn lines(state: &mut [u64], tables: &mut [u8], image: &[u8], out: &mut [u8]) -> usize
-    requires { ⌜ 40 ≤ length (now out) ⌝ }
+    requires { ⌜ 108 ≤ length (now out) ⌝ }
     ensures { λ r. ⌜ take r (now (out .exit)) ≡ verdictLines (now (state .entry)) (now (tables .entry)) (now (image .entry)) ⌝ }
-    ensures { λ r. ⌜ r ≤ 40 ⌝ }
+    ensures { λ r. ⌜ r ≤ 108 ⌝ }
 {
     let r = reading::read(state, tables, image);
     if r != 0 {

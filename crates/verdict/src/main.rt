@@ -9,7 +9,7 @@ fn main() {
     let n = io::read_full(STDIN_FILENO, &mut image);
     let mut state = [0u64; 520];
     let mut tables = [0u8; 32768];
-    let mut out = [0u8; 64];
+    let mut out = [0u8; 128];
     let k = lines::lines(&mut state, &mut tables, &image[..n], &mut out);
     io::write_all(STDOUT_FILENO, &out[..k]);
 }

@@ -4,32 +4,27 @@ use mathlib.Core.Path.{_≡_}
 use mathlib.Core.List.{List, [], _∷_}
 use lib.ListN.{replicate}
 use Rattle.model.specs.Ids.{commonSuffix}
-use Rattle.model.specs.Memory.{stateLength, tablesLength}
+use Rattle.model.specs.Memory.{Memory, stateLength, tablesLength}
 use Rattle.model.specs.Calls.{Outcome, foundCall, readCall, lookupCall, verdictCall}
 
 -- lent memory with old contents in every place
-dirtyState : List ℕ
-dirtyState = replicate stateLength 9
-
-dirtyTables : List ℕ
-dirtyTables = replicate tablesLength 9
+unfoldable pub dirty : Memory
+dirty = record { state = replicate stateLength 9; tables = replicate tablesLength 9 }
 
 -- founding on that memory: base, digits, depth, id
 unfoldable pub founding : ℕ → ℕ → ℕ → ℕ → Outcome
-unfolding dirtyState dirtyTables
-founding b d K id = foundCall dirtyState dirtyTables b d K id
+founding b d K id = foundCall dirty b d K id
 
 -- reading an image into that memory
 unfoldable pub reading : List ℕ → Outcome
-unfolding dirtyState dirtyTables
-reading im = readCall dirtyState dirtyTables im
+reading im = readCall dirty im
 
 -- the verdict and the lookup on what a call left
 unfoldable pub verdictOn : Outcome → List ℕ
-verdictOn o = verdictCall (o .state) (o .tables) .answer
+verdictOn o = verdictCall (o .memory) .answer
 
 unfoldable pub lookupOn : Outcome → ℕ → ℕ → List ℕ
-lookupOn o u z = lookupCall (o .state) (o .tables) u z .answer
+lookupOn o u z = lookupCall (o .memory) u z .answer
 
 -- the first sixteen bytes of E1 with this record count, before the records
 unfoldable pub headOfE1 : ℕ → List ℕ → List ℕ

@@ -5,8 +5,8 @@ use borrow.Author.Needs.{needs}
 use Rattle.delivery_waiting.proofs.send_on.Statement.{statement}
 use Rattle.delivery_waiting.proofs.send_on.Tie as tie
 
-id-requires : tie.Need-id-requires
-id-requires c κs = search needs
+load-requires : tie.Need-load-requires
+load-requires c κs = search needs
 
 learn-from-requires : tie.Need-learn-from-requires
 learn-from-requires c κs = search meets
@@ -30,7 +30,7 @@ pub send-on-spec : {M : Type 1} → statement M
 send-on-spec =
     tie.close
     (tie.spec
-    id-requires
+    load-requires
     learn-from-requires
     joining-node-requires
     store-requires

@@ -1,4 +1,4 @@
--- `start_notifying`: the record has x's id, the level and y in the told set. Assumes nothing.
+-- `start_notifying`: x's record has the level and y in the notified set. Assumes nothing.
 use Rattle.delivery_parts.proofs.Deliveries.{starts-is}
 use borrow.Author.Needs.{needs}
 use Rattle.delivery_waiting.proofs.start_notifying.Statement.{statement}
@@ -7,11 +7,11 @@ use Rattle.delivery_waiting.proofs.start_notifying.Tie as tie
 attach-level-requires : tie.Need-attach-level-requires
 attach-level-requires c κs = search needs
 
-id-requires : tie.Need-id-requires
-id-requires c κs = search needs
-
 add-requires : tie.Need-add-requires
 add-requires c κs = search needs
+
+notifying-node-requires : tie.Need-notifying-node-requires
+notifying-node-requires c κs = search needs
 
 store-requires : tie.Need-store-requires
 store-requires c κs = search needs
@@ -25,4 +25,4 @@ returns c = (search needs, search starts-is)
 pub start-notifying-spec : {M : Type 1} → statement M
 start-notifying-spec =
     tie.close
-    (tie.spec attach-level-requires id-requires add-requires store-requires same-length returns)
+    (tie.spec attach-level-requires add-requires notifying-node-requires store-requires same-length returns)

@@ -1,6 +1,6 @@
 -- `overlay_begin`: the answer of `begin`, packed. Assumes nothing.
 use borrow.Author.Needs.{needs}
-use Rattle.overlay.proofs.Fields.{begun-fits, begin-packs}
+use Rattle.overlay.proofs.Fields.{begin-fits, begin-packs}
 use Rattle.overlay.proofs.overlay_begin.Statement.{statement}
 use Rattle.overlay.proofs.overlay_begin.Tie as tie
 
@@ -8,7 +8,7 @@ begin-requires : tie.Need-begin-requires
 begin-requires c κs = search needs
 
 pack-requires : tie.Need-pack-requires
-pack-requires c κs = search begun-fits
+pack-requires c κs = search begin-fits
 
 same-length : tie.Need-same-length
 same-length c = search needs

@@ -1,6 +1,6 @@
 -- `overlay_deliver`: the answer of `deliver` as numbers, packed. Assumes nothing.
 use borrow.Author.Needs.{needs}
-use Rattle.overlay.proofs.Fields.{delivered-fits, deliver-packs}
+use Rattle.overlay.proofs.Fields.{deliver-fits, deliver-packs}
 use Rattle.overlay.proofs.overlay_deliver.Statement.{statement}
 use Rattle.overlay.proofs.overlay_deliver.Tie as tie
 
@@ -11,7 +11,7 @@ as-numbers-requires : tie.Need-as-numbers-requires
 as-numbers-requires c κs = search needs
 
 pack-requires : tie.Need-pack-requires
-pack-requires c κs = search delivered-fits
+pack-requires c κs = search deliver-fits
 
 same-length : tie.Need-same-length
 same-length c = search needs

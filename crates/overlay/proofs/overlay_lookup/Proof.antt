@@ -1,6 +1,6 @@
 -- `overlay_lookup`: the answer of `lookup`, packed. Assumes nothing.
 use borrow.Author.Needs.{needs}
-use Rattle.overlay.proofs.Fields.{found-fits, lookup-packs}
+use Rattle.overlay.proofs.Fields.{lookup-fits, lookup-packs}
 use Rattle.overlay.proofs.overlay_lookup.Statement.{statement}
 use Rattle.overlay.proofs.overlay_lookup.Tie as tie
 
@@ -11,7 +11,7 @@ bit-requires : tie.Need-bit-requires
 bit-requires c κs = search needs
 
 pack-requires : tie.Need-pack-requires
-pack-requires c κs = search found-fits
+pack-requires c κs = search lookup-fits
 
 returns : tie.Need-returns
 returns c = search lookup-packs

@@ -1,6 +1,6 @@
 -- `overlay_verdict`: the answer of `verdict`, packed. Assumes nothing.
 use borrow.Author.Needs.{needs}
-use Rattle.overlay.proofs.Fields.{judged-fits, verdict-packs}
+use Rattle.overlay.proofs.Fields.{verdict-fits, verdict-packs}
 use Rattle.overlay.proofs.overlay_verdict.Statement.{statement}
 use Rattle.overlay.proofs.overlay_verdict.Tie as tie
 
@@ -11,7 +11,7 @@ bit-requires : tie.Need-bit-requires
 bit-requires c κs = search needs
 
 pack-requires : tie.Need-pack-requires
-pack-requires c κs = search judged-fits
+pack-requires c κs = search verdict-fits
 
 returns : tie.Need-returns
 returns c = search verdict-packs

@@ -32,7 +32,7 @@ returns-4 : tie.Need-returns-4
 returns-4 c = search status-notifying
 
 returns-5 : tie.Need-returns-5
-returns-5 c = let n = c .match .rest in status-none _ _ _ (c .before .load .ensures .status) (n .0 .0 .0 .1) (n .0 .0 .1) (n .0 .1) (n .1)
+returns-5 c = let n = c .match .rest in status-none _ _ _ (c .before .load .ensures) (n .0 .0 .0 .1) (n .0 .0 .1) (n .0 .1) (n .1)
 
 pub status-spec : {M : Type 1} → statement M
 status-spec =

@@ -5,8 +5,8 @@ use borrow.Author.Needs.{needs}
 use Rattle.delivery.proofs.copying.next_request.Statement.{statement}
 use Rattle.delivery.proofs.copying.next_request.Tie as tie
 
-id-requires : tie.Need-id-requires
-id-requires c κs = search needs
+load-requires : tie.Need-load-requires
+load-requires c κs = search needs
 
 suffix-entry-requires : tie.Need-suffix-entry-requires
 suffix-entry-requires c κs = search needs
@@ -36,7 +36,7 @@ pub next-request-spec : {M : Type 1} → statement M
 next-request-spec =
     tie.close
     (tie.spec
-    id-requires
+    load-requires
     suffix-entry-requires
     joining-node-requires
     returns

@@ -1,6 +1,6 @@
 -- `deliver_notifying`: the sets, the level and both tables are the delivery's. Assumes nothing.
 use Rattle.delivery_parts.proofs.Readers.{placed, meets}
-use Rattle.delivery_parts.proofs.Learned.{gathers-told}
+use Rattle.delivery_parts.proofs.Learned.{gathers-notified}
 use Rattle.delivery_parts.proofs.Deliveries.{notified-is}
 use borrow.Author.Needs.{needs}
 use Rattle.delivery.proofs.notifying.deliver_notifying.Statement.{statement}
@@ -21,7 +21,7 @@ notify-requires c κs = search meets
 gather-from-requires : tie.Need-gather-from-requires
 gather-from-requires c κs =
     let p = c .before .before .before .before in
-    gathers-told _ _ _ _ (meets _ _ _ _ (p .before .before .before .before .before .before .before .before .before .pre)) _ (p .notify .ensures)
+    gathers-notified _ _ _ _ (meets _ _ _ _ (p .before .before .before .before .before .before .before .before .before .pre)) _ (p .notify .ensures)
 
 store-notifying-requires : tie.Need-store-notifying-requires
 store-notifying-requires c κs = search placed

@@ -1,14 +1,28 @@
--- `store_notifying`: the record is made with x's own id. Assumes nothing.
-use Rattle.delivery_parts.proofs.Deliveries.{stored-is}
+-- `store_notifying`: the record notifies before it settles. Assumes nothing.
+use Prim.Native.Nat.{ℕ}
+use mathlib.Core.Path.{_≡_, ap, _∙_}
+use mathlib.Core.List.{List}
 use borrow.Author.Needs.{needs}
+use Rattle.model.specs.Memory.{withNode, notifying}
+use Rattle.model.specs.Join.{notifyingNode, settle}
+use Rattle.model.proofs.Memory.{same-status}
+use Rattle.state.specs.declared.record.Node.{Node}
+use Rattle.state.specs.Loaded.{bookNode}
 use Rattle.delivery_parts.proofs.nodes.store_notifying.Statement.{statement}
 use Rattle.delivery_parts.proofs.nodes.store_notifying.Tie as tie
 
-id-requires : tie.Need-id-requires
-id-requires c κs = search needs
+notifies : (n r : Node) (k pending notified : ℕ) → bookNode n ≡ notifyingNode (bookNode r) k pending notified → n .status ≡ notifying
+notifies n r k pending notified e = same-status e
+
+stored-is : (s s₁ : List ℕ) (x k pending notified : ℕ) (r n m : Node) → bookNode n ≡ notifyingNode (bookNode r) k pending notified
+    → bookNode m ≡ settle (bookNode n) → s₁ ≡ withNode s x (bookNode m) → s₁ ≡ withNode s x (settle (notifyingNode (bookNode r) k pending notified))
+stored-is s s₁ x k pending notified r n m e f g = g ∙ ap (withNode s x) (f ∙ ap settle e)
 
 notifying-node-requires : tie.Need-notifying-node-requires
 notifying-node-requires c κs = search needs
+
+settle-requires : tie.Need-settle-requires
+settle-requires c κs = search notifies
 
 store-requires : tie.Need-store-requires
 store-requires c κs = search needs
@@ -25,10 +39,4 @@ returns c = (search stored-is, search needs)
 pub store-notifying-spec : {M : Type 1} → statement M
 store-notifying-spec =
     tie.close
-    (tie.spec
-    id-requires
-    notifying-node-requires
-    store-requires
-    is-empty-requires
-    same-length
-    returns)
+    (tie.spec notifying-node-requires settle-requires store-requires is-empty-requires same-length returns)

@@ -1,6 +1,8 @@
 -- `begin`: refused, or taken on a sound state with room. Assumes nothing.
 use borrow.Author.Needs.{needs}
-use Rattle.engine.proofs.Laws.{begins, begin-refused, begin-done}
+use Rattle.model.specs.Calls.{unlessRefused, beginCall}
+use Rattle.model.proofs.Calls.{refused-end, taken-end, work-left}
+use Rattle.engine.proofs.Laws.{begins, one-field}
 use Rattle.engine.proofs.beginning.begin.Statement.{statement}
 use Rattle.engine.proofs.beginning.begin.Tie as tie
 
@@ -14,10 +16,11 @@ same-length-2 : tie.Need-same-length-2
 same-length-2 c = search needs
 
 returns : tie.Need-returns
-returns c = search begin-refused
+unfolding beginCall unlessRefused
+returns c = search refused-end
 
 begin-requires : tie.Need-begin-requires
-begin-requires c κs = search begins
+begin-requires c κs = begins _ _ _ _ (c .before .before .before .refusal .ensures) (c .before .before .if1 .left)
 
 same-length-3 : tie.Need-same-length-3
 same-length-3 c = search needs
@@ -26,7 +29,8 @@ same-length-4 : tie.Need-same-length-4
 same-length-4 c = search needs
 
 returns-2 : tie.Need-returns-2
-returns-2 c = search begin-done
+unfolding beginCall
+returns-2 c = search (taken-end, work-left, one-field)
 
 pub begin-spec : {M : Type 1} → statement M
 begin-spec =

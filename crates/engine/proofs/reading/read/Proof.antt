@@ -1,6 +1,8 @@
 -- `read`: refused, or the state that the image gives. Assumes nothing.
 use native.Mathlib.Omega.{arith}
-use Rattle.engine.proofs.ReadLaws.{loads, read-refused, read-done}
+use Rattle.model.specs.Calls.{unlessRefused, readCall}
+use Rattle.model.proofs.Calls.{refused-end, taken-end, work-left}
+use Rattle.engine.proofs.Laws.{loads}
 use native.Mathlib.Omega.{arith}
 use borrow.Author.Needs.{needs}
 use Rattle.engine.proofs.reading.read.Statement.{statement}
@@ -16,12 +18,13 @@ same-length-2 : tie.Need-same-length-2
 same-length-2 c = search needs
 
 returns : tie.Need-returns
-returns c = search read-refused
+unfolding readCall unlessRefused
+returns c = search refused-end
 
 load-requires : tie.Need-load-requires
 load-requires c κs =
     let a = c .before .before .before .before .before .before .before .before .before .args in
-    loads (a .state .now) (a .tables .now) (a .image .now) (c .before .before .before .refusal .result)
+    loads _ _ (a .image .now)
     (λ a. omega (arith, c .before .before .before .before .before .before .shared-slice-known .given a)) (c .before .before .before .refusal .ensures)
     (c .before .before .if1 .left)
 
@@ -32,7 +35,8 @@ same-length-4 : tie.Need-same-length-4
 same-length-4 c = search needs
 
 returns-2 : tie.Need-returns-2
-returns-2 c = search read-done
+unfolding readCall
+returns-2 c = search (taken-end, work-left)
 
 pub read-spec : {M : Type 1} → statement M
 read-spec =

@@ -1,6 +1,8 @@
 -- `writing::write`: refused, or the image is written. Assumes nothing.
 use borrow.Author.Needs.{needs}
-use Rattle.engine.proofs.WriteLaws.{write-sound, write-fits, write-refused, write-done}
+use Rattle.model.specs.Calls.{unlessRefused, writeCall}
+use Rattle.model.proofs.Calls.{refused-end, taken-end, work-left}
+use Rattle.engine.proofs.Laws.{write-sound, write-fits, one-field}
 use Rattle.engine.proofs.writing.write.Statement.{statement}
 use Rattle.engine.proofs.writing.write.Tie as tie
 
@@ -11,16 +13,21 @@ same-length : tie.Need-same-length
 same-length c = search needs
 
 returns : tie.Need-returns
-returns c = search write-refused
+unfolding writeCall unlessRefused
+returns c = search refused-end
 
 write-requires : tie.Need-write-requires
-write-requires c κs = (search write-sound, search write-fits)
+write-requires c κs =
+    let e = c .before .before .refusal .ensures in
+    let z = c .before .if1 .left in
+    (write-sound _ _ _ e z, write-fits _ _ _ e z)
 
 same-length-2 : tie.Need-same-length-2
 same-length-2 c = search needs
 
 returns-2 : tie.Need-returns-2
-returns-2 c = search write-done
+unfolding writeCall
+returns-2 c = search (taken-end, work-left, one-field)
 
 pub write-spec : {M : Type 1} → statement M
 write-spec =

@@ -13,6 +13,12 @@ add-x c = search needs
 store-nodes-requires : tie.Need-store-nodes-requires
 store-nodes-requires c κs = search needs
 
+new-node-requires : tie.Need-new-node-requires
+new-node-requires c κs = search needs
+
+joining-node-requires : tie.Need-joining-node-requires
+joining-node-requires c κs = search needs
+
 store-requires : tie.Need-store-requires
 store-requires c κs = search needs
 
@@ -35,6 +41,8 @@ begin-spec =
     load-requires
     add-x
     store-nodes-requires
+    new-node-requires
+    joining-node-requires
     store-requires
     write-own-requires
     same-length

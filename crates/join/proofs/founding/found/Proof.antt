@@ -13,6 +13,9 @@ clear-requires-2 c κs = search needs
 store-requires : tie.Need-store-requires
 store-requires c κs = search needs
 
+new-node-requires : tie.Need-new-node-requires
+new-node-requires c κs = search needs
+
 store-requires-2 : tie.Need-store-requires-2
 store-requires-2 c κs = search needs
 
@@ -35,6 +38,7 @@ found-spec =
     clear-requires
     clear-requires-2
     store-requires
+    new-node-requires
     store-requires-2
     write-own-requires
     same-length

@@ -1,7 +1,7 @@
 -- `gather_place`: each return is one of the definition's tests that fails, the last that all hold. Assumes nothing.
 use native.Mathlib.Omega.{arith}
 use borrow.Author.Needs.{needs}
-use Rattle.model.proofs.Steps.{gather-empty, gather-own, gather-far, gather-told, gather-adds}
+use Rattle.model.proofs.Steps.{gather-empty, gather-own, gather-far, gather-notified, gather-adds}
 use Rattle.learning.proofs.gather.gather_place.Statement.{statement}
 use Rattle.learning.proofs.gather.gather_place.Tie as tie
 
@@ -34,7 +34,7 @@ has-requires c κs =
     record { first = u .first; last = u .last }
 
 returns-4 : tie.Need-returns-4
-returns-4 c = search gather-told
+returns-4 c = search gather-notified
 
 add-requires : tie.Need-add-requires
 add-requires c κs =

@@ -1,19 +1,19 @@
 -- `floor`: the status and the level of the record that was loaded. Assumes nothing.
 use Prim.Native.Nat.{ℕ}
-use mathlib.Core.Path.{_≡_}
+use mathlib.Core.Path.{_≡_, ap, _∙_}
 use mathlib.Core.Bool.{cond}
 use mathlib.Core.List.{List}
 use lib.Dec.{eqb}
 use borrow.Author.Needs.{needs}
-use Rattle.model.specs.Memory.{notifying}
+use Rattle.model.specs.Memory.{Node as Record, nodeOf, notifying}
 use Rattle.model.specs.Learning.{floorOf}
 use Rattle.state.specs.declared.record.Node.{Node}
-use Rattle.state.specs.Loaded.{NodeOf}
+use Rattle.state.specs.Loaded.{bookNode}
 use Rattle.learning.proofs.learn.floor.Statement.{statement}
 use Rattle.learning.proofs.learn.floor.Tie as tie
 
-floor-is : (s : List ℕ) (u r : ℕ) (n : Node) → NodeOf s u n → r ≡ cond (eqb (n .status) notifying) (n .level) 0 → r ≡ floorOf s u
-floor-is s u r n w e = cc
+floor-is : (s : List ℕ) (u r : ℕ) (n : Node) → bookNode n ≡ nodeOf s u → r ≡ cond (eqb (n .status) notifying) (n .level) 0 → r ≡ floorOf s u
+floor-is s u r n w e = e ∙ ap (λ (m : Record). cond (eqb (m .status) notifying) (m .level) 0) w
 
 load-requires : tie.Need-load-requires
 load-requires c κs = search needs

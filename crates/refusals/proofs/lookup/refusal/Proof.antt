@@ -1,7 +1,8 @@
 -- `refusal`: each return is a sentence of the chain. Assumes nothing.
 use borrow.Author.Needs.{needs}
-use Rattle.sentences.proofs.State.{state-long}
-use Rattle.refusals.proofs.LookupLaws.{lookup-state, lookup-from, lookup-to, lookup-none}
+use Rattle.model.specs.Refusals.{lookupRefusal}
+use Rattle.model.proofs.Refusals.{sentences, comparisons}
+use Rattle.refusals.proofs.State.{state-long, state-refused, state-later}
 use Rattle.refusals.proofs.lookup.refusal.Statement.{statement}
 use Rattle.refusals.proofs.lookup.refusal.Tie as tie
 
@@ -9,22 +10,26 @@ state-refusal-requires : tie.Need-state-refusal-requires
 state-refusal-requires c κs = search needs
 
 returns : tie.Need-returns
-returns c = search lookup-state
+unfolding lookupRefusal
+returns c = search state-refused
 
 is-node-requires : tie.Need-is-node-requires
-is-node-requires c κs = state-long _ _ _ (c .before .state-refusal .ensures) (c .if1 .left)
+is-node-requires c κs = state-long _ _ (c .before .state-refusal .ensures) (c .if1 .left)
 
 returns-2 : tie.Need-returns-2
-returns-2 c = search lookup-from
+unfolding lookupRefusal
+returns-2 c = search (state-later, sentences, comparisons)
 
 is-node-requires-2 : tie.Need-is-node-requires-2
-is-node-requires-2 c κs = state-long _ _ _ (c .before .before .before .state-refusal .ensures) (c .before .before .if1 .left)
+is-node-requires-2 c κs = state-long _ _ (c .before .before .before .state-refusal .ensures) (c .before .before .if1 .left)
 
 returns-3 : tie.Need-returns-3
-returns-3 c = search lookup-to
+unfolding lookupRefusal
+returns-3 c = search (state-later, sentences, comparisons)
 
 returns-4 : tie.Need-returns-4
-returns-4 c = search lookup-none
+unfolding lookupRefusal
+returns-4 c = search (state-later, sentences, comparisons)
 
 pub refusal-spec : {M : Type 1} → statement M
 refusal-spec =

@@ -1,6 +1,7 @@
 -- `refusal`: 1, or what the image itself decides. Assumes nothing.
-use Rattle.refusals.proofs.ReadLaws.{read-1, read-image}
 use borrow.Author.Needs.{needs}
+use Rattle.model.specs.Refusals.{imageRefusal, readRefusal}
+use Rattle.model.proofs.Refusals.{sentences}
 use Rattle.refusals.proofs.reading.refusal.Statement.{statement}
 use Rattle.refusals.proofs.reading.refusal.Tie as tie
 
@@ -8,13 +9,15 @@ short-requires : tie.Need-short-requires
 short-requires c κs = search needs
 
 returns : tie.Need-returns
-returns c = search read-1
+unfolding readRefusal
+returns c = search sentences
 
 refusal-requires : tie.Need-refusal-requires
 refusal-requires c κs = search needs
 
 returns-2 : tie.Need-returns-2
-returns-2 c = search read-image
+unfolding readRefusal imageRefusal
+returns-2 c = search sentences
 
 pub refusal-spec : {M : Type 1} → statement M
 refusal-spec = tie.close (tie.spec short-requires returns refusal-requires returns-2)

@@ -1,7 +1,8 @@
 -- `refusal`: each return is a sentence of the chain. Assumes nothing.
-use Rattle.sentences.proofs.State.{counted}
-use Rattle.refusals.proofs.VerdictLaws.{verdict-state, verdict-15, verdict-none}
 use borrow.Author.Needs.{needs}
+use Rattle.model.specs.Refusals.{verdictRefusal}
+use Rattle.model.proofs.Refusals.{sentences, comparisons}
+use Rattle.refusals.proofs.State.{counted, state-refused, state-later}
 use Rattle.refusals.proofs.verdict.refusal.Statement.{statement}
 use Rattle.refusals.proofs.verdict.refusal.Tie as tie
 
@@ -9,16 +10,19 @@ state-refusal-requires : tie.Need-state-refusal-requires
 state-refusal-requires c κs = search needs
 
 returns : tie.Need-returns
-returns c = search verdict-state
+unfolding verdictRefusal
+returns c = search state-refused
 
 all-in-system-requires : tie.Need-all-in-system-requires
-all-in-system-requires c κs = counted _ _ _ (c .before .state-refusal .ensures) (c .if1 .left)
+all-in-system-requires c κs = counted _ _ (c .before .state-refusal .ensures) (c .if1 .left)
 
 returns-2 : tie.Need-returns-2
-returns-2 c = search verdict-15
+unfolding verdictRefusal
+returns-2 c = search (state-later, sentences, comparisons)
 
 returns-3 : tie.Need-returns-3
-returns-3 c = search verdict-none
+unfolding verdictRefusal
+returns-3 c = search (state-later, sentences, comparisons)
 
 pub refusal-spec : {M : Type 1} → statement M
 refusal-spec =

@@ -1,8 +1,8 @@
 -- `writing::refusal`: each return is the first of the sentences that holds, the last that none does. Assumes nothing.
 use borrow.Author.Needs.{needs}
-use Rattle.sentences.proofs.State.{state-sound}
-use Rattle.sentences.proofs.State.{counted}
-use Rattle.refusals.proofs.WriteLaws.{write-state, write-15, write-16, write-none}
+use Rattle.model.specs.Refusals.{writeRefusal}
+use Rattle.model.proofs.Refusals.{sentences, comparisons}
+use Rattle.refusals.proofs.State.{state-sound, counted, state-refused, state-later}
 use Rattle.refusals.proofs.writing.refusal.Statement.{statement}
 use Rattle.refusals.proofs.writing.refusal.Tie as tie
 
@@ -10,22 +10,26 @@ state-refusal-requires : tie.Need-state-refusal-requires
 state-refusal-requires c κs = search needs
 
 returns : tie.Need-returns
-returns c = search write-state
+unfolding writeRefusal
+returns c = search state-refused
 
 all-in-system-requires : tie.Need-all-in-system-requires
-all-in-system-requires c κs = search counted
+all-in-system-requires c κs = counted _ _ (c .before .state-refusal .ensures) (c .if1 .left)
 
 returns-2 : tie.Need-returns-2
-returns-2 c = search write-15
+unfolding writeRefusal
+returns-2 c = search (state-later, sentences, comparisons)
 
 image-length-requires : tie.Need-image-length-requires
-image-length-requires c κs = search state-sound
+image-length-requires c κs = state-sound _ _ (c .before .before .before .state-refusal .ensures) (c .before .before .if1 .left)
 
 returns-3 : tie.Need-returns-3
-returns-3 c = search write-16
+unfolding writeRefusal
+returns-3 c = search (state-later, sentences, comparisons)
 
 returns-4 : tie.Need-returns-4
-returns-4 c = search write-none
+unfolding writeRefusal
+returns-4 c = search (state-later, sentences, comparisons)
 
 pub refusal-spec : {M : Type 1} → statement M
 refusal-spec =

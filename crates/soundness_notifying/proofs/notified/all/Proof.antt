@@ -23,7 +23,9 @@ add-one : tie.Need-add-one Inv-loop μ-loop
 add-one c = omega arith
 
 one-requires : tie.Need-one-requires Inv-loop μ-loop
-one-requires c κs = search needs
+one-requires c κs =
+    let p = c .before .before .before .before .pre in
+    (p .0, (p .1 .1, record { low = omega arith; high = omega arith }))
 
 returns : tie.Need-returns Inv-loop μ-loop
 returns c = search (needs, all-loop-to)

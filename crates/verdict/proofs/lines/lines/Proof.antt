@@ -1,6 +1,5 @@
 -- `lines`: the refusal of reading, or what the verdict answers. Assumes nothing.
-use native.Mathlib.Omega.{arith}
-use Rattle.verdict.proofs.Texts.{read-fits, lines-refused, judged-fits, lines-judged}
+use Rattle.verdict.proofs.Texts.{lines-refused, lines-judged}
 use native.Mathlib.Omega.{arith}
 use borrow.Author.Needs.{needs}
 use Rattle.verdict.proofs.lines.lines.Statement.{statement}
@@ -10,7 +9,7 @@ read-requires : tie.Need-read-requires
 read-requires c κs = search needs
 
 line-one-requires : tie.Need-line-one-requires
-line-one-requires c κs = (search needs, search read-fits)
+line-one-requires c κs = search needs
 
 same-length : tie.Need-same-length
 same-length c = search needs
@@ -28,7 +27,7 @@ verdict-requires : tie.Need-verdict-requires
 verdict-requires c κs = search needs
 
 judged-requires : tie.Need-judged-requires
-judged-requires c κs = (search needs, search judged-fits)
+judged-requires c κs = search needs
 
 same-length-4 : tie.Need-same-length-4
 same-length-4 c = search needs

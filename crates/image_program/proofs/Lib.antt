@@ -1,0 +1,3 @@
+-- The laws that every program over images cites.
+pub mod Printing
+pub mod Overlong

@@ -1,0 +1,2 @@
+-- What every program over images prints.
+pub mod Printed

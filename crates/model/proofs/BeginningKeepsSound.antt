@@ -1,0 +1,207 @@
+-- A taken beginning leaves a sound state: one node more, copying, with its own entries only. Assumes nothing.
+use Prim.Native.Nat.{ℕ, _+_, _*_, _≤_, _<_}
+use mathlib.Core.Path.{_≡_, refl, sym, ap, subst, subst₂, subst₃, _∙_}
+use mathlib.Core.Logic.{_≢_, _⊎_, inl, inr, ⊎-elim}
+use mathlib.Core.Bool.{true}
+use mathlib.Core.List.{List}
+use native.Mathlib.Nat.{eq-or-lt-of-le}
+use native.Mathlib.Omega.{arith}
+use lib.ListN.{length, getD, set, length-set}
+use lib.Seq.{getD-set-same, getD-set-other}
+use Rattle.model.specs.Ids.{validId}
+use Rattle.model.specs.Memory.{tablesLength, base, digits, depth, nodeCount, nodeOf, idOf, isInSystem, copying, tableStart, tableOf}
+use Rattle.model.specs.Tables.{ownTable}
+use Rattle.model.specs.Join.{newNode, joiningNode, begun}
+use Rattle.model.proofs.Memory.{same-id, node-same, node-length, node-stored, node-outside, stored-length, stored-outside, stored-same, stored-other}
+use Rattle.model.proofs.Status.{IsNode, RecordOk, StatusOk, is-copying, joins, attached-same, in-system-same}
+use Rattle.model.proofs.Ids.{InRange}
+use Rattle.model.proofs.Sound.{TableOk, Long, Sound, table-fits}
+use Rattle.model.proofs.Own.{own-long, own-table}
+use Rattle.model.proofs.Later.{Later, node-later, table-later, status-later}
+
+-- what the refusals of a beginning leave
+pub record CanBegin (s : List ℕ) (id gateway : ℕ) : Type 0 where
+  pub valid : validId (base s) (digits s) id ≡ true
+  pub new : (y : ℕ) → IsNode s y → idOf s y ≢ id
+  pub is-node : IsNode s gateway
+  pub settled : isInSystem s gateway ≡ true
+  pub room : nodeCount s < 64
+
+module _ (s t : List ℕ) (id gateway : ℕ) (S : Sound s t) (c : CanBegin s id gateway) where
+  s₀ : List ℕ
+  s₀ = set s 3 (nodeCount s + 1)
+
+  s₁ : List ℕ
+  s₁ = begun s t id gateway .state
+
+  t₁ : List ℕ
+  t₁ = begun s t id gateway .tables
+
+  fits : 8 * (nodeCount s + 1) + 6 ≤ length s₀
+  unfolding s₀
+  fits = omega (arith, length-set s 3 (nodeCount s + 1), S .long .state, c .room)
+
+  stored : nodeOf s₁ (nodeCount s + 1) ≡ joiningNode (newNode id) copying gateway
+  unfolding s₁ begun s₀
+  stored = node-stored s₀ (nodeCount s + 1) (joiningNode (newNode id) copying gateway) fits
+
+  -- every word but the count and the new record's is as it was
+  same : (p : ℕ) → p ≢ 3 → (p < 8 * (nodeCount s + 1)) ⊎ (8 * (nodeCount s + 1) + 6 ≤ p) → getD s₁ p 0 ≡ getD s p 0
+  unfolding s₁ begun s₀
+  same p ne h =
+      node-outside s₀ (nodeCount s + 1) (joiningNode (newNode id) copying gateway) fits p h
+      ∙ getD-set-other s 3 p (nodeCount s + 1) 0 ne
+
+  count : nodeCount s₁ ≡ nodeCount s + 1
+  unfolding s₁ begun s₀
+  count =
+      node-outside s₀ (nodeCount s + 1) (joiningNode (newNode id) copying gateway) fits 3 (inl (omega arith))
+      ∙ getD-set-same s 3 (nodeCount s + 1) 0 (omega (arith, S .long .state))
+
+  pub begun-count : nodeCount (begun s t id gateway .state) ≡ nodeCount s + 1
+  unfolding s₁
+  begun-count = count
+
+  -- a word of an earlier node's record is as it was
+  same-record : (y k : ℕ) → IsNode s y → k < 8 → getD s₁ (8 * y + k) 0 ≡ getD s (8 * y + k) 0
+  same-record y k n h =
+      let l : 1 ≤ y = n .low in
+      let g : y ≤ nodeCount s = n .high in
+      same (8 * y + k) (omega arith) (inl (omega arith))
+
+  pub begun-kept : (y : ℕ) → IsNode s y → nodeOf (begun s t id gateway .state) y ≡ nodeOf s y
+  unfolding s₁
+  begun-kept y n = node-same s s₁ y (λ k. same-record y k n)
+
+  pub begun-later : Later s (begun s t id gateway .state)
+  unfolding s₁
+  begun-later = record {
+    base = same 0 (omega arith) (inl (omega arith));
+    digits = same 1 (omega arith) (inl (omega arith));
+    depth = same 2 (omega arith) (inl (omega arith));
+    more = omega (arith, count);
+    ids = λ y n. same-id (begun-kept y n);
+    attached = λ y n e. attached-same s s₁ y (begun-kept y n) ∙ e;
+    in-system = λ y n e. in-system-same s s₁ y (begun-kept y n) ∙ e;
+  }
+
+  kept : (y : ℕ) → IsNode s y → nodeOf s₁ y ≡ nodeOf s y
+  unfolding s₁
+  kept = begun-kept
+
+  later : Later s s₁
+  unfolding s₁
+  later = begun-later
+
+  -- a node is the new one or an earlier one
+  which : (y : ℕ) → IsNode s₁ y → (y ≡ nodeCount s + 1) ⊎ IsNode s y
+  which y n =
+      ⊎-elim (λ e. inl e) (λ h. inr (record { low = n .low; high = omega (arith, h) }))
+      (eq-or-lt-of-le (omega (arith, count, n .high)))
+
+  range : InRange (base s₁) (digits s₁) (depth s₁)
+  range = subst₃ InRange (sym (later .base)) (sym (later .digits)) (sym (later .depth)) (S .settings)
+
+  valid : (y : ℕ) → IsNode s₁ y → validId (base s₁) (digits s₁) (idOf s₁ y) ≡ true
+  valid y n = ⊎-elim (λ e. with-id (ap (idOf s₁) e ∙ same-id stored) (c .valid)) (λ o. with-id (same-id (kept y o)) (S .ids y o)) (which y n)
+    where
+      with-id : {id : ℕ} → idOf s₁ y ≡ id → validId (base s) (digits s) id ≡ true → validId (base s₁) (digits s₁) (idOf s₁ y) ≡ true
+      with-id e =
+          subst₃ (λ (b d id : ℕ). validId b d id ≡ true) (sym (later .base)) (sym (later .digits)) (sym e)
+
+  distinct : (y z : ℕ) → IsNode s₁ y → 1 ≤ z → z < y → idOf s₁ z ≢ idOf s₁ y
+  distinct y z n l h e = ⊎-elim newest (λ o. S .new y z o l h (sym (same-id (kept z (record { low = l; high = omega (arith, o .high) }))) ∙ e ∙ same-id (kept y o))) (which y n)
+    where
+      newest : y ≡ nodeCount s + 1 → ⊥
+      newest q =
+          let o : IsNode s z = record { low = l; high = omega arith } in
+          c .new z o (sym (same-id (kept z o)) ∙ e ∙ ap (idOf s₁) q ∙ same-id stored)
+
+  is-new : IsNode s₁ (nodeCount s + 1)
+  is-new = record { low = omega arith; high = omega (arith, count) }
+
+  own-size : length (ownTable (digits s) id (nodeCount s + 1)) ≡ 512
+  own-size = own-long (digits s) id (nodeCount s + 1) (S .settings .digits-most)
+
+  new-fits : tableStart (nodeCount s + 1) + 512 ≤ length t
+  new-fits = omega (arith, S .long .tables, c .room)
+
+  -- an earlier node's table is as it was
+  pub begun-table : (y : ℕ) → IsNode s y → tableOf (begun s t id gateway .tables) y ≡ tableOf t y
+  unfolding begun
+  begun-table y o =
+      stored-other t (nodeCount s + 1) (ownTable (digits s) id (nodeCount s + 1)) own-size new-fits y (omega arith) (o .low)
+      (omega (arith, o .high)) (table-fits s t S y o)
+
+  table : (y : ℕ) → IsNode s₁ y → TableOk s₁ y (tableOf t₁ y)
+  unfolding t₁ begun
+  table y n = ⊎-elim newest (λ o. rw (begun-table y o) (table-later s s₁ later y (tableOf t y) o (S .tables y o))) (which y n)
+    where
+      newest : y ≡ nodeCount s + 1 → TableOk s₁ y (tableOf t₁ y)
+      newest e =
+          subst (λ (y : ℕ). TableOk s₁ y (tableOf t₁ y)) (sym e)
+          (rw (stored-same t (nodeCount s + 1) (ownTable (digits s) id (nodeCount s + 1)) own-size new-fits)
+          (subst₂ (λ (d id : ℕ). TableOk s₁ (nodeCount s + 1) (ownTable d id (nodeCount s + 1))) (later .digits) (same-id stored)
+          (own-table s₁ (nodeCount s + 1) range is-new (valid (nodeCount s + 1) is-new) .rules)))
+
+  status : (y : ℕ) → IsNode s₁ y → StatusOk s₁ y
+  status y n = ⊎-elim newest (λ o. status-later s s₁ later y o (kept y o) (S .statuses y o)) (which y n)
+    where
+      newest : y ≡ nodeCount s + 1 → StatusOk s₁ y
+      newest e =
+          subst (StatusOk s₁) (sym e)
+          (subst (RecordOk s₁ (nodeCount s + 1)) (sym stored)
+          (is-copying refl
+          (record {
+            is-node = node-later s s₁ later gateway (c .is-node);
+            settled = later .in-system gateway (c .is-node) (c .settled);
+            rest = joins (newNode id) copying gateway;
+          })))
+
+  spare : (y : ℕ) → IsNode s₁ y → (k : ℕ) → 6 ≤ k → k < 8 → getD s₁ (8 * y + k) 0 ≡ 0
+  spare y n k l h = ⊎-elim newest (λ o. same-record y k o h ∙ S .spare y o k l h) (which y n)
+    where
+      newest : y ≡ nodeCount s + 1 → getD s₁ (8 * y + k) 0 ≡ 0
+      newest e =
+          same (8 * y + k) (omega arith) (inr (omega arith)) ∙ S .rest (8 * y + k) (omega arith) (omega (arith, c .room))
+
+  long : Long s₁ t₁
+  unfolding s₁ t₁ begun s₀
+  long = record {
+    state =
+        omega (
+          arith,
+          node-length s₀ (nodeCount s + 1) (joiningNode (newNode id) copying gateway) fits,
+          length-set s 3 (nodeCount s + 1),
+          S .long .state,
+        );
+    tables =
+        omega (
+          arith,
+          stored-length t (nodeCount s + 1) (ownTable (digits s) id (nodeCount s + 1)) own-size new-fits,
+          S .long .tables,
+        );
+  }
+
+  tables-zero : (p : ℕ) → 512 * nodeCount s₁ ≤ p → p < tablesLength → getD t₁ p 0 ≡ 0
+  unfolding t₁ begun
+  tables-zero p l h =
+      stored-outside t (nodeCount s + 1) (ownTable (digits s) id (nodeCount s + 1)) own-size new-fits p (inr (omega (arith, count)))
+      ∙ S .tables-rest p (omega (arith, count)) h
+
+  pub begun-ok : Sound (begun s t id gateway .state) (begun s t id gateway .tables)
+  unfolding s₁ t₁
+  begun-ok = record {
+    long = long;
+    settings = range;
+    some = omega (arith, count);
+    few = omega (arith, count, c .room);
+    ids = valid;
+    new = distinct;
+    tables = table;
+    statuses = status;
+    spare = spare;
+    head = λ p l h. same p (omega arith) (inl (omega arith)) ∙ S .head p l h;
+    rest = λ p l h. same p (omega (arith, l)) (inr (omega (arith, count, l))) ∙ S .rest p (omega (arith, count, l)) h;
+    tables-rest = tables-zero;
+  }

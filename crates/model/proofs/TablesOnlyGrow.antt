@@ -1,0 +1,136 @@
+-- Every taken call leads to a later state in which each table has only gained nodes. Assumes nothing.
+use Prim.Native.Nat.{ℕ, _+_, _*_, _≤_}
+use mathlib.Core.Path.{_≡_, refl, _∙_}
+use mathlib.Core.Bool.{true, false}
+use mathlib.Core.List.{List}
+use native.Mathlib.Nat.{le-trans}
+use native.Mathlib.Omega.{arith}
+use lib.ListN.{length}
+use Rattle.model.specs.Memory.{nodeCount, Node, nodeOf, idOf, isAttached, isInSystem, withNode, tableOf}
+use Rattle.model.specs.Join.{Delivery, notifyingNode, begun, delivery, delivered}
+use Rattle.model.proofs.Bools.{back-false, not-both}
+use Rattle.model.proofs.Memory.{same-id, node-stored, table-length}
+use Rattle.model.proofs.Tables.{Grows, grows-refl, grows-trans}
+use Rattle.model.proofs.Learning.{learn-grows, learn-table-grows}
+use Rattle.model.proofs.Status.{IsNode, attached-in-system, waiting-away, notifying-out}
+use Rattle.model.proofs.Settling.{settle-id, settle-attached}
+use Rattle.model.proofs.Sound.{Sound, node-fits, table-fits}
+use Rattle.model.proofs.Later.{Later, later-refl, node-later}
+use Rattle.model.proofs.Replaced.{agree-node, agree-count, agree-later, replaced-table}
+use Rattle.model.proofs.BeginningKeepsSound.{CanBegin, begun-later, begun-table}
+use Rattle.model.proofs.Sender.{CanDeliver}
+use Rattle.model.proofs.DeliveryDid.{Tells, Did, did-ask, did-attach, did-notify, delivery-did}
+
+-- the memory after is a later one of the same network
+pub record Onward (s t s′ t′ : List ℕ) : Type 0 where
+  pub later : Later s s′
+  pub grows : (x : ℕ) → IsNode s x → Grows (tableOf t x) (tableOf t′ x)
+
+pub onward-refl : (s t : List ℕ) → Onward s t s t
+onward-refl s t = record { later = later-refl s; grows = λ x n. grows-refl (tableOf t x) }
+
+pub onward-trans : {s t s′ t′ s″ t″ : List ℕ} → Onward s t s′ t′ → Onward s′ t′ s″ t″ → Onward s t s″ t″
+onward-trans {s} {t} {s′} {t′} {s″} f g =
+    let l : Later s s′ = f .later in
+    let m : Later s′ s″ = g .later in
+    record {
+      later = record {
+        base = m .base ∙ l .base;
+        digits = m .digits ∙ l .digits;
+        depth = m .depth ∙ l .depth;
+        more = le-trans (l .more) (m .more);
+        ids = λ x n. m .ids x (node-later s s′ l x n) ∙ l .ids x n;
+        attached = λ x n e. m .attached x (node-later s s′ l x n) (l .attached x n e);
+        in-system = λ x n e. m .in-system x (node-later s s′ l x n) (l .in-system x n e);
+      };
+      grows = λ x n. grows-trans (f .grows x n) (g .grows x (node-later s s′ l x n));
+    }
+
+-- ---- a beginning
+
+pub begun-onward : (s t : List ℕ) (id gateway : ℕ) → Sound s t → CanBegin s id gateway
+    → Onward s t (begun s t id gateway .state) (begun s t id gateway .tables)
+begun-onward s t id gateway S c = record {
+  later = begun-later s t id gateway S c;
+  grows = λ z n. rw (begun-table s t id gateway S c z n) (grows-refl (tableOf t z));
+}
+
+-- ---- a delivery
+
+module _ (s t : List ℕ) (S : Sound s t) (x y : ℕ) (c : CanDeliver s x y) where
+  abbrev nx : IsNode s x
+  nx = c .sender
+
+  abbrev ny : IsNode s y
+  ny = c .receiver
+
+  abbrev d : Delivery
+  d = delivery s t x y
+
+  -- what it does to the sender and to the two tables
+  record Does : Type 0 where
+    id : d .sender .id ≡ idOf s x
+    out : isInSystem s x ≡ false
+    attached : (s′ : List ℕ) → nodeOf s′ x ≡ d .sender → isAttached s x ≡ true → isAttached s′ x ≡ true
+    own : Grows (tableOf t x) (d .senderTable)
+    their : Grows (tableOf t y) (d .receiverTable)
+
+  told : (s′ seen : List ℕ) (k pending notified : ℕ) → isInSystem s x ≡ false → Tells s t x y d s′ seen k pending notified → Does
+  told s′ seen k pending notified out w =
+      let full : Node = notifyingNode (nodeOf s x) k pending notified in
+      record {
+        id = same-id (w .sender) ∙ settle-id full refl;
+        out = out;
+        attached = λ s₁ e q. settle-attached full refl s₁ x (e ∙ w .sender);
+        own = rw (w .own) (learn-table-grows s′ x seen (tableOf t x));
+        their = rw (w .theirs) (learn-grows s′ y x (tableOf t y));
+      }
+
+  does : Does
+  does = go (delivery-did s t S x y c)
+    where
+      away-out : isAttached s x ≡ false → isInSystem s x ≡ false
+      away-out = back-false (isInSystem s x) (isAttached s x) (attached-in-system s x)
+
+      go : Did s t x y d → Does
+      go (did-ask w) =
+          record {
+            id = same-id (w .sender);
+            out = away-out (w .away);
+            attached = λ s′ e q. absurd (not-both (isAttached s x) q (w .away));
+            own = rw (w .own) (learn-table-grows s x (tableOf t y) (tableOf t x));
+            their = rw (w .theirs) (grows-refl (tableOf t y));
+          }
+      go (did-attach w) = told _ _ _ _ _ (away-out (waiting-away s x (w .status))) (w .tells)
+      go (did-notify w) = told _ _ _ _ _ (notifying-out s x (w .status)) (w .tells)
+
+  fits : 8 * x + 6 ≤ length s
+  fits = node-fits s t S x nx
+
+  -- the sender keeps its id
+  pub delivered-id : delivery s t x y .sender .id ≡ idOf s x
+  delivered-id = does .id
+
+  -- and was not in the system
+  pub sender-out : isInSystem s x ≡ false
+  sender-out = does .out
+
+  pub delivered-count : nodeCount (delivered s t x y (delivery s t x y) .state) ≡ nodeCount s
+  unfolding delivered
+  delivered-count = agree-count x s (withNode s x (d .sender)) (agree-node s x fits (d .sender) (does .id)) (nx .low)
+
+  pub delivered-later : Later s (withNode s x (delivery s t x y .sender))
+  delivered-later =
+      agree-later x s (withNode s x (d .sender)) (agree-node s x fits (d .sender) (does .id)) (nx .low)
+      (does .attached (withNode s x (d .sender)) (node-stored s x (d .sender) fits))
+      (λ q. absurd (not-both (isInSystem s x) q (does .out)))
+
+  pub delivered-onward : Onward s t (delivered s t x y (delivery s t x y) .state) (delivered s t x y (delivery s t x y) .tables)
+  unfolding delivered
+  delivered-onward = record {
+    later = delivered-later;
+    grows =
+        replaced-table s t S x y nx ny (d .senderTable) (d .receiverTable) (does .own .long ∙ table-length t x (table-fits s t S x nx))
+        (does .their .long ∙ table-length t y (table-fits s t S y ny)) (λ z T. Grows (tableOf t z) T) (does .own) (does .their)
+        (λ z n. grows-refl (tableOf t z));
+  }

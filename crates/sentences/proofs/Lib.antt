@@ -1,2 +1,0 @@
--- The laws by which the sentences meet the book.
-pub mod State

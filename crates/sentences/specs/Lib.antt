@@ -1,2 +1,0 @@
--- What the contracts of the sentences cite.
-pub mod Counted

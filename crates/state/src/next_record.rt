@@ -1,0 +1,72 @@
+// The records that a step gives a node, each from its record before: what a step does not name stays.
+ghost use mathlib.Core.Path.{_≡_};
+ghost use Rattle.model.specs.Memory.{notifying};
+ghost use Rattle.model.specs.Join as join;
+ghost use Rattle.state.specs.Loaded.{bookNode};
+use crate::record::Node;
+use crate::sets;
+use crate::status::Status;
+
+// A new node, at rest.
+pub fn new_node(id: u32) -> Node
+    ensures { λ n. ⌜ bookNode n ≡ join.newNode id ⌝ }
+{
+    Node {
+        id: id as u64,
+        status: Status::IN_SYSTEM,
+        level: 0,
+        target: 0,
+        pending: sets::EMPTY,
+        notified: sets::EMPTY,
+    }
+}
+
+// One at rest.
+fn in_system_node(r: Node) -> Node
+    ensures { λ n. ⌜ bookNode n ≡ join.inSystemNode (bookNode r) ⌝ }
+{
+    let mut n = r;
+    n.status = Status::IN_SYSTEM;
+    n.level = 0;
+    n.target = 0;
+    n.pending = sets::EMPTY;
+    n.notified = sets::EMPTY;
+    n
+}
+
+// One that copies or waits, by its status and target.
+pub fn joining_node(r: Node, status: u64, target: usize) -> Node
+    ensures { λ n. ⌜ bookNode n ≡ join.joiningNode (bookNode r) status target ⌝ }
+{
+    let mut n = r;
+    n.status = status;
+    n.level = 0;
+    n.target = target as u64;
+    n.pending = sets::EMPTY;
+    n.notified = sets::EMPTY;
+    n
+}
+
+// One that notifies.
+pub fn notifying_node(r: Node, level: u64, pending: u64, notified: u64) -> Node
+    ensures { λ n. ⌜ bookNode n ≡ join.notifyingNode (bookNode r) level pending notified ⌝ }
+{
+    let mut n = r;
+    n.status = Status::NOTIFYING;
+    n.level = level;
+    n.target = 0;
+    n.pending = pending;
+    n.notified = notified;
+    n
+}
+
+// "A notifying member whose asked set is empty settles in the same step: attach level, target and both sets become zero."
+pub fn settle(r: Node) -> Node
+    requires { ⌜ r .status ≡ notifying ⌝ }
+    ensures { λ n. ⌜ bookNode n ≡ join.settle (bookNode r) ⌝ }
+{
+    if sets::is_empty(r.pending) {
+        return in_system_node(r);
+    }
+    r
+}
