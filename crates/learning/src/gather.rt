@@ -9,29 +9,29 @@ use state::sets;
 // The set with the node at place p, if it is one of them.
 fn gather_place(
     state: &[u64],
-    owner: Learner,
+    learner: Learner,
     level: usize,
-    told: u64,
+    notified: u64,
     table: &[u8],
     p: usize,
     nodes: u64,
 ) -> u64
-    requires { ⌜ LearnerOf (now state) owner ⌝ }
+    requires { ⌜ LearnerOf (now state) learner ⌝ }
     requires { ⌜ TableReadable (now state) (now table) ⌝ }
     requires { ⌜ p < 512 ⌝ }
-    ensures { λ r. ⌜ r ≡ join.gatherPlace (now (state .entry)) (owner .number) level told (now (table .entry)) p nodes ⌝ }
+    ensures { λ r. ⌜ r ≡ join.gatherPlace (now (state .entry)) (learner .number) level notified (now (table .entry)) p nodes ⌝ }
 {
     let u = table[p] as usize;
     if u == 0 {
         return nodes;
     }
-    if u == owner.number {
+    if u == learner.number {
         return nodes;
     }
-    if owner.suffix(state, u) < level {
+    if learner.suffix(state, u) < level {
         return nodes;
     }
-    if sets::has(told, u) {
+    if sets::has(notified, u) {
         return nodes;
     }
     sets::add(nodes, u)
@@ -40,20 +40,20 @@ fn gather_place(
 // The set with every one of them in the table.
 pub fn gather(
     state: &[u64],
-    owner: Learner,
+    learner: Learner,
     level: usize,
-    told: u64,
+    notified: u64,
     table: &[u8],
     nodes: u64,
 ) -> u64
-    requires { ⌜ LearnerOf (now state) owner ⌝ }
+    requires { ⌜ LearnerOf (now state) learner ⌝ }
     requires { ⌜ TableReadable (now state) (now table) ⌝ }
-    ensures { λ r. ⌜ r ≡ join.gather (now (state .entry)) (owner .number) level told (now (table .entry)) nodes ⌝ }
+    ensures { λ r. ⌜ r ≡ join.gather (now (state .entry)) (learner .number) level notified (now (table .entry)) nodes ⌝ }
 {
     let mut gathered = nodes;
     let mut p = 0;
     while p < 512 {
-        gathered = gather_place(state, owner, level, told, table, p, gathered);
+        gathered = gather_place(state, learner, level, notified, table, p, gathered);
         p += 1;
     }
     gathered

@@ -42,7 +42,7 @@ pub data Asking (s : List ℕ) (x y status target kind : ℕ) : Type 0 where
 -- x learns y's table and stays copying or waiting; the target is another, attached node
 pub record AsksOn (s t : List ℕ) (x y : ℕ) (d : Delivery) : Type 0 where
   pub away : isAttached s x ≡ false
-  pub asked : targetOf s x ≡ y
+  pub requested : targetOf s x ≡ y
   pub status : ℕ
   pub target : ℕ
   pub sender : d .sender ≡ joiningNode (nodeOf s x) status target
@@ -80,7 +80,7 @@ pendingAt s t x y =
 
 pub record Attaches (s t : List ℕ) (x y : ℕ) (d : Delivery) : Type 0 where
   pub status : statusOf s x ≡ waiting
-  pub asked : targetOf s x ≡ y
+  pub requested : targetOf s x ≡ y
   pub settled : isInSystem s y ≡ true
   pub room : roomAtSuffix s (tableOf t y) x y ≡ true
   pub low : levelAt s t x y ≤ suffixOf s x y
@@ -148,10 +148,10 @@ module _ (s t : List ℕ) (S : Sound s t) (x y : ℕ) (nx : IsNode s x) (ny : Is
       → d .sender ≡ joiningNode (nodeOf s x) status target → d .senderTable ≡ learnTable s x (tableOf t y) (tableOf t x)
       → d .receiverTable ≡ tableOf t y → d .level ≡ 0 → IsNode s target → isAttached s target ≡ true
       → Asking s x y status target (d .kind) → Did s t x y d
-  asking d status target away asked e f g l n a h =
+  asking d status target away requested e f g l n a h =
       did-ask record {
         away = away;
-        asked = asked;
+        requested = requested;
         status = status;
         target = target;
         sender = e;
@@ -197,7 +197,7 @@ module _ (s t : List ℕ) (S : Sound s t) (x y : ℕ) (nx : IsNode s x) (ny : Is
           → Did s t x y (cond a (deliverAttached s x y (tableOf t x) (tableOf t y)) (deliverSentOn s x y (tableOf t x) (tableOf t y)))
       go true p = did-attach record {
         status = e;
-        asked = g;
+        requested = g;
         settled = i;
         room = p;
         low = level-low s (tableOf t y) x (suffixOf s x y) p;
@@ -210,10 +210,10 @@ module _ (s t : List ℕ) (S : Sound s t) (x y : ℕ) (nx : IsNode s x) (ny : Is
           asking (deliverSentOn s x y (tableOf t x) (tableOf t y)) waiting next (waiting-away s x e) g refl refl refl refl (f .0) (f .1)
           (waits-on e refl refl (f .2))
 
-  told : statusOf s x ≡ notifying → hasNode (pendingOf s x) y ≡ true → NotifyingOk s x (nodeOf s x)
+  notifying-did : statusOf s x ≡ notifying → hasNode (pendingOf s x) y ≡ true → NotifyingOk s x (nodeOf s x)
       → Did s t x y (deliverNotifying s x y (tableOf t x) (tableOf t y))
   unfolding deliverNotifying
-  told e h o =
+  notifying-did e h o =
       did-notify record {
         status = e;
         pending = h;
@@ -237,7 +237,7 @@ module _ (s t : List ℕ) (S : Sound s t) (x y : ℕ) (nx : IsNode s x) (ny : Is
   did : Sending s x y → Did s t x y (delivery s t x y)
   did (copies e g o) = subst (Did s t x y) (sym (delivery-is copying e)) (copied e g)
   did (waits e g i o) = subst (Did s t x y) (sym (delivery-is waiting e)) (waited e g i)
-  did (notifies e h o) = subst (Did s t x y) (sym (delivery-is notifying e)) (told e h o)
+  did (notifies e h o) = subst (Did s t x y) (sym (delivery-is notifying e)) (notifying-did e h o)
 
 module _ (s t : List ℕ) (S : Sound s t) (x y : ℕ) (c : CanDeliver s x y) where
   pub to-receiver : Receiver s x y

@@ -7,9 +7,8 @@ use native.Mathlib.Omega.{arith}
 use lib.Dec.{eqb}
 use lib.ListN.{replicate}
 use Rattle.model.specs.Loops.{firstBelow, node}
-use Rattle.model.specs.Memory.{Memory, base, digits, nodeCount, statusOf, inSystem, copying, waiting, tableOf}
-use Rattle.model.specs.Nodes.{suffixOf}
-use Rattle.model.specs.Join.{Delivery, roomAtSuffix, attachLevel, deliverCopying, deliverSentOn, deliverAttached, deliverWaiting, deliverNotifying, delivery}
+use Rattle.model.specs.Memory.{Memory, base, digits, nodeCount, inSystem}
+use Rattle.model.specs.Join.{delivery}
 use Rattle.model.specs.Lookup.{lookup}
 use Rattle.model.specs.Consistency.{consistent, nodeShort, levelShort, entryShort, firstShort, verdict}
 use Rattle.model.specs.Refusals.{Sentence, firstTrue, beginRefusal, deliverRefusal, lookupRefusal, verdictRefusal, readRefusal}
@@ -17,9 +16,9 @@ use Rattle.model.specs.Calls.{Outcome, refusedAt, refused, taken, unless
 use Rattle.model.proofs.Refusals.{numbered, first-below}
 use Rattle.model.proofs.Calls.{either-end}
 use Rattle.model.proofs.Loops.{first-le}
-use Rattle.model.proofs.Ids.{suffix-le}
 use Rattle.model.proofs.Status.{IsNode}
 use Rattle.model.proofs.Sound.{Sound}
+use Rattle.model.proofs.DeliveryDid.{delivery-small}
 use Rattle.model.proofs.Lookup.{arrives-is, loses-is, lookup-hop, hops-bound, walk}
 use Rattle.model.proofs.Taken.{begin-taken, deliver-taken, lookup-taken, verdict-taken}
 
@@ -52,37 +51,14 @@ unfolding Bytes beginRefusal beginCall taken numbered
 begin-bytes m id g =
     bytes-unless m [] _ 1 _ refl (λ z. let c = begin-taken m id g z in (omega arith, (omega (arith, c .1 .room), _)))
 
-attach-below : (s T : List ℕ) (x y : ℕ) → digits s ≤ 8 → attachLevel s T x (suffixOf s x y) < 256
-unfolding attachLevel
-attach-below s T x y h =
-    let a : attachLevel s T x (suffixOf s x y) ≤ suc (suffixOf s x y) = first-le (suc (suffixOf s x y)) _ in
-    let b : suffixOf s x y ≤ digits s = suffix-le (digits s) _ _ in
-    omega arith
-
-delivery-bytes : (s t : List ℕ) (x y : ℕ) → digits s ≤ 8 → Bytes (deliveryFields (delivery s t x y))
-unfolding Bytes delivery deliverCopying deliverWaiting deliverAttached deliverSentOn deliverNotifying
-delivery-bytes s t x y h = go (eqb (statusOf s x) copying) (eqb (statusOf s x) waiting) (roomAtSuffix s (tableOf t y) x y)
-  where
-    level : attachLevel s (tableOf t y) x (suffixOf s x y) < 256
-    level = attach-below s (tableOf t y) x y h
-
-    fit : (d : Delivery) → d .kind < 256 → d .level < 256 → Bytes (deliveryFields d)
-    fit d h g = (h, (g, (bit-below (eqb (d .sender .status) inSystem), _)))
-
-    go : (a b c : Bool)
-        → Bytes (deliveryFields (cond a (deliverCopying s x y (tableOf t x) (tableOf t y))
-        (cond b (cond c (deliverAttached s x y (tableOf t x) (tableOf t y)) (deliverSentOn s x y (tableOf t x) (tableOf t y)))
-        (deliverNotifying s x y (tableOf t x) (tableOf t y)))))
-    go true b c = fit (deliverCopying s x y (tableOf t x) (tableOf t y)) (omega arith) (omega arith)
-    go false true true = fit (deliverAttached s x y (tableOf t x) (tableOf t y)) (omega arith) level
-    go false true false = fit (deliverSentOn s x y (tableOf t x) (tableOf t y)) (omega arith) (omega arith)
-    go false false c = fit (deliverNotifying s x y (tableOf t x) (tableOf t y)) (omega arith) (omega arith)
-
 pub deliver-bytes : (m : Memory) (x y : ℕ) → Bytes (deliverCall m x y .answer)
 unfolding Bytes deliverRefusal deliverCall taken numbered
 deliver-bytes m x y =
     bytes-unless m [] _ 3 _ refl
-    (λ z. (omega arith, delivery-bytes (m .state) (m .tables) x y (deliver-taken m x y z .0 .settings .digits-most)))
+    (λ z.
+    let c = deliver-taken m x y z in
+    let d = delivery-small (m .state) (m .tables) (c .0) x y (c .1) in
+    (omega arith, (d .0, (d .1, (bit-below (eqb (delivery (m .state) (m .tables) x y .sender .status) inSystem), _)))))
 
 -- a lookup arrives or not, and ends at a node
 ends : (s t : List ℕ) → Sound s t → (z : ℕ) → IsNode s z → (u : ℕ) → IsNode s u

@@ -96,19 +96,19 @@ module _ (s t : List ℕ) (S : Sound s t) (x y : ℕ) (c : CanDeliver s x y) (s�
     mine : OwnTable s′ x (learnTable s′ x seen (tableOf t x))
     mine = learned-table s t S s′ l same-count x nx y (l .attached y ny (r .attached)) seen o
 
-    -- and tells y; `told` and `rest` are its sets before that
-    module _ (k told rest : ℕ) (level : k < digits s) (told-within : told < 2 ^ nodeCount s) (rest-within : rest < 2 ^ nodeCount s)
-        (done : (u : ℕ) → IsNode s u → hasNode told u ≡ true → NotifiedOk s x u)
-        (due : (u : ℕ) → IsNode s u → hasNode rest u ≡ true → PendingOk s x k (addNode told y) u)
-        (w : Tells s t x y (delivery s t x y) s′ seen k (gather s x k (addNode told y) Ty′ rest) (addNode told y)) where
+    -- and tells y; `before` and `rest` are its sets before that
+    module _ (k before rest : ℕ) (level : k < digits s) (before-within : before < 2 ^ nodeCount s) (rest-within : rest < 2 ^ nodeCount s)
+        (done : (u : ℕ) → IsNode s u → hasNode before u ≡ true → NotifiedOk s x u)
+        (due : (u : ℕ) → IsNode s u → hasNode rest u ≡ true → PendingOk s x k (addNode before y) u)
+        (w : Tells s t x y (delivery s t x y) s′ seen k (gather s x k (addNode before y) Ty′ rest) (addNode before y)) where
       abbrev d : Delivery
       d = delivery s t x y
 
       abbrev pending : ℕ
-      pending = gather s x k (addNode told y) Ty′ rest
+      pending = gather s x k (addNode before y) Ty′ rest
 
       abbrev full : Node
-      full = notifyingNode (nodeOf s x) k pending (addNode told y)
+      full = notifyingNode (nodeOf s x) k pending (addNode before y)
 
       abbrev s₁ : List ℕ
       s₁ = withNode s x (d .sender)
@@ -133,21 +133,21 @@ module _ (s t : List ℕ) (S : Sound s t) (x y : ℕ) (c : CanDeliver s x y) (s�
         target = refl;
         level = level;
         some = p;
-        pending-within = gather-within s x k (addNode told y) Ty′ rest (nodeCount s) rest-within (stands-within s x nx s′ a ranged y Ty′ theirs);
-        notified-within = add-within told (nodeCount s) y told-within (ny .low) (ny .high);
+        pending-within = gather-within s x k (addNode before y) Ty′ rest (nodeCount s) rest-within (stands-within s x nx s′ a ranged y Ty′ theirs);
+        notified-within = add-within before (nodeCount s) y before-within (ny .low) (ny .high);
         pending =
             λ u n h.
-            ⊎-elim (due u n) (gathered-due s x nx s′ a ranged y Ty′ theirs (inr (r .attached)) k (addNode told y) u)
-            (gather-has s x k (addNode told y) Ty′ rest u (n .low) h);
+            ⊎-elim (due u n) (gathered-due s x nx s′ a ranged y Ty′ theirs (inr (r .attached)) k (addNode before y) u)
+            (gather-has s x k (addNode before y) Ty′ rest u (n .low) h);
         notified =
             λ u n h.
             ⊎-elim (λ e. record { attached = ap (isAttached s) e ∙ r .attached; other = λ q. r .other (sym e ∙ q) }) (done u n)
-            (has-add told y u (ny .low) (n .low) h);
+            (has-add before y u (ny .low) (n .low) h);
       })
 
-      told-ok : Sound (delivered s t x y d .state) (delivered s t x y d .tables)
+      tells-ok : Sound (delivered s t x y d .state) (delivered s t x y d .tables)
       unfolding delivered
-      told-ok =
+      tells-ok =
           subst₂ (λ (Tx Ty : List ℕ). Sound s₁ (withTable (withTable t y Ty) x Tx)) (sym (w .own)) (sym (w .theirs))
           (replaced-ok s t x y (d .sender) (learnTable s′ x seen (tableOf t x)) Ty′ S nx ny (delivered-id s t S x y c) l₁
           (own-later s′ s₁ l₂ x (learnTable s′ x seen (tableOf t x)) (node-later s s′ l x nx) mine)
@@ -159,7 +159,7 @@ module _ (s t : List ℕ) (S : Sound s t) (x y : ℕ) (c : CanDeliver s x y) whe
   pub attaches-ok : Attaches s t x y (delivery s t x y)
       → Sound (delivered s t x y (delivery s t x y) .state) (delivered s t x y (delivery s t x y) .tables)
   attaches-ok w =
-      told-ok s t S x y c s′ a status′ (tableOf t y) seen k 0 (ownAt s t x y)
+      tells-ok s t S x y c s′ a status′ (tableOf t y) seen k 0 (ownAt s t x y)
       (omega (arith, w .low, suffix-below s t S x y (c .sender) (c .receiver) (to-receiver s t S x y c .other))) (pow-pos (nodeCount s))
       (gather-within s x k (addNode 0 y) Tx′ 0 (nodeCount s) (pow-pos (nodeCount s)) (stands-within s x (c .sender) s′ a range′ x Tx′ own′))
       (λ u n h. absurd (none u h))
@@ -200,7 +200,7 @@ module _ (s t : List ℕ) (S : Sound s t) (x y : ℕ) (c : CanDeliver s x y) whe
   pub notifies-ok : Notifies s t x y (delivery s t x y)
       → Sound (delivered s t x y (delivery s t x y) .state) (delivered s t x y (delivery s t x y) .tables)
   notifies-ok w =
-      told-ok s t S x y c s a (w .status) (learn s y x (tableOf t y)) (theirs s t S x y c s a (w .status)) (levelOf s x) (notifiedOf s x)
+      tells-ok s t S x y c s a (w .status) (learn s y x (tableOf t y)) (theirs s t S x y c s a (w .status)) (levelOf s x) (notifiedOf s x)
       (removeNode (pendingOf s x) y) (o .level) (o .notified-within) (omega (arith, remove-le (pendingOf s x) y, o .pending-within))
       (o .notified) still-due (w .tells)
     where

@@ -102,7 +102,7 @@ module _ (s t : List ℕ) (S : Sound s t) (x y : ℕ) (c : CanDeliver s x y) whe
         → Rises s x d
     rises was now e q h =
         let before : limit s x ≡ limitOf (digits s) was (suffixOf s x y) =
-        limit-at s x was e ∙ ap (λ (z : ℕ). limitOf (digits s) was (suffixOf s x z)) (w .asked) in
+        limit-at s x was e ∙ ap (λ (z : ℕ). limitOf (digits s) was (suffixOf s x z)) (w .requested) in
         let after : limit (withNode s x (d .sender)) x ≡ limitOf (digits s) now near =
         ap (λ (n : Node). limit (withNode s x n) x) (w .sender)
         ∙ limit-node s t S x (c .sender) (joiningNode (nodeOf s x) (w .status) (w .target)) refl

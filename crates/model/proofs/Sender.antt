@@ -18,7 +18,7 @@ use Rattle.model.proofs.Sound.{Sound}
 pub record CanDeliver (s : List ℕ) (x y : ℕ) : Type 0 where
   pub sender : IsNode s x
   pub receiver : IsNode s y
-  pub asked : outstanding s x y ≡ true
+  pub requested : outstanding s x y ≡ true
   pub free : waitHeld s x y ≡ false
 
 -- x's request to y, by x's status
@@ -70,4 +70,4 @@ module _ (s : List ℕ) (x y : ℕ) where
       record { attached = r .attached; other = r .other }
 
 pub sends : (s t : List ℕ) → Sound s t → (x y : ℕ) → CanDeliver s x y → Sending s x y
-sends s t S x y c = sending s x y (S .statuses x (c .sender)) (c .asked) (c .free)
+sends s t S x y c = sending s x y (S .statuses x (c .sender)) (c .requested) (c .free)

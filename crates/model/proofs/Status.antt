@@ -162,18 +162,18 @@ module _ (s : List ℕ) (x : ℕ) where
   waiting-of r =
       and-intro _ _ (is-node-of s (targetOf s x) (r .is-node)) (and-intro _ _ (r .attached) (joining-of (r .rest)))
 
-  -- a test that is asked only of the nodes of a set
-  asked : (a b : Bool) → (not a || b) ≡ true → a ≡ true → b ≡ true
-  asked a b e q = or-right (not a) b e (ap not q)
+  -- a test that is implied only of the nodes of a set
+  implied : (a b : Bool) → (not a || b) ≡ true → a ≡ true → b ≡ true
+  implied a b e q = or-right (not a) b e (ap not q)
 
-  asked-of : (a b : Bool) → (a ≡ true → b ≡ true) → (not a || b) ≡ true
-  asked-of true b h = h refl
-  asked-of false b h = refl
+  implied-of : (a b : Bool) → (a ≡ true → b ≡ true) → (not a || b) ≡ true
+  implied-of true b h = h refl
+  implied-of false b h = refl
 
   pending-ok : (u : ℕ) → pendingSound s x u ≡ true → hasNode (pendingOf s x) u ≡ true → PendingOk s x (levelOf s x) (notifiedOf s x) u
   unfolding pendingSound
   pending-ok u e q =
-      let h = asked (hasNode (pendingOf s x) u) _ e q in
+      let h = implied (hasNode (pendingOf s x) u) _ e q in
       record {
         attached = search parts;
         suffix = leb-true _ _ (search parts);
@@ -184,7 +184,7 @@ module _ (s : List ℕ) (x : ℕ) where
   pending-of : (u : ℕ) → (hasNode (pendingOf s x) u ≡ true → PendingOk s x (levelOf s x) (notifiedOf s x) u) → pendingSound s x u ≡ true
   unfolding pendingSound
   pending-of u h =
-      asked-of (hasNode (pendingOf s x) u) _
+      implied-of (hasNode (pendingOf s x) u) _
       (λ q.
       let r : PendingOk s x (levelOf s x) (notifiedOf s x) u = h q in
       and-intro _ _ (r .attached)
@@ -193,13 +193,13 @@ module _ (s : List ℕ) (x : ℕ) where
   notified-ok : (u : ℕ) → notifiedSound s x u ≡ true → hasNode (notifiedOf s x) u ≡ true → NotifiedOk s x u
   unfolding notifiedSound
   notified-ok u e q =
-      let h = asked (hasNode (notifiedOf s x) u) _ e q in
+      let h = implied (hasNode (notifiedOf s x) u) _ e q in
       record { attached = search parts; other = eqb-false u x (not-true _ (search parts)) }
 
   notified-of : (u : ℕ) → (hasNode (notifiedOf s x) u ≡ true → NotifiedOk s x u) → notifiedSound s x u ≡ true
   unfolding notifiedSound
   notified-of u h =
-      asked-of (hasNode (notifiedOf s x) u) _
+      implied-of (hasNode (notifiedOf s x) u) _
       (λ q.
       let r : NotifiedOk s x u = h q in
       and-intro _ _ (r .attached) (ap not (ne-eqb u x (r .other))))

@@ -92,7 +92,7 @@ module _ (m : Memory) where
   deliver-taken x y e =
       let p = passed _ refl e in
       let n = both-nodes x y (p 9) in
-      (sound-past m (p 1) (p 2), record { sender = n .0; receiver = n .1; asked = not-false _ (p 13); free = p 14 })
+      (sound-past m (p 1) (p 2), record { sender = n .0; receiver = n .1; requested = not-false _ (p 13); free = p 14 })
 
   pub lookup-taken : (u z : ℕ) → lookupRefusal m u z ≡ 0 → Sound s t × IsNode s u × IsNode s z
   unfolding lookupRefusal numbered testOf

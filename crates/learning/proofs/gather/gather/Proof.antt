@@ -10,11 +10,11 @@ use Rattle.learning.proofs.gather.gather.Statement.{statement}
 use Rattle.learning.proofs.gather.gather.Tie as tie
 
 abbrev Inv-loop : tie.InvT-loop
-Inv-loop state owner level told table nodes gathered₀ p₀ gathered p =
-    (p ≤ 512) × (gathered ≡ eachBelow p (gatherPlace state (owner .number) level told table) nodes)
+Inv-loop state learner level notified table nodes gathered₀ p₀ gathered p =
+    (p ≤ 512) × (gathered ≡ eachBelow p (gatherPlace state (learner .number) level notified table) nodes)
 
 abbrev μ-loop : tie.MeasureT-loop
-μ-loop state owner level told table nodes gathered₀ p₀ gathered p = 512 - p
+μ-loop state learner level notified table nodes gathered₀ p₀ gathered p = 512 - p
 
 loop-holds : tie.Need-loop-holds Inv-loop μ-loop
 loop-holds c = (omega arith, search each-zero)
