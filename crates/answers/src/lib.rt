@@ -44,5 +44,5 @@ pub struct VerdictAnswer {
 // Writing: the length of the image in bytes.
 pub struct WriteAnswer {
     pub refusal: u64,
-    pub image_length: u64,
+    pub bytes: u64,
 }

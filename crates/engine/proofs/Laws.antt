@@ -13,7 +13,7 @@ use Rattle.model.specs.Refusals.{foundRefusal, readRefusal, beginRefusal, deliv
 use Rattle.model.proofs.Refusals.{numbered, testOf, passed}
 use Rattle.model.proofs.Sound.{Sound}
 use Rattle.model.proofs.Status.{IsNode}
-use Rattle.model.proofs.Delivered.{CanDeliver}
+use Rattle.model.proofs.Sender.{CanDeliver}
 use Rattle.model.proofs.Taken.{found-taken, read-taken, begin-taken, deliver-taken, lookup-taken, verdict-taken, write-taken}
 use Rattle.image_judging.proofs.Sentences.{counted-of}
 use Rattle.join.specs.Begins.{Begins}

@@ -8,18 +8,18 @@ use answers::WriteAnswer;
 
 // Writes the image to out. Refusals: 1, 2, 15, 16.
 pub fn write(state: &[u64], tables: &[u8], out: &mut [u8]) -> WriteAnswer
-    ensures { λ r. ⌜ writes (memory (now (state .entry)) (now (tables .entry))) (now (out .exit)) (r .refusal ∷ r .image_length ∷ []) ≡ writeCall (memory (now (state .entry)) (now (tables .entry))) (now (out .entry)) ⌝ }
+    ensures { λ r. ⌜ writes (memory (now (state .entry)) (now (tables .entry))) (now (out .exit)) (r .refusal ∷ r .bytes ∷ []) ≡ writeCall (memory (now (state .entry)) (now (tables .entry))) (now (out .entry)) ⌝ }
 {
     let r = refusals::writing::refusal(state, tables, out);
     if r != 0 {
         return WriteAnswer {
             refusal: r,
-            image_length: 0,
+            bytes: 0,
         };
     }
-    let image_length = image_writing::write(state, tables, out);
+    let length = image_writing::write(state, tables, out);
     WriteAnswer {
         refusal: 0,
-        image_length: image_length as u64,
+        bytes: length as u64,
     }
 }

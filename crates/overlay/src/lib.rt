@@ -88,7 +88,7 @@ pub extern "C" fn overlay_write(state: &[u64], tables: &[u8], out: &mut [u8]) ->
     ensures { λ r. ⌜ fills (memory (now (state .entry)) (now (tables .entry))) (now (out .exit)) r ≡ packing (writeCall (memory (now (state .entry)) (now (tables .entry))) (now (out .entry))) ⌝ }
 {
     let written = engine::writing::write(state, tables, out);
-    pack_length(written.refusal, written.image_length)
+    pack_length(written.refusal, written.bytes)
 }
 
 // What sentences 1 and 2 say of this memory: 1 too short, 2 not sound, 0 neither.

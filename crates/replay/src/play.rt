@@ -124,8 +124,8 @@ pub fn save(state: &[u64], tables: &[u8], path: &[u8]) {
         say::refused(r.refusal);
         return;
     }
-    let n = r.image_length as usize;
-    keep(path, script::words::part(&image, 0, n), r.image_length);
+    let n = r.bytes as usize;
+    keep(path, script::words::part(&image, 0, n), r.bytes);
 }
 
 pub fn load(state: &mut [u64], tables: &mut [u8], path: &[u8]) {

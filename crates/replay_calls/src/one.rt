@@ -123,7 +123,7 @@ fn write(state: &[u64], tables: &[u8], room: u64) -> Words
     let r = writing::write(state, tables, &mut out[..end]);
     Words {
         refusal: r.refusal,
-        first: r.image_length,
+        first: r.bytes,
         second: 0,
         third: 0,
         fourth: 0,
