@@ -1,4 +1,4 @@
--- What reading a record finds, from what its steps say. Assumes nothing.
+-- What judging a record finds, from what its steps say. Assumes nothing.
 use Prim.Native.Nat.{ℕ, _+_, _-_, _≤_, _<_}
 use mathlib.Core.Path.{_≡_, sym, ap, subst, _∙_}
 use mathlib.Core.Bool.{Bool, true, false, not, _&&_, and-false}

@@ -64,7 +64,7 @@ passed c u = record { next = c .next + 1; key = c .key; count = c .count + 1; na
 abbrev pub keepsOrder : Header → Cursor → Record → Bool
 keepsOrder h c e = ltb (e .level) (h .digits) && (ltb (e .digit) (h .base) && leb (c .key) (keyOf e))
 
--- what reading record r finds
+-- what judging record r finds
 abbrev pub Finds : List ℕ → ℕ → Finding → Type 0
 Finds im r (Good c) = (c .next ≡ r + 1) × Follows im c
 Finds im r Disordered = recOrdered im r ≡ false

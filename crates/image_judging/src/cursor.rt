@@ -22,7 +22,7 @@ pub struct Cursor {
     pub named: u64,
 }
 
-// What reading a record finds.
+// What judging a record finds.
 pub enum Finding {
     // It keeps its order and the table rules: the cursor past it.
     Good(Cursor),
@@ -127,15 +127,16 @@ impl Cursor {
         }
     }
 
-    // Reads the record at the cursor.
-    pub fn read(self, image: &[u8], h: Header) -> Finding
+    // Judges the record at the cursor, as it was read: where its fields stand in the image is nothing to the cursor.
+    pub fn judge(self, image: &[u8], h: Header, e: Record) -> Finding
         requires { ⌜ Headed (now image) h ⌝ }
         requires { ⌜ RecordsNamed (now image) ⌝ }
         requires { ⌜ Follows (now image) self ⌝ }
         requires { ⌜ self .next < imRecords (now image) ⌝ }
+        requires { ⌜ RecordOf (now image) (self .next) e ⌝ }
+        requires { ⌜ Small e ⌝ }
         ensures { λ r. ⌜ Finds (now (image .entry)) (self .next) r ⌝ }
     {
-        let e = record::load(image, h, self.next);
         if !self.in_order(h, e) {
             return Finding::Disordered;
         }

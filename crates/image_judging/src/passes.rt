@@ -33,7 +33,8 @@ fn each_good(image: &[u8], h: Header) -> bool
 {
     let mut c = Cursor::start();
     while c.next < h.records {
-        match c.read(image, h) {
+        let e = record::load(image, h, c.next);
+        match c.judge(image, h, e) {
             Finding::Good(past) => {
                 c = past;
             }

@@ -3,7 +3,6 @@ use Prim.Native.Nat.{ℕ, zero, suc, _+_, _<_}
 use mathlib.Core.Path.{_≡_, refl, sym, ap, _∙_}
 use mathlib.Core.Bool.{Bool, true, false, cond}
 use mathlib.Core.List.{List, [], _∷_, _++_}
-use native.Mathlib.Nat.{add-zero}
 use native.Mathlib.Decide.{decLt}
 use native.Mathlib.Omega.{arith}
 use lib.ListN.{length, getD, length-append, List·getD-append}
@@ -43,35 +42,38 @@ module _ (test : ℕ → Bool) (f : ℕ → ℕ) where
       go true e = ap (λ (m : ℕ). m + 1) e
       go false e = ap (λ (m : ℕ). m + 0) e
 
+  -- one index more: what is new is picked there
+  newest : (n k : ℕ) → (k < length (picked n test f) → ⊥) → k < length (picked n test f ++ pick test f n)
+      → (test n ≡ true) × (getD (picked n test f ++ pick test f n) k 0 ≡ f n)
+  newest n k g h =
+      go (test n) refl (omega (arith, h, length-append (picked n test f) (pick test f n)))
+    where
+      go : (b : Bool) → test n ≡ b → k < length (picked n test f) + length (cond (test n) (f n ∷ []) [])
+          → (test n ≡ true) × (getD (picked n test f ++ pick test f n) k 0 ≡ f n)
+      go true e l =
+          let one : length (pick test f n) ≡ 1 = ap (λ (b : Bool). length (cond b (f n ∷ []) [])) e in
+          let q : k ≡ length (picked n test f) + 0 = omega (arith, one, l) in (
+            e,
+            ap (λ (m : ℕ). getD (picked n test f ++ pick test f n) m 0) q
+                ∙ getD-append-add (picked n test f) (pick test f n) 0 0
+                ∙ ap (λ (b : Bool). getD (cond b (f n ∷ []) []) 0 0) e,
+          )
+      go false e l =
+          let none : length (pick test f n) ≡ 0 = ap (λ (b : Bool). length (cond b (f n ∷ []) [])) e in
+          absurd (omega (arith, none, l))
+
   pub picked-origin : (n k : ℕ) → k < length (picked n test f) → Origin n test f (getD (picked n test f) k 0)
   unfolding joinBelow
   picked-origin zero k h = absurd (omega arith)
-  picked-origin (suc n) k h = go (test n) refl (decLt k (length (picked n test f))) (picked-origin n k)
+  picked-origin (suc n) k h = go (decLt k (length (picked n test f))) (picked-origin n k)
     where
-      more : {v : ℕ} → Origin n test f v → Origin (suc n) test f v
-      more o = record { index = o .index; within = omega (arith, o .within); holds = o .holds; is = o .is }
-
-      go : (b : Bool) → test n ≡ b → Dec (k < length (picked n test f)) → (k < length (picked n test f) → Origin n test f (getD (picked n test f) k 0))
+      go : Dec (k < length (picked n test f)) → (k < length (picked n test f) → Origin n test f (getD (picked n test f) k 0))
           → Origin (suc n) test f (getD (picked n test f ++ pick test f n) k 0)
-      go b e (yes l) ih = rw (List·getD-append (picked n test f) (pick test f n) 0 k l) (more (ih l))
-      go true e (no g) ih =
-          let w : length (picked n test f ++ pick test f n) ≡ length (picked n test f) + length (pick test f n) = length-append (picked n test f) (pick test f n) in
-          let one : length (pick test f n) ≡ 1 = ap (λ (b : Bool). length (cond b (f n ∷ []) [])) e in
-          let q : k ≡ length (picked n test f) + 0 = omega (arith, w, one, h) in
-          record {
-            index = n;
-            within = omega arith;
-            holds = e;
-            is =
-                sym
-                (ap (λ (m : ℕ). getD (picked n test f ++ pick test f n) m 0) q
-                ∙ getD-append-add (picked n test f) (pick test f n) 0 0
-                ∙ ap (λ (b : Bool). getD (cond b (f n ∷ []) []) 0 0) e);
-          }
-      go false e (no g) ih =
-          let w : length (picked n test f ++ pick test f n) ≡ length (picked n test f) + length (pick test f n) = length-append (picked n test f) (pick test f n) in
-          let none : length (pick test f n) ≡ 0 = ap (λ (b : Bool). length (cond b (f n ∷ []) [])) e in
-          absurd (omega (arith, w, none, h))
+      go (yes l) ih =
+          let o = ih l in
+          rw (List·getD-append (picked n test f) (pick test f n) 0 k l)
+          (record { index = o .index; within = omega (arith, o .within); holds = o .holds; is = o .is })
+      go (no g) ih = let w = newest n k g h in record { index = n; within = omega arith; holds = w .0; is = sym (w .1) }
 
   -- the first of the picked comes from the first index at which the test holds
   pub picked-first : (n : ℕ) → 0 < length (picked n test f) → Earliest n test f (getD (picked n test f) 0 0)
@@ -79,31 +81,18 @@ module _ (test : ℕ → Bool) (f : ℕ → ℕ) where
   picked-first zero h = absurd (omega arith)
   picked-first (suc n) h = go (decLt 0 (length (picked n test f))) (picked-first n)
     where
-      more : {v : ℕ} → Earliest n test f v → Earliest (suc n) test f v
-      more o = record { index = o .index; within = omega (arith, o .within); holds = o .holds; is = o .is; before = o .before }
-
-      -- nothing was picked before
-      none : length (picked n test f) ≡ 0 → (q : ℕ) → q < n → test q ≡ false
-      none e q l = back-false (test q) false (λ t. absurd (omega (arith, count-some n test q l t, picked-length n, e))) refl
-
-      last : length (picked n test f) ≡ 0 → (b : Bool) → test n ≡ b → Earliest (suc n) test f (getD (picked n test f ++ pick test f n) 0 0)
-      last z true e = record {
-        index = n;
-        within = omega arith;
-        holds = e;
-        is =
-            sym
-            (ap (λ (m : ℕ). getD (picked n test f ++ pick test f n) m 0) (sym z ∙ sym (add-zero (length (picked n test f))))
-            ∙ getD-append-add (picked n test f) (pick test f n) 0 0
-            ∙ ap (λ (b : Bool). getD (cond b (f n ∷ []) []) 0 0) e);
-        before = none z;
-      }
-      last z false e =
-          let w : length (picked n test f ++ pick test f n) ≡ length (picked n test f) + length (pick test f n) = length-append (picked n test f) (pick test f n) in
-          let o : length (pick test f n) ≡ 0 = ap (λ (b : Bool). length (cond b (f n ∷ []) [])) e in
-          absurd (omega (arith, w, o, h))
-
       go : Dec (0 < length (picked n test f)) → (0 < length (picked n test f) → Earliest n test f (getD (picked n test f) 0 0))
           → Earliest (suc n) test f (getD (picked n test f ++ pick test f n) 0 0)
-      go (yes l) ih = rw (List·getD-append (picked n test f) (pick test f n) 0 0 l) (more (ih l))
-      go (no g) ih = last (omega arith) (test n) refl
+      go (yes l) ih =
+          let o = ih l in
+          rw (List·getD-append (picked n test f) (pick test f n) 0 0 l)
+          (record { index = o .index; within = omega (arith, o .within); holds = o .holds; is = o .is; before = o .before })
+      go (no g) ih =
+          let w = newest n 0 g h in
+          record {
+            index = n;
+            within = omega arith;
+            holds = w .0;
+            is = sym (w .1);
+            before = λ q l. back-false (test q) false (λ t. absurd (g (omega (arith, count-some n test q l t, picked-length n)))) refl;
+          }

@@ -4,19 +4,19 @@ use mathlib.Core.Path.{_≡_, refl, sym, ap, ap₂, _∙_}
 use mathlib.Core.Bool.{Bool, true, false, cond, not}
 use mathlib.Core.List.{List, [], _∷_}
 use native.Mathlib.Omega.{arith}
-use lib.Dec.{eqb, ltb}
+use lib.Dec.{eqb}
 use lib.ListN.{length, getD, length-append}
-use borrow.Author.Tests.{ltb-true, eqb-false, eq-eqb, ne-eqb, not-true}
+use borrow.Author.Tests.{eqb-false, eq-eqb, ne-eqb, not-true}
 use Rattle.model.specs.Loops.{countBelow, joinBelow, node}
 use Rattle.model.specs.Memory.{base, digits, depth, nodeCount, tableStart, tableOf}
 use Rattle.model.specs.Tables.{slotPlace, slotAt}
 use Rattle.model.specs.Sound.{placeUsed}
 use Rattle.model.specs.Image.{slotRecord, entryRecords, levelRecords, nodeRecords, allRecords}
-use Rattle.model.proofs.Bools.{and-left, and-right, back-false}
+use Rattle.model.proofs.Bools.{back-false}
 use Rattle.model.proofs.Loops.{join-same}
 use Rattle.model.proofs.Memory.{table-at}
 use Rattle.model.proofs.Status.{IsNode}
-use Rattle.model.proofs.Sound.{Sound}
+use Rattle.model.proofs.Sound.{Sound, used-place}
 use Rattle.model.proofs.Counting.{join-skip, join-blocks, join-at}
 
 -- place p of the table memory is filled
@@ -78,11 +78,8 @@ module _ (s t : List ℕ) (S : Sound s t) (y : ℕ) (h : y < nodeCount s) where
       let f : placeUsed s p ≡ false =
       back-false (placeUsed s p) false
       (λ u.
-      let li : p / 64 < digits s = ltb-true _ (digits s) (and-left _ _ u) in
-      let u′ = and-right (ltb (p / 64) (digits s)) _ u in
-      let lj : p % 64 / 4 < base s = ltb-true _ (base s) (and-left _ _ u′) in
-      let lk : p % 4 < depth s = ltb-true _ (depth s) (and-right (ltb (p % 64 / 4) (base s)) _ u′) in
-      absurd (no-use (omega arith) (omega arith) (omega arith))) refl in
+      let below = used-place s p u in
+      absurd (no-use (omega (arith, below .0)) (omega (arith, below .1)) (omega (arith, below .2)))) refl in
       ap (λ (v : ℕ). cond (eqb v 0) [] ((y + 1) ∷ i ∷ j ∷ v ∷ [])) (S .tables (y + 1) is-node .unused p (omega arith) f)
 
   -- so an entry may as well have four slots, a level 16 entries and a table eight levels

@@ -92,15 +92,12 @@ module _ (im s t : List ℕ) (S : Sound s t) (P : Pictures im s t) (t′ : List 
         let g = gap-free s x (tableOf t x) (entries-of s x (tableOf t x) (S .tables x (slot .owner))) i j (slot .level) (slot .digit) in
         size-filled (depth s) (tableOf t x) i j m (less g (decLt m (entrySize (depth s) (tableOf t x) i j))) (slot .at m (omega arith) ∙ w)
       where
-        here : 4 * (p / 4) + p % 4 ≡ p
-        here = omega arith
-
         less : GapFree (depth s) (tableOf t x) i j → Dec (m < entrySize (depth s) (tableOf t x) i j) → m < entrySize (depth s) (tableOf t x) i j
         less g (yes q) = q
         less g (no q) =
             absurd
             (filled-nonzero t p e
-            (sym (slot .at (p % 4) (omega arith) ∙ ap (λ (p : ℕ). getD t p 0) here)
+            (sym (slot .here)
             ∙ gap-rest (depth s) (tableOf t x) i j g (p % 4) (omega arith) (slot .slot)))
 
     size : p % 4 ≡ entrySize (depth s) (tableOf u x) i j

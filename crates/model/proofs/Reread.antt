@@ -3,19 +3,18 @@
 use Prim.Native.Nat.{ℕ, zero, suc, _+_, _-_, _*_, _/_, _%_, _≤_, _<_}
 use mathlib.Core.Path.{_≡_, refl, sym, ap, ap₂, subst, _∙_}
 use mathlib.Core.Logic.{_≢_, _⊎_, inl, inr, ⊎-elim}
-use mathlib.Core.Bool.{true, cond, not, _&&_, _||_}
+use mathlib.Core.Bool.{true, cond, _&&_}
 use mathlib.Core.List.{List, [], _∷_, _++_}
 use native.Mathlib.Decide.{ℕ-discrete}
 use native.Mathlib.Omega.{arith}
-use lib.Dec.{eqb, ltb, leb}
+use lib.Dec.{eqb}
 use lib.ListN.{length, getD, set, length-set}
 use lib.Seq.{getD-set-same, getD-set-other}
-use borrow.Author.Tests.{eqb-true, eq-eqb, ne-eqb, ltb-true, leb-true}
-use Rattle.model.specs.Loops.{anyBelow, countBelow, joinBelow, eachBelow}
+use borrow.Author.Tests.{leb-true}
+use Rattle.model.specs.Loops.{countBelow, joinBelow, eachBelow}
 use Rattle.model.specs.Memory.{tablesLength, zeroed, tableStart, tableOf, withTable}
-use Rattle.model.specs.Tables.{qualified, slotPlace, slotAt, entrySize, append}
-use Rattle.model.specs.Image.{imBase, imDigits, imDepth, imNodes, imId, imRecords, recNode, recLevel, recDigit, recNeighbor, sameEntry, sameNeighbor, risesFrom, recOrdered, recAllowed, loadRecord}
-use Rattle.model.proofs.Bools.{and-left, and-right, and-intro, or-right, or-cases}
+use Rattle.model.specs.Tables.{slotPlace, slotAt, entrySize, append}
+use Rattle.model.specs.Image.{imDepth, imNodes, imRecords, recNode, recLevel, recDigit, recNeighbor, sameEntry, risesFrom, loadRecord}
 use Rattle.model.proofs.Loops.{each-leads, count-same, join-same}
 use Rattle.model.proofs.Memory.{zeroed-length, zeroed-within, table-at, table-set}
 use Rattle.model.proofs.Tables.{size-is}

@@ -73,7 +73,7 @@ pub record Pictures (im s t : List ℕ) : Type 0 where
   pub size : length im ≡ 8 + 4 * nodeCount s + 4 * countBelow (512 * nodeCount s) (filledAt t)
 
 -- a number of 32 bits is what its four bytes make
-four-back : (v : ℕ) → v < 2 ^ 32 → v % 256 + 256 * (v / 256 % 256) + 65536 * (v / 65536 % 256) + 16777216 * (v / 16777216 % 256) ≡ v
+pub four-back : (v : ℕ) → v < 2 ^ 32 → v % 256 + 256 * (v / 256 % 256) + 65536 * (v / 65536 % 256) + 16777216 * (v / 16777216 % 256) ≡ v
 four-back v l =
     let g : v < 4294967296 = l in
     let e2 : v / 65536 ≡ v / 256 / 256 = omega arith in

@@ -116,6 +116,11 @@ module _ (s : List ℕ) (x : ℕ) (T : List ℕ) where
       place p h (inr q) = or-intro-right (placeUsed s p) _ (eq-eqb (getD T p 0) 0 (r .unused p h q))
 
 -- the used places of a table are its slots
+-- a place that may be used is of a level, a digit and a slot below the settings
+pub used-place : (s : List ℕ) (p : ℕ) → placeUsed s p ≡ true → (p / 64 < digits s) × (p % 64 / 4 < base s) × (p % 4 < depth s)
+used-place s p e =
+    (ltb-true _ (digits s) (search parts), ltb-true _ (base s) (search parts), ltb-true _ (depth s) (search parts))
+
 module _ (s : List ℕ) (range : InRange (base s) (digits s) (depth s)) where
   pub slot-used : (i j k : ℕ) → i < digits s → j < base s → k < depth s → placeUsed s (slotPlace i j k) ≡ true
   slot-used i j k hi hj hk =
@@ -138,11 +143,9 @@ module _ (s : List ℕ) (range : InRange (base s) (digits s) (depth s)) where
       go : (placeUsed s p ≡ true) ⊎ (placeUsed s p ≡ false)
           → SlotOk s x T (p / 64) (p % 64 / 4) (p % 4) × (slotPlace (p / 64) (p % 64 / 4) (p % 4) ≡ p)
       go (inr e) = absurd (nz (ok .unused p h e))
-      go (inl e) = (
-        ok .slots (p / 64) (p % 64 / 4) (p % 4) (ltb-true _ (digits s) (search parts)) (ltb-true _ (base s) (search parts))
-            (ltb-true _ (depth s) (search parts)) (λ q. nz (ap (λ (p : ℕ). getD T p 0) (sym w) ∙ q)),
-        w,
-      )
+      go (inl e) =
+          let u = used-place s p e in
+          (ok .slots (p / 64) (p % 64 / 4) (p % 4) (u .0) (u .1) (u .2) (λ q. nz (ap (λ (p : ℕ). getD T p 0) (sym w) ∙ q)), w)
 
   -- what stands in a place is a node that may
   pub standing : (x : ℕ) (T : List ℕ) → TableOk s x T → (p : ℕ) → p < 512 → getD T p 0 ≢ 0

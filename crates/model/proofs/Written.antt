@@ -3,13 +3,13 @@
 use Prim.Native.Nat.{ℕ, _+_, _-_, _*_, _/_, _%_, _≤_, _<_}
 use mathlib.Core.Path.{_≡_, refl, sym, ap, ap₂, subst, subst₂, subst₃, _∙_}
 use mathlib.Core.Logic.{_≢_, _⊎_, inl, inr}
-use mathlib.Core.Bool.{Bool, true, false, not, _&&_, _||_}
+use mathlib.Core.Bool.{Bool, true, false, not, _||_}
 use mathlib.Core.List.{List}
 use native.Mathlib.Decide.{decLt, ℕ-discrete}
 use native.Mathlib.Omega.{arith}
-use lib.Dec.{eqb, ltb, leb}
+use lib.Dec.{eqb}
 use lib.ListN.{length, getD}
-use borrow.Author.Tests.{eqb-true, eq-eqb, ltb-true, lt-ltb, le-leb}
+use borrow.Author.Tests.{eqb-true, eq-eqb, lt-ltb, le-leb}
 use Rattle.model.specs.Loops.{anyBelow, countBelow}
 use Rattle.model.specs.Ids.{validId, digitOf}
 use Rattle.model.specs.Memory.{base, digits, depth, nodeCount, idOf, tableStart, tableOf}
@@ -21,7 +21,7 @@ use Rattle.model.proofs.Loops.{all-of, any-of, any-false}
 use Rattle.model.proofs.Ids.{InRange, valid-digit}
 use Rattle.model.proofs.Memory.{table-at}
 use Rattle.model.proofs.Status.{IsNode}
-use Rattle.model.proofs.Sound.{SlotOk, Sound, table-fits}
+use Rattle.model.proofs.Sound.{SlotOk, Sound, table-fits, used-place}
 use Rattle.model.proofs.RecordRules.{entryKey, key-le, SameEntry, same-entry, of-same-entry}
 use Rattle.model.proofs.Loading.{GoodImage}
 use Rattle.model.proofs.Counting.{Ranked, count-finds, count-mono, count-rises, count-most}
@@ -44,6 +44,7 @@ pub record SlotIn (s t : List ℕ) (p : ℕ) : Type 0 where
   pub digit : p % 64 / 4 < base s
   pub slot : p % 4 < depth s
   pub at : (k : ℕ) → k < 4 → slotAt (tableOf t (p / 512 + 1)) (p % 512 / 64) (p % 64 / 4) k ≡ getD t (4 * (p / 4) + k) 0
+  pub here : slotAt (tableOf t (p / 512 + 1)) (p % 512 / 64) (p % 64 / 4) (p % 4) ≡ getD t p 0
   pub ok : SlotOk s (p / 512 + 1) (tableOf t (p / 512 + 1)) (p % 512 / 64) (p % 64 / 4) (p % 4)
 
 module _ (s t : List ℕ) (S : Sound s t) where
@@ -54,6 +55,7 @@ module _ (s t : List ℕ) (S : Sound s t) where
     digit = digit;
     slot = slot;
     at = at;
+    here = here;
     ok = S .tables (p / 512 + 1) x .slots (p % 512 / 64) (p % 64 / 4) (p % 4) level digit slot (λ z. filled-nonzero t p e (sym here ∙ z));
   }
     where
@@ -76,20 +78,13 @@ module _ (s t : List ℕ) (S : Sound s t) where
           (λ f. absurd (filled-nonzero t p e (sym (place-at t (p / 512) fits (p % 512) (omega arith) ∙ ap (λ (p : ℕ). getD t p 0) w) ∙ S .tables (p / 512 + 1) x .unused (p % 512) (omega arith) f))) refl
 
       level : p % 512 / 64 < digits s
-      level = ltb-true (p % 512 / 64) (digits s) (and-left _ _ used)
+      level = used-place s (p % 512) used .0
 
       digit : p % 64 / 4 < base s
-      digit =
-          let w : p % 512 % 64 / 4 ≡ p % 64 / 4 = omega arith in
-          let g : p % 512 % 64 / 4 < base s = ltb-true _ (base s) (and-left _ _ (and-right (ltb (p % 512 / 64) (digits s)) _ used)) in
-          omega arith
+      digit = let w : p % 512 % 64 / 4 ≡ p % 64 / 4 = omega arith in omega (arith, used-place s (p % 512) used .1)
 
       slot : p % 4 < depth s
-      slot =
-          let w : p % 512 % 4 ≡ p % 4 = omega arith in
-          let g : p % 512 % 4 < depth s =
-          ltb-true _ (depth s) (and-right (ltb (p % 512 % 64 / 4) (base s)) _ (and-right (ltb (p % 512 / 64) (digits s)) _ used)) in
-          omega arith
+      slot = let w : p % 512 % 4 ≡ p % 4 = omega arith in omega (arith, used-place s (p % 512) used .2)
 
 -- ---- the order of places
 
@@ -209,16 +204,13 @@ module _ (im s t : List ℕ) (S : Sound s t) (P : Pictures im s t) where
     abbrev T : List ℕ
     T = tableOf t (p / 512 + 1)
 
-    here : slotAt T (p % 512 / 64) (p % 64 / 4) (p % 4) ≡ getD t p 0
-    here = let w : 4 * (p / 4) + p % 4 ≡ p = omega arith in slot .at (p % 4) (omega arith) ∙ ap (λ (p : ℕ). getD t p 0) w
-
     owner : (1 ≤ recNode im r) × (recNode im r ≤ imNodes im)
     owner = (omega (arith, A .node), omega (arith, A .node, P .nodes, slot .owner .high))
 
     neighbor-node : IsNode s (getD t p 0)
     neighbor-node =
         let nz : getD t p 0 ≡ 0 → ⊥ = filled-nonzero t p (A .holds) in
-        record { low = omega (arith, nz); high = omega (arith, here, slot .ok .within) }
+        record { low = omega (arith, nz); high = omega (arith, slot .here, slot .ok .within) }
 
     neighbors : (1 ≤ recNeighbor im r) × (recNeighbor im r ≤ imNodes im)
     neighbors = (omega (arith, A .neighbor, neighbor-node .low), omega (arith, A .neighbor, P .nodes, neighbor-node .high))
@@ -253,7 +245,7 @@ module _ (im s t : List ℕ) (S : Sound s t) (P : Pictures im s t) where
         let e = ids-of (recNode im r) (recNeighbor im r) (A .node) (A .neighbor) in
         ap₂ (λ (a b : ℕ). qualified a b (recLevel im r) (recDigit im r)) (e .0) (e .1)
         ∙ ap₂ (λ (i j : ℕ). qualified (idOf s x) (idOf s (getD t p 0)) i j) (A .level) (A .digit)
-        ∙ ap (λ (u : ℕ). qualified (idOf s x) (idOf s u) (p % 512 / 64) (p % 64 / 4)) (sym here)
+        ∙ ap (λ (u : ℕ). qualified (idOf s x) (idOf s u) (p % 512 / 64) (p % 64 / 4)) (sym (slot .here))
         ∙ slot .ok .qual
 
     -- the records before it
@@ -276,7 +268,7 @@ module _ (im s t : List ℕ) (S : Sound s t) (P : Pictures im s t) where
           ∙ sym (Q q l .neighbor)
           ∙ u
           ∙ A .neighbor
-          ∙ sym here)
+          ∙ sym (slot .here))
 
       few-before : countBelow r (sameEntry im r) ≤ p % 4
       few-before =
@@ -307,7 +299,7 @@ module _ (im s t : List ℕ) (S : Sound s t) (P : Pictures im s t) where
             ∙ eqb-true _ _ e
             ∙ ap₂ digitOf (ids-of (recNode im r) (recNeighbor im r) (A .node) (A .neighbor) .0) (A .level) in
             A .neighbor
-            ∙ sym here
+            ∙ sym (slot .here)
             ∙ ap₂ (λ (j k : ℕ). slotAt T (p % 512 / 64) j k) j z
             ∙ S .tables x (slot .owner) .owner (p % 512 / 64) (slot .level)
             ∙ sym (A .node)

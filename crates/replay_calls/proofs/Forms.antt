@@ -18,28 +18,12 @@ use Rattle.model.specs.Run.{Call, step, write}
 use Rattle.model.proofs.Bools.{le-or-lt}
 use Rattle.model.proofs.Sound.{Sound}
 use Rattle.model.proofs.Taken.{state-taken}
-use Rattle.model.proofs.Sections.{image-short}
+use Rattle.model.proofs.Sections.{four-back, image-short}
 use Rattle.image_fields.specs.Parts.{fourAt}
 use Rattle.replay_calls.specs.Coded.{zeros, callOf, numberAt, callAt, firstCalls, decoded, callBytes}
 use Rattle.replay_calls.specs.Answered.{playing}
 
 -- ---- the bytes of a call
-
--- four bytes make the number that they are of
-four-back : (v : ℕ) → v < 4294967296 → v % 256 + 256 * (v / 256 % 256) + 65536 * (v / 65536 % 256 + 256 * (v / 16777216 % 256)) ≡ v
-four-back v l =
-    let e : v / 65536 ≡ v / 256 / 256 = omega arith in
-    let f : v / 16777216 ≡ v / 65536 / 256 = omega arith in
-    let z : v / 16777216 % 256 ≡ v / 16777216 = omega arith in
-    let y : v / 65536 ≡ 256 * (v / 65536 / 256) + v / 65536 % 256 = omega arith in
-    let x : v / 256 ≡ 256 * (v / 256 / 256) + v / 256 % 256 = omega arith in
-    let w : v ≡ 256 * (v / 256) + v % 256 = omega arith in
-    combine v (v % 256) (v / 256) (v / 256 % 256) (v / 65536) (v / 65536 % 256) (v / 16777216) (v / 16777216 % 256) w
-    (x ∙ ap (λ (n : ℕ). 256 * n + v / 256 % 256) (sym e)) (y ∙ ap (λ (n : ℕ). 256 * n + v / 65536 % 256) (sym f)) z
-  where
-    combine : (v r q r₁ q₁ r₂ q₂ r₃ : ℕ) → v ≡ 256 * q + r → q ≡ 256 * q₁ + r₁ → q₁ ≡ 256 * q₂ + r₂ → r₃ ≡ q₂
-        → r + 256 * r₁ + 65536 * (r₂ + 256 * r₃) ≡ v
-    combine v r q r₁ q₁ r₂ q₂ r₃ a b c d = omega arith
 
 halves : ℕ → ℕ → ℕ
 halves low high =
@@ -60,7 +44,7 @@ call-at-start : (images : List ℕ) (kind a b c id : ℕ) → a < 2 ^ 64 → b <
     → callAt images (callBytes kind a b c id) 0 ∷ [] ≡ callOf images kind a b c id ∷ []
 unfolding callAt numberAt fourAt halves
 call-at-start images kind a b c id ha hb hc hi =
-    same-fields images kind _ _ _ _ a b c id (number-back a ha) (number-back b hb) (number-back c hc) (four-back id hi)
+    same-fields images kind _ _ _ _ a b c id (number-back a ha) (number-back b hb) (number-back c hc) (omega (arith, four-back id hi))
 
 module _ (bs x : List ℕ) where
   byte-before : (at : ℕ) → at < length bs → getD (bs ++ x) at 0 ≡ getD bs at 0

@@ -1,7 +1,6 @@
 -- `number_then`: the number, and the piece behind it. Assumes nothing.
 use native.Mathlib.Omega.{arith}
 use Rattle.text.proofs.Pieces.{then-is}
-use native.Mathlib.Omega.{arith}
 use borrow.Author.Needs.{needs}
 use Rattle.text.proofs.number_then.Statement.{statement}
 use Rattle.text.proofs.number_then.Tie as tie

@@ -1,4 +1,4 @@
--- `each_good`: the cursor follows good records, and what reading finds ends the loop or goes on. Assumes nothing.
+-- `each_good`: the cursor follows good records, and what judging finds ends the loop or goes on. Assumes nothing.
 use Prim.Native.Nat.{_≤_, _-_}
 use native.Mathlib.Omega.{arith}
 use borrow.Author.Needs.{needs}
@@ -20,8 +20,11 @@ start-requires c κs = search needs
 loop-holds : tie.Need-loop-holds Inv-loop μ-loop
 loop-holds c = start-held _ _ (c .start .ensures)
 
-read-requires : tie.Need-read-requires Inv-loop μ-loop
-read-requires c κs = (search needs, (search needs, (c .before .before .before .loop .inv .1, omega arith)))
+load-requires : tie.Need-load-requires Inv-loop μ-loop
+load-requires c κs = (search needs, omega arith)
+
+judge-requires : tie.Need-judge-requires Inv-loop μ-loop
+judge-requires c κs = (search needs, (search needs, (c .before .before .before .before .loop .inv .1, (omega arith, search needs))))
 
 enum-known-past : tie.Need-enum-known-past Inv-loop μ-loop
 enum-known-past c = search needs
@@ -61,7 +64,8 @@ each-good-spec =
     μ-loop
     start-requires
     loop-holds
-    read-requires
+    load-requires
+    judge-requires
     enum-known-past
     loop-less
     loop-again

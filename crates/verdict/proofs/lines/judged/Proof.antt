@@ -1,7 +1,6 @@
 -- `judged`: one line or two. Assumes nothing.
 use native.Mathlib.Omega.{arith}
 use Rattle.verdict.proofs.Texts.{judged-refused, judged-taken}
-use native.Mathlib.Omega.{arith}
 use borrow.Author.Needs.{needs}
 use Rattle.verdict.proofs.lines.judged.Statement.{statement}
 use Rattle.verdict.proofs.lines.judged.Tie as tie

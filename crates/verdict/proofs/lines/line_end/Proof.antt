@@ -1,7 +1,6 @@
 -- `line_end`: three numbers. Assumes nothing.
 use native.Mathlib.Omega.{arith}
 use Rattle.verdict.proofs.Texts.{place-is}
-use native.Mathlib.Omega.{arith}
 use borrow.Author.Needs.{needs}
 use Rattle.verdict.proofs.lines.line_end.Statement.{statement}
 use Rattle.verdict.proofs.lines.line_end.Tie as tie

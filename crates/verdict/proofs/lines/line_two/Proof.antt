@@ -1,7 +1,6 @@
 -- `line_two`: its start and its end. Assumes nothing.
 use native.Mathlib.Omega.{arith}
 use Rattle.verdict.proofs.Texts.{line-two-is}
-use native.Mathlib.Omega.{arith}
 use borrow.Author.Needs.{needs}
 use Rattle.verdict.proofs.lines.line_two.Statement.{statement}
 use Rattle.verdict.proofs.lines.line_two.Tie as tie

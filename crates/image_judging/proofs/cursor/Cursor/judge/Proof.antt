@@ -1,12 +1,9 @@
--- `read`: each return is what the tests before it say. Assumes nothing.
+-- `judge`: each return is what the tests before it say. Assumes nothing.
 use borrow.Author.Needs.{needs}
 use Rattle.image_judging.proofs.Reading.{entry-enters, entry-record, entry-within, finds-disordered, finds-forbidden, finds-not-first, finds-good}
 use Rattle.image_judging.proofs.Rules.{numbered-held, count-within, next-within}
-use Rattle.image_judging.proofs.cursor.Cursor.read.Statement.{statement}
-use Rattle.image_judging.proofs.cursor.Cursor.read.Tie as tie
-
-load-requires : tie.Need-load-requires
-load-requires c κs = search needs
+use Rattle.image_judging.proofs.cursor.Cursor.judge.Statement.{statement}
+use Rattle.image_judging.proofs.cursor.Cursor.judge.Tie as tie
 
 in-order-requires : tie.Need-in-order-requires
 in-order-requires c κs = search needs
@@ -38,11 +35,10 @@ pass-requires c κs = search (needs, numbered-held, count-within, next-within, e
 returns-4 : tie.Need-returns-4
 returns-4 c = search finds-good
 
-pub read-spec : {M : Type 1} → statement M
-read-spec =
+pub judge-spec : {M : Type 1} → statement M
+judge-spec =
     tie.close
     (tie.spec
-    load-requires
     in-order-requires
     returns
     key-requires
