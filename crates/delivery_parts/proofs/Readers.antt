@@ -19,7 +19,7 @@ use Rattle.model.proofs.Learning.{learn-at-cases, learn-place-cases}
 use Rattle.model.proofs.Status.{IsNode}
 use Rattle.model.proofs.Sound.{standing, Sound, id-fits}
 use Rattle.model.proofs.SoundNodes.{own, suffix-below}
-use Rattle.model.proofs.Replaced.{Agree, agree-node, agree-id, agree-count}
+use Rattle.model.proofs.ReplacingKeepsSound.{Agree, agree-node, agree-id, agree-count}
 use Rattle.model.proofs.Memory.{node-length}
 use Rattle.state.specs.Loaded.{Placed}
 use Rattle.learning.specs.declared.learner.Learner.{Learner}

@@ -11,7 +11,7 @@ use Rattle.model.specs.Tables.{entrySize, append}
 use Rattle.model.specs.Join.{withSettings}
 use Rattle.model.specs.Image.{imBase, imDigits, imDepth, imNodes, imId, imRecords, loadId, loadRecord, loaded}
 use Rattle.model.proofs.Memory.{zeroed-length, table-set}
-use Rattle.model.proofs.Loading.{GoodImage, Words, words-loaded, record-ok, record-room}
+use Rattle.model.proofs.LoadingIsSound.{GoodImage, Words, words-loaded, record-ok, record-room}
 use Rattle.image_fields.specs.declared.header.Header.{Header}
 use Rattle.image_fields.specs.declared.record.Record.{Record}
 use Rattle.image_fields.specs.Parts.{Headed, RecordOf, Small}

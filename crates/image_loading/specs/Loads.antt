@@ -5,7 +5,7 @@ use mathlib.Core.List.{List}
 use lib.ListN.{length}
 use Rattle.model.specs.Memory.{zeroed, tableOf, stateLength, tablesLength}
 use Rattle.model.specs.Tables.{entrySize}
-use Rattle.model.proofs.Loading.{GoodImage}
+use Rattle.model.proofs.LoadingIsSound.{GoodImage}
 use Rattle.image_fields.specs.Parts.{CountsRight}
 
 -- the image is one that reading takes, and the memory is long enough

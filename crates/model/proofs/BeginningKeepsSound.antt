@@ -16,7 +16,7 @@ use Rattle.model.proofs.Memory.{same-id, node-same, node-length, node-s
 use Rattle.model.proofs.Status.{IsNode, RecordOk, StatusOk, is-copying, joins, attached-same, in-system-same}
 use Rattle.model.proofs.Ids.{InRange}
 use Rattle.model.proofs.Sound.{TableOk, Long, Sound, table-fits}
-use Rattle.model.proofs.Own.{own-long, own-table}
+use Rattle.model.proofs.OwnTable.{own-long, own-table}
 use Rattle.model.proofs.Later.{Later, node-later, table-later, status-later}
 
 -- what the refusals of a beginning leave

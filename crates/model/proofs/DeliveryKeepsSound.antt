@@ -8,7 +8,7 @@ use Rattle.model.specs.Join.{Delivery, joiningNode, delivery, delivered}
 use Rattle.model.proofs.Status.{RecordOk, is-copying, is-waiting, joins}
 use Rattle.model.proofs.Sound.{Sound}
 use Rattle.model.proofs.Later.{Later, later-refl}
-use Rattle.model.proofs.Replaced.{replaced-ok}
+use Rattle.model.proofs.ReplacingKeepsSound.{replaced-ok}
 use Rattle.model.proofs.SoundNodes.{own-later, own, learned-table}
 use Rattle.model.proofs.Sender.{CanDeliver}
 use Rattle.model.proofs.DeliveryDid.{Asking, copies-on, starts-waiting, waits-on, AsksOn, Did, did-ask, did-attach, did-notify, to-receiver, delivery-did}

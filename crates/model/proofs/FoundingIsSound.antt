@@ -17,7 +17,7 @@ use Rattle.model.proofs.Memory.{same-id, same-status, node-length, node
 use Rattle.model.proofs.Status.{IsNode, RecordOk, StatusOk, rests}
 use Rattle.model.proofs.Ids.{InRange}
 use Rattle.model.proofs.Sound.{TableOk, Long, Sound, sound-of}
-use Rattle.model.proofs.Own.{own-long, own-table}
+use Rattle.model.proofs.OwnTable.{own-long, own-table}
 
 -- words 0 to 3 hold the settings and the number of nodes
 pub record Settings (s : List ℕ) (b d K n : ℕ) : Type 0 where

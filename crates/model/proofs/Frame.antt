@@ -18,7 +18,7 @@ use Rattle.model.proofs.Loops.{all-of}
 use Rattle.model.proofs.Nodes.{nodes-of}
 use Rattle.model.proofs.Ids.{settings-of}
 use Rattle.model.proofs.Sound.{Long}
-use Rattle.model.proofs.Loading.{GoodImage}
+use Rattle.model.proofs.LoadingIsSound.{GoodImage}
 use Rattle.model.proofs.Taken.{not-short}
 
 pub record Framed (im : List ℕ) : Type 0 where

@@ -1,51 +1,61 @@
 -- The laws of the book: what a proof cites in place of a definition's text.
+
+-- ---- tests, early returns, loops, lists
 pub mod Bools
 pub mod Early
 pub mod Loops
 pub mod Nodes
+pub mod Counting
+pub mod Picked
+pub mod Splice
+-- ---- identifiers and sets
 pub mod Ids
 pub mod Sets
-pub mod Splice
+-- ---- the lent memory and tables
 pub mod Memory
 pub mod Parts
 pub mod Zero
+pub mod Over
 pub mod Tables
+pub mod TableSteps
+pub mod OwnTable
+-- ---- soundness: its clauses as facts, and a later state
 pub mod Status
 pub mod Sound
-pub mod Learning
-pub mod Steps
-pub mod Rules
-pub mod Own
-pub mod FoundingIsSound
-pub mod Consistency
-pub mod Later
-pub mod BeginningKeepsSound
-pub mod Replaced
-pub mod Gather
-pub mod Settling
-pub mod Sender
 pub mod SoundNodes
+pub mod Later
+-- ---- founding, beginning, learning
+pub mod FoundingIsSound
+pub mod BeginningKeepsSound
+pub mod Learning
+pub mod LearningKeepsRules
+pub mod Gather
+-- ---- deliveries
+pub mod Sender
+pub mod Settling
 pub mod DeliveryDid
-pub mod TablesOnlyGrow
+pub mod ReplacingKeepsSound
 pub mod NotifyingKeepsSound
 pub mod DeliveryKeepsSound
-pub mod Lookup
+pub mod TablesOnlyGrow
 pub mod RequestBound
-pub mod Unchanged
+-- ---- lookup and verdict
+pub mod Lookup
+pub mod Consistency
+pub mod HopsUnchanged
+-- ---- images: read, written, and back
 pub mod RecordRules
-pub mod Picked
-pub mod Loading
-pub mod Counting
+pub mod LoadingIsSound
 pub mod Records
-pub mod Size
+pub mod ImageIsShort
 pub mod Sections
-pub mod Written
+pub mod WrittenIsTaken
 pub mod Frame
-pub mod Over
 pub mod Reloaded
-pub mod Reread
+pub mod ReadGivesRecords
+pub mod RoundTrip
+-- ---- refusals and calls
 pub mod Refusals
 pub mod Taken
 pub mod Calls
-pub mod RoundTrip
 pub mod Fields

@@ -21,9 +21,9 @@ use Rattle.model.proofs.Status.{IsNode, PendingOk, NotifiedOk, Notifyin
 use Rattle.model.proofs.Settling.{Settling, settles, stays, settle-attached}
 use Rattle.model.proofs.Ids.{InRange}
 use Rattle.model.proofs.Sound.{standing, Sound, node-fits}
-use Rattle.model.proofs.Rules.{OwnTable}
+use Rattle.model.proofs.LearningKeepsRules.{OwnTable}
 use Rattle.model.proofs.Later.{Later, node-later}
-use Rattle.model.proofs.Replaced.{Agree, agree-node, agree-both, agree-count, agree-kept, agree-later, replaced-ok}
+use Rattle.model.proofs.ReplacingKeepsSound.{Agree, agree-node, agree-both, agree-count, agree-kept, agree-later, replaced-ok}
 use Rattle.model.proofs.Gather.{ToNotify, Gathered, gather-has, gather-within}
 use Rattle.model.proofs.SoundNodes.{own-later, own, suffix-below, range, learned-table, learned-node}
 use Rattle.model.proofs.Sender.{CanDeliver, Receiver}

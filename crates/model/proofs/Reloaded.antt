@@ -20,14 +20,14 @@ use Rattle.model.proofs.Loops.{each-step, each-keeps}
 use Rattle.model.proofs.Memory.{zeroed-length, zeroed-within, table-set}
 use Rattle.model.proofs.FoundingIsSound.{settings-length, settings-outside}
 use Rattle.model.proofs.Tables.{GapFree, size-is, size-filled, gap-rest}
-use Rattle.model.proofs.Rules.{entries-of, gap-free}
+use Rattle.model.proofs.LearningKeepsRules.{entries-of, gap-free}
 use Rattle.model.proofs.Status.{IsNode, StatusOk, is-in-system, is-copying, is-waiting, is-notifying}
 use Rattle.model.proofs.Sound.{Sound}
-use Rattle.model.proofs.Loading.{Words, words-loaded}
+use Rattle.model.proofs.LoadingIsSound.{Words, words-loaded}
 use Rattle.model.proofs.Counting.{count-more, count-no-more}
 use Rattle.model.proofs.Records.{filledAt, filled-nonzero}
 use Rattle.model.proofs.Sections.{Pictures}
-use Rattle.model.proofs.Written.{SlotIn, slot-in, slot-place, written-readable}
+use Rattle.model.proofs.WrittenIsTaken.{SlotIn, slot-in, slot-place, written-readable}
 use Rattle.model.proofs.Over.{over, over-length, over-low, over-high, over-is, over-set, over-same, zeroed-past}
 
 -- ---- the tables

@@ -18,7 +18,7 @@ use Rattle.model.proofs.Status.{IsNode, StatusOk, is-in-system, is-copy
 use Rattle.model.proofs.Settling.{Settling, settles, stays}
 use Rattle.model.proofs.Sound.{Sound, node-fits}
 use Rattle.model.proofs.Later.{Later, suffix-later}
-use Rattle.model.proofs.Replaced.{Agree, agree-node, agree-id, agree-kept}
+use Rattle.model.proofs.ReplacingKeepsSound.{Agree, agree-node, agree-id, agree-kept}
 use Rattle.model.proofs.SoundNodes.{suffix-below}
 use Rattle.model.proofs.Sender.{CanDeliver}
 use Rattle.model.proofs.DeliveryDid.{Asking, copies-on, starts-waiting, waits-on, AsksOn, Tells, Did, did-ask, did-attach, did-notify, delivery-did}

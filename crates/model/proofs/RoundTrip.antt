@@ -20,16 +20,16 @@ use Rattle.model.proofs.Refusals.{free, first-none}
 use Rattle.model.proofs.Nodes.{nodes-of}
 use Rattle.model.proofs.Status.{IsNode}
 use Rattle.model.proofs.Sound.{Long, Sound}
-use Rattle.model.proofs.Loading.{GoodImage, Words, words-loaded, loaded-ok}
+use Rattle.model.proofs.LoadingIsSound.{GoodImage, Words, words-loaded, loaded-ok}
 use Rattle.model.proofs.Taken.{read-taken, write-taken, state-free}
 use Rattle.model.proofs.Calls.{taken-is}
 use Rattle.model.proofs.Counting.{join-at}
 use Rattle.model.proofs.Records.{placeRecord, records-flat}
 use Rattle.model.proofs.Sections.{Pictures, pictures, image-short, image-length, byte-past, byte-of-id}
 use Rattle.model.proofs.Frame.{Framed, read-free, read-framed}
-use Rattle.model.proofs.Written.{written-readable}
+use Rattle.model.proofs.WrittenIsTaken.{written-readable}
 use Rattle.model.proofs.Reloaded.{reloaded}
-use Rattle.model.proofs.Reread.{recordBytes, records-back}
+use Rattle.model.proofs.ReadGivesRecords.{recordBytes, records-back}
 use Rattle.model.specs.Nodes.{allNodes}
 
 -- the fixed lengths of one memory, and another's places past them

@@ -19,7 +19,7 @@ use Rattle.model.proofs.Ids.{InRange, suffix-other}
 use Rattle.model.proofs.Memory.{table-length}
 use Rattle.model.proofs.Status.{IsNode}
 use Rattle.model.proofs.Sound.{standing, Sound, table-fits}
-use Rattle.model.proofs.Rules.{Known, OwnTable, learn-keeps, learn-table-keeps}
+use Rattle.model.proofs.LearningKeepsRules.{Known, OwnTable, learn-keeps, learn-table-keeps}
 use Rattle.model.proofs.Later.{Later, node-later, suffix-later, table-later}
 
 pub own-later : (s s′ : List ℕ) → Later s s′ → (x : ℕ) (T : List ℕ) → IsNode s x → OwnTable s x T → OwnTable s′ x T

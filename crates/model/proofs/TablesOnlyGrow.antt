@@ -16,7 +16,7 @@ use Rattle.model.proofs.Status.{IsNode, attached-in-system, waiting-awa
 use Rattle.model.proofs.Settling.{settle-id, settle-attached}
 use Rattle.model.proofs.Sound.{Sound, node-fits, table-fits}
 use Rattle.model.proofs.Later.{Later, later-refl, node-later}
-use Rattle.model.proofs.Replaced.{agree-node, agree-count, agree-later, replaced-table}
+use Rattle.model.proofs.ReplacingKeepsSound.{agree-node, agree-count, agree-later, replaced-table}
 use Rattle.model.proofs.BeginningKeepsSound.{CanBegin, begun-later, begun-table}
 use Rattle.model.proofs.Sender.{CanDeliver}
 use Rattle.model.proofs.DeliveryDid.{Tells, Did, did-ask, did-attach, did-notify, delivery-did}

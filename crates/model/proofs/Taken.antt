@@ -23,7 +23,7 @@ use Rattle.model.proofs.Status.{IsNode, is-node, is-node-of}
 use Rattle.model.proofs.Sound.{Long, Sound, sound-ok, sound-of}
 use Rattle.model.proofs.BeginningKeepsSound.{CanBegin}
 use Rattle.model.proofs.Sender.{CanDeliver}
-use Rattle.model.proofs.Loading.{GoodImage}
+use Rattle.model.proofs.LoadingIsSound.{GoodImage}
 
 ruleset parts = (and-left, and-right)
 

@@ -19,10 +19,10 @@ use Rattle.model.proofs.Bools.{and-left, and-right, and-intro, not-both, true-o
 use Rattle.model.proofs.Status.{IsNode, is-node, is-node-of}
 use Rattle.model.proofs.Sound.{Sound}
 use Rattle.model.proofs.FoundingIsSound.{founded-ok}
-use Rattle.model.proofs.Loading.{loaded-ok}
+use Rattle.model.proofs.LoadingIsSound.{loaded-ok}
 use Rattle.model.proofs.RequestBound.{limit-le}
 use Rattle.model.proofs.Lookup.{hops-bound, path-length}
-use Rattle.model.proofs.Unchanged.{same-lookup, same-hops}
+use Rattle.model.proofs.HopsUnchanged.{same-lookup, same-hops}
 use Rattle.model.proofs.Later.{node-later}
 use Rattle.model.proofs.TablesOnlyGrow.{Onward}
 use Rattle.model.proofs.Taken.{found-taken, read-taken, lookup-free}

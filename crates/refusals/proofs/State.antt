@@ -16,7 +16,7 @@ use Rattle.model.proofs.Sound.{Sound}
 use Rattle.model.proofs.Status.{is-node}
 use Rattle.model.proofs.Taken.{state-taken}
 use Rattle.state.specs.Loaded.{Placed}
-use Rattle.refusals.specs.Refused.{Counted}
+use Rattle.refusals.specs.Refused.{NodesPlaced}
 
 -- ---- 1 and 2
 
@@ -68,7 +68,7 @@ module _ (m : Memory) (r : ℕ) (e : r ≡ stateRefusal m) where
     state-long = state-sound .long .state
 
     -- the records of a sound state's nodes stand in it
-    pub counted : Counted (m .state)
+    pub counted : NodesPlaced (m .state)
     counted = record { long = state-sound .long .state; few = state-sound .few }
 
     -- a node's record stands in the state

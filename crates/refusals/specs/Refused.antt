@@ -5,6 +5,6 @@ use lib.ListN.{length}
 use Rattle.model.specs.Memory.{stateLength, nodeCount}
 
 -- the records of the state's nodes stand in it
-pub record Counted (s : List ℕ) : Type 0 where
+pub record NodesPlaced (s : List ℕ) : Type 0 where
   pub long : stateLength ≤ length s
   pub few : nodeCount s ≤ 64

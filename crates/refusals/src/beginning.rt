@@ -4,7 +4,7 @@ ghost use Rattle.model.specs.Memory.{nodeCount};
 ghost use Rattle.model.specs.Refusals.{firstTrue, idTaken, beginSentences, beginRefusal};
 ghost use Rattle.state.specs.Lent.{memory};
 ghost use Rattle.model.proofs.Sound.{Sound};
-ghost use Rattle.refusals.specs.Refused.{Counted};
+ghost use Rattle.refusals.specs.Refused.{NodesPlaced};
 use crate::sentences;
 use answers::refusal::Refusal;
 use ident::valid_id;
@@ -14,7 +14,7 @@ use state::status::Status;
 
 // 8: "An id is a member's already".
 fn id_taken(state: &[u64], nodes: usize, id: u32) -> bool
-    requires { ⌜ Counted (now state) ⌝ }
+    requires { ⌜ NodesPlaced (now state) ⌝ }
     requires { ⌜ nodes ≡ nodeCount (now state) ⌝ }
     ensures { λ r. ⌜ r ≡ idTaken (now (state .entry)) id ⌝ }
 {

@@ -7,7 +7,7 @@ ghost use Rattle.model.specs.Nodes as book;
 ghost use Rattle.model.specs.Refusals.{stateRefusal};
 ghost use Rattle.model.specs.Nodes.{allNodes};
 ghost use Rattle.state.specs.Lent.{memory};
-ghost use Rattle.refusals.specs.Refused.{Counted};
+ghost use Rattle.refusals.specs.Refused.{NodesPlaced};
 use answers::refusal::Refusal;
 use soundness::sound;
 use state::lent;
@@ -41,7 +41,7 @@ pub fn is_node(state: &[u64], x: u64) -> bool
 
 // Not 15: "Verdict or writing finds a member not settled."
 pub fn all_in_system(state: &[u64]) -> bool
-    requires { ⌜ Counted (now state) ⌝ }
+    requires { ⌜ NodesPlaced (now state) ⌝ }
     ensures { λ r. ⌜ r ≡ allNodes (now (state .entry)) (isInSystem (now (state .entry))) ⌝ }
 {
     let nodes = settings::load(state).nodes;

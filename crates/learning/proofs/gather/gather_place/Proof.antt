@@ -1,7 +1,7 @@
 -- `gather_place`: each return is one of the definition's tests that fails, the last that all hold. Assumes nothing.
 use native.Mathlib.Omega.{arith}
 use borrow.Author.Needs.{needs}
-use Rattle.model.proofs.Steps.{gather-empty, gather-own, gather-far, gather-notified, gather-adds}
+use Rattle.model.proofs.TableSteps.{gather-empty, gather-own, gather-far, gather-notified, gather-adds}
 use Rattle.learning.proofs.gather.gather_place.Statement.{statement}
 use Rattle.learning.proofs.gather.gather_place.Tie as tie
 

@@ -6,7 +6,7 @@ use borrow.Author.Needs.{needs}
 use Rattle.model.specs.Loops.{eachBelow}
 use Rattle.model.specs.Learning.{learnAt}
 use Rattle.model.proofs.Loops.{each-step}
-use Rattle.model.proofs.Steps.{learn-starts, learn-none, learn-ends}
+use Rattle.model.proofs.TableSteps.{learn-starts, learn-none, learn-ends}
 use Rattle.learning.proofs.learn.learn.Statement.{statement}
 use Rattle.learning.proofs.learn.learn.Tie as tie
 

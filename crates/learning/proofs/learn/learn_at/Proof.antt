@@ -1,6 +1,6 @@
 -- `learn_at`: the three ways are that the entry holds `u`, that it has room, and that it is full. Assumes nothing.
 use borrow.Author.Needs.{needs}
-use Rattle.model.proofs.Steps.{learn-at-held, learn-at-room, learn-at-full}
+use Rattle.model.proofs.TableSteps.{learn-at-held, learn-at-room, learn-at-full}
 use Rattle.learning.proofs.learn.learn_at.Statement.{statement}
 use Rattle.learning.proofs.learn.learn_at.Tie as tie
 

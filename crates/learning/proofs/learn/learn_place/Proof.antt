@@ -1,7 +1,7 @@
 -- `learn_place`: the definition's tests, in its order. Assumes nothing.
 use native.Mathlib.Omega.{arith}
 use borrow.Author.Needs.{needs}
-use Rattle.model.proofs.Steps.{place-empty, place-own, place-learns}
+use Rattle.model.proofs.TableSteps.{place-empty, place-own, place-learns}
 use Rattle.learning.proofs.learn.learn_place.Statement.{statement}
 use Rattle.learning.proofs.learn.learn_place.Tie as tie
 

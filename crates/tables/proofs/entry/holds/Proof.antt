@@ -4,7 +4,7 @@ use mathlib.Core.Path.{_≡_}
 use mathlib.Core.Bool.{false}
 use native.Mathlib.Omega.{arith}
 use Rattle.model.specs.Tables.{slotPlace, holds}
-use Rattle.model.proofs.Steps.{holds-none, holds-goes, holds-leaves, holds-ends}
+use Rattle.model.proofs.TableSteps.{holds-none, holds-goes, holds-leaves, holds-ends}
 use Rattle.tables.proofs.entry.holds.Statement.{statement}
 use Rattle.tables.proofs.entry.holds.Tie as tie
 

@@ -2,7 +2,7 @@
 use Prim.Native.Nat.{_≤_, _-_}
 use native.Mathlib.Omega.{arith}
 use Rattle.model.specs.Tables.{entrySize}
-use Rattle.model.proofs.Steps.{size-goes, size-leaves, size-ends}
+use Rattle.model.proofs.TableSteps.{size-goes, size-leaves, size-ends}
 use Rattle.tables.proofs.entry.size.Statement.{statement}
 use Rattle.tables.proofs.entry.size.Tie as tie
 

@@ -7,7 +7,7 @@ use lib.ListN.{replicate}
 use Rattle.model.specs.Loops.{eachBelow}
 use Rattle.model.specs.Tables.{ownSlot, ownTable}
 use Rattle.model.proofs.Loops.{each-zero, each-ends}
-use Rattle.model.proofs.Steps.{own-goes}
+use Rattle.model.proofs.TableSteps.{own-goes}
 use Rattle.tables.proofs.own.own_table.Statement.{statement}
 use Rattle.tables.proofs.own.own_table.Tie as tie
 

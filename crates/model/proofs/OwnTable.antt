@@ -20,7 +20,7 @@ use Rattle.model.proofs.Loops.{each-leads}
 use Rattle.model.proofs.Ids.{InRange, digit-lt, valid-digit, suffix-self, qualified-of}
 use Rattle.model.proofs.Sound.{SlotOk, slot-used}
 use Rattle.model.proofs.Status.{IsNode}
-use Rattle.model.proofs.Rules.{OwnTable}
+use Rattle.model.proofs.LearningKeepsRules.{OwnTable}
 
 -- the own entries of the levels below m are written, and no other place
 record Own (id x m : ℕ) (T : List ℕ) : Type 0 where

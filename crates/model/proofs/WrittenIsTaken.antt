@@ -23,7 +23,7 @@ use Rattle.model.proofs.Memory.{table-at}
 use Rattle.model.proofs.Status.{IsNode}
 use Rattle.model.proofs.Sound.{SlotOk, Sound, table-fits, used-place}
 use Rattle.model.proofs.RecordRules.{entryKey, key-le, SameEntry, same-entry, of-same-entry}
-use Rattle.model.proofs.Loading.{GoodImage}
+use Rattle.model.proofs.LoadingIsSound.{GoodImage}
 use Rattle.model.proofs.Counting.{Ranked, count-finds, count-mono, count-rises, count-most}
 use Rattle.model.proofs.Records.{filledAt, place-at, filled-nonzero, filled-of}
 use Rattle.model.proofs.Sections.{Pictures}

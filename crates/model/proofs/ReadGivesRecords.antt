@@ -19,7 +19,7 @@ use Rattle.model.proofs.Loops.{each-leads, count-same, join-same}
 use Rattle.model.proofs.Memory.{zeroed-length, zeroed-within, table-at, table-set}
 use Rattle.model.proofs.Tables.{size-is}
 use Rattle.model.proofs.RecordRules.{entryKey, key-le, SameEntry, of-same-entry, in-order, is-allowed}
-use Rattle.model.proofs.Loading.{GoodImage}
+use Rattle.model.proofs.LoadingIsSound.{GoodImage}
 use Rattle.model.proofs.Counting.{count-more, join-skip}
 use Rattle.model.proofs.Records.{placeRecord, filled-of, record-some, record-none}
 
@@ -47,7 +47,7 @@ digit-of x i j k a hi hj hk e = omega arith
 
 module _ (im : List ℕ) (R : GoodImage im) where
   -- what the rules say of record r
-  record Kept (r : ℕ) : Type 0 where
+  record RecordKept (r : ℕ) : Type 0 where
     first : 1 ≤ recNode im r
     last : recNode im r ≤ imNodes im
     level : recLevel im r < 8
@@ -55,7 +55,7 @@ module _ (im : List ℕ) (R : GoodImage im) where
     some : 1 ≤ recNeighbor im r
     room : earlier im r < imDepth im
 
-  kept : (r : ℕ) → r < imRecords im → Kept r
+  kept : (r : ℕ) → r < imRecords im → RecordKept r
   kept r h =
       let o = in-order im r (R .ordered r h) in
       record {
@@ -72,10 +72,10 @@ module _ (im : List ℕ) (R : GoodImage im) where
   unfolding risesFrom
   follows q h = go (ℕ-discrete (entryOf im q) (entryOf im (suc q)))
     where
-      Q : Kept q
+      Q : RecordKept q
       Q = kept q (omega arith)
 
-      K : Kept (suc q)
+      K : RecordKept (suc q)
       K = kept (suc q) h
 
       one-less : suc q - 1 ≡ q
@@ -113,7 +113,7 @@ module _ (im : List ℕ) (R : GoodImage im) where
   -- ---- the tables after r records
 
   -- the places from `end` on are empty, those before it are the first r records, and the last record's entry is filled up to there
-  record Streamed (r : ℕ) (t : List ℕ) : Type 0 where
+  record ReadUpTo (r : ℕ) (t : List ℕ) : Type 0 where
     end : ℕ
     long : tablesLength ≤ length t
     within : end ≤ 512 * imNodes im
@@ -125,23 +125,23 @@ module _ (im : List ℕ) (R : GoodImage im) where
     filled : (q : ℕ) → r ≡ suc q → (p : ℕ) → 4 * entryOf im q ≤ p → p < end → getD t p 0 ≢ 0
 
   -- where record r goes
-  record Goes (r : ℕ) (t : List ℕ) (end a : ℕ) : Type 0 where
+  record NextRecord (r : ℕ) (t : List ℕ) (end a : ℕ) : Type 0 where
     from : 4 * entryOf im r ≤ a
     behind : end ≤ a
     slot : a ≤ 4 * entryOf im r + earlier im r
     filled : (p : ℕ) → 4 * entryOf im r ≤ p → p < a → getD t p 0 ≢ 0
 
   -- behind the last record of its entry, or first in a later entry
-  goes : (r : ℕ) → r < imRecords im → (t : List ℕ) (L : Streamed r t) → (a : ℕ) × Goes r t (L .end) a
+  goes : (r : ℕ) → r < imRecords im → (t : List ℕ) (L : ReadUpTo r t) → (a : ℕ) × NextRecord r t (L .end) a
   goes zero h t L =
       let z : L .end ≡ 0 = L .start refl in
       (4 * entryOf im 0, record { from = omega arith; behind = omega arith; slot = omega arith; filled = λ p l g. absurd (omega arith) })
   goes (suc q) h t L = ⊎-elim later same (follows q h)
     where
-      Q : Kept q
+      Q : RecordKept q
       Q = kept q (omega arith)
 
-      later : entryOf im q < entryOf im (suc q) → (a : ℕ) × Goes (suc q) t (L .end) a
+      later : entryOf im q < entryOf im (suc q) → (a : ℕ) × NextRecord (suc q) t (L .end) a
       later l = (
         4 * entryOf im (suc q),
         record {
@@ -152,7 +152,7 @@ module _ (im : List ℕ) (R : GoodImage im) where
         },
       )
 
-      same : SameEntry im (suc q) q → (a : ℕ) × Goes (suc q) t (L .end) a
+      same : SameEntry im (suc q) q → (a : ℕ) × NextRecord (suc q) t (L .end) a
       same S =
           let e : entryOf im q ≡ entryOf im (suc q) =
           ap₂ (λ (x i : ℕ). 128 * (x - 1) + 16 * i + recDigit im q) (S .node) (S .level)
@@ -166,8 +166,8 @@ module _ (im : List ℕ) (R : GoodImage im) where
             },
           )
 
-  module _ (r : ℕ) (h : r < imRecords im) (t : List ℕ) (L : Streamed r t) (a : ℕ) (G : Goes r t (L .end) a) where
-    K : Kept r
+  module _ (r : ℕ) (h : r < imRecords im) (t : List ℕ) (L : ReadUpTo r t) (a : ℕ) (G : NextRecord r t (L .end) a) where
+    K : RecordKept r
     K = kept r h
 
     abbrev x : ℕ
@@ -258,7 +258,7 @@ module _ (im : List ℕ) (R : GoodImage im) where
         ∙ ap₂ (λ (j u : ℕ). x ∷ i ∷ j ∷ u ∷ []) ej at-a
 
     -- the tables after it
-    next : Streamed (suc r) (loadRecord im r t)
+    next : ReadUpTo (suc r) (loadRecord im r t)
     unfolding t′ joinBelow
     next =
         rw loads
@@ -284,10 +284,10 @@ module _ (im : List ℕ) (R : GoodImage im) where
   -- ---- all records
 
   -- from empty tables on
-  streamed : (t : List ℕ) → tablesLength ≤ length t → Streamed (imRecords im) (eachBelow (imRecords im) (loadRecord im) (zeroed tablesLength t))
+  streamed : (t : List ℕ) → tablesLength ≤ length t → ReadUpTo (imRecords im) (eachBelow (imRecords im) (loadRecord im) (zeroed tablesLength t))
   unfolding joinBelow
   streamed t long =
-      each-leads Streamed (imRecords im) (loadRecord im) (zeroed tablesLength t)
+      each-leads ReadUpTo (imRecords im) (loadRecord im) (zeroed tablesLength t)
       (record {
         end = 0;
         long = omega (arith, zeroed-length tablesLength t long);
@@ -305,7 +305,7 @@ module _ (im : List ℕ) (R : GoodImage im) where
   pub records-back : (t : List ℕ) → tablesLength ≤ length t
       → joinBelow (512 * imNodes im) (placeRecord (eachBelow (imRecords im) (loadRecord im) (zeroed tablesLength t))) ≡ joinBelow (imRecords im) (recordBytes im)
   records-back t long =
-      let L : Streamed (imRecords im) (eachBelow (imRecords im) (loadRecord im) (zeroed tablesLength t)) = streamed t long in
+      let L : ReadUpTo (imRecords im) (eachBelow (imRecords im) (loadRecord im) (zeroed tablesLength t)) = streamed t long in
       let t₂ : List ℕ = eachBelow (imRecords im) (loadRecord im) (zeroed tablesLength t) in
       join-skip (L .end) (512 * imNodes im) (placeRecord t₂) (L .within)
       (λ p l g. record-none t₂ p (L .zero p l (omega (arith, R .few, g))))

@@ -27,7 +27,7 @@ use Rattle.model.proofs.FoundingIsSound.{Settings, settings-length, set
 use Rattle.model.proofs.Status.{IsNode, is-in-system}
 use Rattle.model.proofs.Sound.{Long, Sound}
 use Rattle.model.proofs.Tables.{entry-length, entry-at, entry-none, holds-none, gap-rest, append-length, append-entry, append-apart}
-use Rattle.model.proofs.Rules.{Entries, Addable, gap-free, append-entries}
+use Rattle.model.proofs.LearningKeepsRules.{Entries, Addable, gap-free, append-entries}
 use Rattle.model.proofs.RecordRules.{in-order, is-allowed}
 use Rattle.model.proofs.Picked.{picked, Origin, picked-length, picked-origin, picked-first}
 

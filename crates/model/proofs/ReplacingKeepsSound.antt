@@ -14,7 +14,7 @@ use Rattle.model.proofs.Memory.{same-id, node-same, node-length, node-s
 use Rattle.model.proofs.Status.{IsNode, RecordOk, StatusOk, attached-same, in-system-same}
 use Rattle.model.proofs.Ids.{InRange}
 use Rattle.model.proofs.Sound.{TableOk, Long, Sound, node-fits, table-fits}
-use Rattle.model.proofs.Rules.{OwnTable}
+use Rattle.model.proofs.LearningKeepsRules.{OwnTable}
 use Rattle.model.proofs.Later.{Later, table-later, status-later}
 
 -- two states that agree but for node x's record, in which x has the same id
