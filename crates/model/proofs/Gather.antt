@@ -10,11 +10,9 @@ use borrow.Author.Tests.{eqb-false, leb-true, not-true}
 use Rattle.model.specs.Memory.{hasNode, addNode}
 use Rattle.model.specs.Nodes.{suffixOf}
 use Rattle.model.specs.Join.{toNotify, gatherPlace, gather}
-use Rattle.model.proofs.Bools.{and-left, and-right, true-or-false}
+use Rattle.model.proofs.Bools.{true-or-false, parts}
 use Rattle.model.proofs.Loops.{each-keeps}
 use Rattle.model.proofs.Sets.{has-add, add-within}
-
-ruleset parts = (and-left, and-right)
 
 -- x is to notify u
 pub record ToNotify (s : List ℕ) (x k notified u : ℕ) : Type 0 where

@@ -73,7 +73,7 @@ module _ (a b c d v : ℕ) (ha : a < 256) (hb : b < 256) (hc : c < 256) (hd : d 
   four-at (suc (suc (suc (suc f)))) h = absurd (omega arith)
 
 -- two bytes of a number that two bytes make
-low-byte : (a b : ℕ) → a < 256 → (a + 256 * b) % 256 ≡ a
+pub low-byte : (a b : ℕ) → a < 256 → (a + 256 * b) % 256 ≡ a
 low-byte a b ha = omega arith
 
 high-byte : (a b : ℕ) → a < 256 → b < 256 → (a + 256 * b) / 256 % 256 ≡ b

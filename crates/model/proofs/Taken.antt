@@ -14,7 +14,7 @@ use Rattle.model.specs.Nodes.{isNode}
 use Rattle.model.specs.Sound.{sound}
 use Rattle.model.specs.Image.{imNodes, imBase, imDigits, imDepth, imRecords, imId, imIdValid, imIdDiffers, imIdNew, imIsNode, recNode, recNeighbor, recNodesGood, recOrdered, recAllowed, recOwnerFirst, ownHaveRecords, recordsGood, imageOf}
 use Rattle.model.specs.Refusals.{Sentence, firstTrue, memoryShort, unsound, hasId, areNodes, someNotInSystem, stateSentences, foundRefusal, readRefusal, stateRefusal, beginRefusal, deliverRefusal, lookupRefusal, verdictRefusal, writeRefusal}
-use Rattle.model.proofs.Bools.{and-left, and-right, and-intro, or-none-left, or-none-right}
+use Rattle.model.proofs.Bools.{and-left, and-right, and-intro, or-none-left, or-none-right, parts}
 use Rattle.model.proofs.Refusals.{numbered, testOf, passed, free, first-none}
 use Rattle.model.proofs.Loops.{all-at}
 use Rattle.model.proofs.Nodes.{nodes-at, no-node-at}
@@ -24,8 +24,6 @@ use Rattle.model.proofs.Sound.{Long, Sound, sound-ok, sound-of}
 use Rattle.model.proofs.BeginningKeepsSound.{CanBegin}
 use Rattle.model.proofs.Sender.{CanDeliver}
 use Rattle.model.proofs.LoadingIsSound.{GoodImage}
-
-ruleset parts = (and-left, and-right)
 
 pub long-of : (m : Memory) → memoryShort m ≡ false → Long (m .state) (m .tables)
 long-of m e =

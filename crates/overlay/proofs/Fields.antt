@@ -16,12 +16,10 @@ use Rattle.packing.specs.declared.delivered.Numbers.{Numbers}
 use Rattle.packing.specs.Numbers.{listed}
 use Rattle.packing.specs.Packed.{packed, Fit}
 use Rattle.overlay.specs.Packed.{packing, gives}
+use Rattle.model.proofs.RoundTrip.{low-byte}
 use Rattle.model.proofs.Fields.{Bytes, begin-bytes, deliver-bytes, lookup-bytes, verdict-bytes}
 
 -- ---- shift and mask give a field back
-
-first-field : (field rest : ℕ) → field < 256 → (field + 256 * rest) % 256 ≡ field
-first-field field rest h = omega arith
 
 later-fields : (field rest k : ℕ) → field < 256 → (field + 256 * rest) / 256 ^ suc k ≡ rest / 256 ^ k
 later-fields field rest k h =
@@ -34,7 +32,7 @@ later-fields field rest k h =
 pub unpacked : (fields : List ℕ) (k : ℕ) → Bytes fields → packed fields / 256 ^ k % 256 ≡ getD fields k 0
 unfolding packed Bytes
 unpacked [] k h = ap (λ (n : ℕ). n % 256) (zero-div (256 ^ k))
-unpacked (field ∷ fields) zero h = ap (λ (n : ℕ). n % 256) (omega arith) ∙ first-field field (packed fields) (h .0)
+unpacked (field ∷ fields) zero h = ap (λ (n : ℕ). n % 256) (omega arith) ∙ low-byte field (packed fields) (h .0)
 unpacked (field ∷ fields) (suc k) h = ap (λ (n : ℕ). n % 256) (later-fields field (packed fields) k (h .0)) ∙ unpacked fields k (h .1)
 
 -- ---- what the calls pack

@@ -3,10 +3,10 @@ ghost use mathlib.Core.Path.{_≡_};
 ghost use lib.ListN.{length};
 
 mod play;
-mod say;
-mod table;
 
 use libc::STDIN_FILENO;
+use replay_words::say;
+use replay_words::table;
 use script::command;
 use script::command::Command;
 use script::words;
@@ -17,9 +17,21 @@ fn not_understood(number: u64) {
     say::text(b": not understood\n");
 }
 
+// The commands that change no network.
+fn look(state: &[u64], tables: &[u8], text: &[u8], command: Command) {
+    match command {
+        Command::Lookup(from, to) => play::lookup(state, tables, from, to),
+        Command::Verdict => play::verdict(state, tables),
+        Command::Save => play::save(state, tables, words::word(text, 1)),
+        Command::Table(x) => table::show(state, tables, x),
+        _ => return,
+    }
+}
+
 // One line of the script, which has this number.
 fn line(state: &mut [u64], tables: &mut [u8], text: &[u8], number: u64) {
-    match command::parsed(text) {
+    let command = command::parsed(text);
+    match command {
         Command::Nothing => return,
         Command::Unknown => not_understood(number),
         Command::Found(base, digits, depth, id) => {
@@ -27,11 +39,8 @@ fn line(state: &mut [u64], tables: &mut [u8], text: &[u8], number: u64) {
         }
         Command::Begin(id, gateway) => play::begin(state, tables, id, gateway),
         Command::Deliver(sender, receiver) => play::deliver(state, tables, sender, receiver),
-        Command::Lookup(from, to) => play::lookup(state, tables, from, to),
-        Command::Verdict => play::verdict(state, tables),
-        Command::Save => play::save(state, tables, words::word(text, 1)),
         Command::Load => play::load(state, tables, words::word(text, 1)),
-        Command::Table(x) => table::show(state, tables, x),
+        _ => look(state, tables, text, command),
     }
 }
 

@@ -1,11 +1,11 @@
 // Each command played by the public calls, and its answer in words.
-use crate::say;
-use answers::Kind;
 use engine::beginning;
 use engine::delivering;
 use engine::founding;
 use engine::reading;
 use engine::writing;
+use replay_words::answer;
+use replay_words::say;
 
 pub fn found(state: &mut [u64], tables: &mut [u8], base: u64, digits: u64, depth: u64, id: u32) {
     let r = founding::found(state, tables, base, digits, depth, id);
@@ -17,86 +17,19 @@ pub fn found(state: &mut [u64], tables: &mut [u8], base: u64, digits: u64, depth
 }
 
 pub fn begin(state: &mut [u64], tables: &mut [u8], id: u32, gateway: u64) {
-    let r = beginning::begin(state, tables, id, gateway);
-    if r.refusal != 0 {
-        say::refused(r.refusal);
-        return;
-    }
-    say::line(b"begin: node ", r.node);
-}
-
-// What a taken delivery was, and whether the sender settled.
-fn took(kind: Kind, settled: bool) {
-    match kind {
-        Kind::Refused(_) => return,
-        Kind::Copied => say::text(b"deliver: copied"),
-        Kind::SentOn => say::text(b"deliver: sent on"),
-        Kind::Attached(level) => attached(level),
-        Kind::Notified => say::text(b"deliver: notified"),
-    }
-    if settled {
-        say::text(b", settled");
-    }
-    say::text(b"\n");
-}
-
-fn attached(level: u64) {
-    say::text(b"deliver: attached at level ");
-    say::number(level);
+    answer::begin(beginning::begin(state, tables, id, gateway));
 }
 
 pub fn deliver(state: &mut [u64], tables: &mut [u8], sender: u64, receiver: u64) {
-    let r = delivering::deliver(state, tables, sender, receiver);
-    let kind = r.kind;
-    if let Kind::Refused(number) = kind {
-        say::refused(number);
-        return;
-    }
-    took(kind, r.settled);
-}
-
-fn hops(n: u64) {
-    say::number(n);
-    if n == 1 {
-        say::text(b" hop\n");
-        return;
-    }
-    say::text(b" hops\n");
+    answer::deliver(delivering::deliver(state, tables, sender, receiver));
 }
 
 pub fn lookup(state: &[u64], tables: &[u8], from: u64, to: u64) {
-    let r = engine::lookup::lookup(state, tables, from, to);
-    if r.refusal != 0 {
-        say::refused(r.refusal);
-        return;
-    }
-    if r.arrived {
-        say::text(b"lookup: arrived at ");
-    } else {
-        say::text(b"lookup: lost at ");
-    }
-    say::number(r.last);
-    say::text(b" in ");
-    hops(r.hops);
+    answer::lookup(engine::lookup::lookup(state, tables, from, to));
 }
 
 pub fn verdict(state: &[u64], tables: &[u8]) {
-    let r = engine::verdict::verdict(state, tables);
-    if r.refusal != 0 {
-        say::refused(r.refusal);
-        return;
-    }
-    if r.consistent {
-        say::text(b"verdict: consistent\n");
-        return;
-    }
-    say::text(b"verdict: node ");
-    say::number(r.node);
-    say::text(b" level ");
-    say::number(r.level);
-    say::text(b" digit ");
-    say::hex(r.digit, 1);
-    say::text(b" falls short\n");
+    answer::verdict(engine::verdict::verdict(state, tables));
 }
 
 // Writes the first n bytes to a file of this name, which is made or emptied first.

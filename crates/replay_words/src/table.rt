@@ -1,6 +1,8 @@
 // A node's record and table in words.
 ghost use Prim.Native.Nat.{_<_};
 use crate::say;
+use answers::refusal::Refusal;
+use state::status::Status;
 
 fn byte(tables: &[u8], at: usize) -> u8 {
     if at < tables.len() {
@@ -58,9 +60,9 @@ fn entries(tables: &[u8], start: usize)
 
 fn status(number: u64) {
     match number {
-        0 => say::text(b"settled"),
-        1 => say::text(b"copying"),
-        2 => say::text(b"waiting"),
+        Status::IN_SYSTEM => say::text(b"settled"),
+        Status::COPYING => say::text(b"copying"),
+        Status::WAITING => say::text(b"waiting"),
         _ => say::text(b"notifying"),
     }
 }
@@ -87,11 +89,11 @@ pub fn show(state: &[u64], tables: &[u8], x: u64) {
         return;
     }
     if x < 1 {
-        say::refused(9);
+        say::refused(Refusal::NO_SUCH_NODE);
         return;
     }
     if x > state_word(state, 3) {
-        say::refused(9);
+        say::refused(Refusal::NO_SUCH_NODE);
         return;
     }
     if x < 65 {

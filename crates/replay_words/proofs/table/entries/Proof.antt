@@ -2,8 +2,8 @@
 use Prim.Native.Nat.{_-_}
 use native.Mathlib.Omega.{arith}
 use borrow.Author.Needs.{needs}
-use Rattle.replay.proofs.table.entries.Statement.{statement}
-use Rattle.replay.proofs.table.entries.Tie as tie
+use Rattle.replay_words.proofs.table.entries.Statement.{statement}
+use Rattle.replay_words.proofs.table.entries.Tie as tie
 
 abbrev Inv-loop : tie.InvT-loop
 Inv-loop tables start e₀ e = Unit {0}
