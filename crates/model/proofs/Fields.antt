@@ -11,8 +11,8 @@ use Rattle.model.specs.Memory.{Memory, base, digits, nodeCount, inSystem
 use Rattle.model.specs.Join.{delivery}
 use Rattle.model.specs.Lookup.{lookup}
 use Rattle.model.specs.Consistency.{consistent, nodeShort, levelShort, entryShort, firstShort, verdict}
-use Rattle.model.specs.Refusals.{Sentence, firstTrue, beginRefusal, deliverRefusal, lookupRefusal, verdictRefusal, readRefusal}
-use Rattle.model.specs.Calls.{Outcome, refusedAt, refused, taken, unlessRefused, deliveryFields, verdictFields, readCall, beginCall, deliverCall, lookupCall, verdictCall}
+use Rattle.model.specs.Refusals.{Sentence, firstTrue, beginRefusal, deliverRefusal, lookupRefusal, verdictRefusal}
+use Rattle.model.specs.Calls.{Outcome, refusedAt, refused, taken, unlessRefused, deliveryFields, verdictFields, beginCall, deliverCall, lookupCall, verdictCall}
 use Rattle.model.proofs.Refusals.{numbered, first-below}
 use Rattle.model.proofs.Calls.{either-end}
 use Rattle.model.proofs.Loops.{first-le}
@@ -80,10 +80,6 @@ lookup-bytes m u z =
     let few : nodeCount (m .state) ≤ 64 = c .0 .few in
     let most : digits (m .state) ≤ 8 = c .0 .settings .digits-most in
     (omega arith, (omega (arith, e .0), (omega (arith, h, most), (omega (arith, e .1, few), _)))))
-
-pub read-bytes : (m : Memory) (im : List ℕ) → Bytes (readCall m im .answer)
-unfolding Bytes readRefusal readCall taken numbered
-read-bytes m im = bytes-unless m [] _ 0 _ refl (λ z. (omega arith, _))
 
 judged-bytes : (s t : List ℕ) → Sound s t → Bytes (verdictFields (verdict s t))
 unfolding Bytes verdict firstShort

@@ -202,7 +202,7 @@ module _ (im s : List ℕ) (R : GoodImage im) (W : Words im s) where
   all-attached x n = ap (λ (v : ℕ). eqb v 0 || eqb v 3) (all-settled x n)
 
   -- what the image's rules say of record r, in terms of the state
-  pub record RecordOk (r : ℕ) : Type 0 where
+  pub record RecordFits (r : ℕ) : Type 0 where
     pub owner : IsNode s (recNode im r)
     pub neighbor : IsNode s (recNeighbor im r)
     pub level : recLevel im r < digits s
@@ -214,7 +214,7 @@ module _ (im s : List ℕ) (R : GoodImage im) (W : Words im s) where
   node-of : {x : ℕ} → 1 ≤ x → x ≤ imNodes im → IsNode s x
   node-of a b = record { low = a; high = omega (arith, W .settings .count) }
 
-  pub record-ok : (r : ℕ) → r < imRecords im → RecordOk r
+  pub record-ok : (r : ℕ) → r < imRecords im → RecordFits r
   unfolding sameEntry
   record-ok r h =
       let o = in-order im r (R .ordered r h) in
@@ -250,7 +250,7 @@ module _ (im s : List ℕ) (R : GoodImage im) (W : Words im s) where
     abbrev T : List ℕ
     T = tableOf t (recNode im r)
 
-    ok : RecordOk r
+    ok : RecordFits r
     ok = record-ok r h
 
     T-long : length T ≡ 512
