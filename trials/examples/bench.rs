@@ -21,7 +21,7 @@ const IN_FLIGHT: usize = 4;
 /// Calls that judge the state first.
 const JUDGING: [&str; 5] = ["begin", "deliver", "lookup", "verdict", "write"];
 
-/// A founding, then beginnings and deliveries in any order until all nodes are in the system.
+/// A founding, then beginnings and deliveries in any order until all nodes are in system.
 fn growth(settings: [u64; 3], nodes: usize, rng: &mut Rng) -> Vec<Call> {
     let mut memory = Lent::noise();
     let mut calls = vec![Call::Found { settings, id: 0 }];

@@ -137,7 +137,7 @@ impl Expected {
 }
 
 fn delivered(answer: u64) -> String {
-    let step = match field(answer, 1) {
+    let kind = match field(answer, 1) {
         1 => "copied".into(),
         2 => "sent on".into(),
         3 => format!("attached at level {}", field(answer, 2)),
@@ -148,7 +148,7 @@ fn delivered(answer: u64) -> String {
     } else {
         ""
     };
-    format!("deliver: {step}{settled}")
+    format!("deliver: {kind}{settled}")
 }
 
 fn looked_up(answer: u64) -> String {

@@ -1,4 +1,5 @@
-// What the calls answer, each a struct with the refusal first, 0 for none: on a refusal every other field is zero or false.
+// What the calls answer, and the refusals by name. Founding and reading answer the refusal alone, 0 for none. In the others it is the first
+// field, or of a delivery a kind of its own, and on a refusal every other field is zero or false.
 pub mod refusal;
 
 // Beginning a join: the new node's number.

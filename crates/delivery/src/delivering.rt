@@ -13,7 +13,7 @@ use delivery_waiting::deliver_waiting;
 use state::record;
 use state::status::Status;
 
-// The delivery of an outstanding request from x to y. A settled node has none, and no other number is a status.
+// The delivery of an outstanding request from x to y. A node in system has none, and no other number is a status.
 pub fn deliver(state: &mut [u64], tables: &mut [u8], x: usize, y: usize) -> DeliverAnswer
     requires { ⌜ Sound (now state) (now tables) ⌝ }
     requires { ⌜ CanDeliver (now state) x y ⌝ }

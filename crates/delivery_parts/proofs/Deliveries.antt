@@ -15,7 +15,7 @@ use Rattle.model.specs.Join.{deliverCopying, deliverSentOn, deliverAttached, de
 use Rattle.model.specs.Calls.{Outcome, taken, deliveryFields}
 use Rattle.model.proofs.Sound.{Sound}
 use Rattle.model.proofs.Sender.{CanDeliver, Sending, copies, waits, notifies, sends, Receiver}
-use Rattle.model.proofs.DeliveryDid.{to-receiver}
+use Rattle.model.proofs.DeliveryDid.{levelAt, stateAt, pendingAt, to-receiver}
 use Rattle.model.proofs.Memory.{same-level, same-pending, same-notified, stored-twice, table-back}
 use Rattle.model.proofs.Settling.{settled-is}
 use Rattle.state.specs.declared.record.Node.{Node}
@@ -99,7 +99,7 @@ module _ (s t : List ℕ) (x y : ℕ) (d : Delivers s t x y) where
       (es ∙ ap (withNode s x) (er ∙ ap₂ (λ (m : Record) (v : ℕ). joiningNode m waiting v) o ev)) (kept t₁ _ et) refl
 
   abbrev k₀ : ℕ
-  k₀ = attachLevel s (tableOf t y) x (suffixOf s x y)
+  k₀ = levelAt s t x y
 
   abbrev notified₀ : ℕ
   notified₀ = addNode 0 y
@@ -108,7 +108,7 @@ module _ (s t : List ℕ) (x y : ℕ) (d : Delivers s t x y) where
   r₀ = notifyingNode (nodeOf s x) k₀ 0 notified₀
 
   abbrev s₀ : List ℕ
-  s₀ = withNode s x r₀
+  s₀ = stateAt s t x y
 
   abbrev Ty₀ : List ℕ
   Ty₀ = learn s₀ y x (tableOf t y)
@@ -117,7 +117,7 @@ module _ (s t : List ℕ) (x y : ℕ) (d : Delivers s t x y) where
   Tx₀ = learnTable s₀ x (tableOf t y) (tableOf t x)
 
   abbrev pending₀ : ℕ
-  pending₀ = gather s x k₀ notified₀ Ty₀ (gather s x k₀ notified₀ Tx₀ 0)
+  pending₀ = pendingAt s t x y
 
   meets₀ : Meets s₀ t x y
   meets₀ = meets-notifying s t s₀ x y k₀ notified₀ d refl
@@ -220,5 +220,5 @@ module _ (s t : List ℕ) (x y n : ℕ) (S : Sound s t) (c : CanDeliver s x y) (
       go (waits q f h i) = absurd (b (e ∙ q))
       go (notifies q f h) = absurd (d (e ∙ q))
 
-  pub settled-asks-nothing : n ≡ 0 → o ≡ p
-  settled-asks-nothing z = other-asks-nothing (λ q. absurd (omega arith)) (λ q. absurd (omega arith)) (λ q. absurd (omega arith))
+  pub in-system-asks-nothing : n ≡ 0 → o ≡ p
+  in-system-asks-nothing z = other-asks-nothing (λ q. absurd (omega arith)) (λ q. absurd (omega arith)) (λ q. absurd (omega arith))

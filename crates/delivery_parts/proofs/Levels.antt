@@ -1,4 +1,4 @@
--- Room in the receiver's table: the entry that is read, and the attach level that is found from the match down. Assumes nothing.
+-- Room in the receiver's table: the entry that is read, and the attach level that is found from the common suffix down. Assumes nothing.
 use Prim.Native.Nat.{ℕ, suc, _-_, _≤_, _<_}
 use mathlib.Core.Path.{_≡_, sym, ap, ap₂, subst, _∙_}
 use mathlib.Core.Bool.{Bool, true, false, not, _||_}
@@ -24,24 +24,24 @@ use Rattle.learning.specs.Learners.{LearnerOf}
 use Rattle.delivery_parts.specs.declared.room.SuffixEntry.{SuffixEntry}
 use Rattle.delivery_parts.specs.Delivers.{Delivers, Level, roomAt, EntryOf}
 
--- ---- the entry at the match
+-- ---- the entry at the common suffix
 
 module _ (s t : List ℕ) (x y : ℕ) (d : Delivers s t x y) (r : Learner) (e : r .number ≡ x) where
-  match-below : (h : ℕ) → h ≡ suffixOf s (r .number) y → h < 8
-  match-below h eh =
+  suffix-under : (h : ℕ) → h ≡ suffixOf s (r .number) y → h < 8
+  suffix-under h eh =
       let w : h ≡ suffixOf s x y = eh ∙ ap (λ (z : ℕ). suffixOf s z y) e in
       omega (arith, w, suffix-below s t (d .sound) x y (d .sender) (d .receiver) (d .other), d .sound .settings .digits-most)
 
-  -- the level of y's table at the match
+  -- the level of y's table at the common suffix
   pub level-at : (Y : List ℕ) (h : ℕ) → LearnerOf s r → length Y ≡ 512 → h ≡ suffixOf s (r .number) y → Level Y (r .depth) h
   level-at Y h o l eh = record {
     long = omega (arith, l);
     depth = omega (arith, o .depth, d .sound .settings .depth-most);
-    level = match-below h eh;
+    level = suffix-under h eh;
   }
 
   pub entry-at : (Y : List ℕ) (h j : ℕ) → length Y ≡ 512 → h ≡ suffixOf s (r .number) y → j < 16 → Entry Y 1 h j
-  entry-at Y h j l eh g = record { long = omega (arith, l); depth = omega arith; level = match-below h eh; digit = g }
+  entry-at Y h j l eh g = record { long = omega (arith, l); depth = omega arith; level = suffix-under h eh; digit = g }
 
 -- what is read with x's id is what the book says
 room-is : (s : List ℕ) (r : Learner) (x : ℕ) (Y T : List ℕ) (i : ℕ) → r .number ≡ x → LearnerOf s r → Y ≡ T
@@ -69,9 +69,9 @@ first-placed s t x y d r e f =
       last = omega (arith, n .high, e .first, d .sound .few);
     }
 
--- ---- the attach level, from the match h down
+-- ---- the attach level, from the common suffix h down
 
--- k is at most the match, and every level from k to it has room
+-- k is at most the common suffix, and every level from k to it has room
 pub record RoomFrom (s T : List ℕ) (x h k : ℕ) : Type 0 where
   pub within : k ≤ h
   pub room : roomFrom s T x h k ≡ true

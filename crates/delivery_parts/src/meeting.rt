@@ -54,6 +54,13 @@ pub fn gather_from(
     requires { ⌜ Gathers (now state) (now tables) x z ⌝ }
     ensures { λ r. ⌜ r ≡ join.gather (now (state .entry)) x level notified (tableOf (now (tables .entry)) z) nodes ⌝ }
 {
-    let owner = Learner::load(state, x);
-    gather(state, owner, level, notified, part::lent(tables, z), nodes)
+    let learner = Learner::load(state, x);
+    gather(
+        state,
+        learner,
+        level,
+        notified,
+        part::lent(tables, z),
+        nodes,
+    )
 }

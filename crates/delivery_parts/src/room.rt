@@ -1,4 +1,4 @@
-// Room in the receiver's table for the sender: x sends to y, and h is their match.
+// Room in the receiver's table for the sender: x sends to y, and h is their common suffix.
 ghost use mathlib.Core.Path.{_≡_};
 ghost use mathlib.Core.Bool.{true};
 ghost use Rattle.model.specs.Memory.{tableOf};

@@ -1,4 +1,4 @@
-// A wait request to a settled node: "If E holds K, x learns y's table and the target becomes the first of E." Otherwise x attaches.
+// A wait request to a node in system: "If E holds K, x learns y's table and the target becomes the first of E." Otherwise x attaches.
 ghost use mathlib.Core.Path.{_≡_};
 ghost use mathlib.Core.Bool.{true};
 ghost use Rattle.model.specs.Memory.{nodeOf, withNode, addNode, tableOf};

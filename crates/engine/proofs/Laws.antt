@@ -47,7 +47,7 @@ module _ (m : Memory) (r : ℕ) where
   loads im bytes e z =
       let k = read-taken m im (sym e ∙ z) in
       let p = passed _ refl (sym e ∙ z) in
-      record { state = k .0 .state; tables = k .0 .tables; counted = counted-of im bytes (not-false _ (p 5)) (p 6); readable = k .1 }
+      record { state = k .0 .state; tables = k .0 .tables; counts = counted-of im bytes (not-false _ (p 5)) (p 6); good = k .1 }
 
   pub begins : (id g : ℕ) → r ≡ beginRefusal m id g → r ≡ 0 → Begins s t
   begins id g e z =

@@ -5,7 +5,7 @@ ghost use Rattle.model.specs.Calls.{readCall};
 ghost use Rattle.state.specs.Lent.{memory};
 ghost use Rattle.engine.specs.Outcomes.{leaves};
 
-// Makes the network of the image in the lent memory, whatever it held, every node in the system. The whole image is judged before one byte
+// Makes the network of the image in the lent memory, whatever it held, every node in system. The whole image is judged before one byte
 // is written. Answers the refusal: 1, 3, 4, 5, 6, 7, 8, 9 or 10, or 0.
 pub fn read(state: &mut [u64], tables: &mut [u8], image: &[u8]) -> u64
     ensures { λ r. ⌜ leaves (memory (now (state .exit)) (now (tables .exit))) (r ∷ []) ≡ readCall (memory (now (state .entry)) (now (tables .entry))) (now (image .entry)) ⌝ }

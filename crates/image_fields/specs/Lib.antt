@@ -1,2 +1,2 @@
--- What the contracts of the parts cite.
+-- What the contracts of an image's fields cite.
 pub mod Parts

@@ -21,7 +21,7 @@ use Rattle.image_judging.specs.declared.cursor.Cursor.{Cursor}
 
 -- nothing is read
 nothing : (im : List ℕ) (k : ℕ) → EntryRead im 0 k 0 0
-nothing im k = record { count = sym (count-zero _); set = λ u l. has-none u ∙ sym (any-zero _) }
+nothing im k = record { count = sym (count-zero _); names = λ u l. has-none u ∙ sym (any-zero _) }
 
 pub start-follows : (im : List ℕ) → Follows im started
 start-follows im = record {
@@ -29,7 +29,7 @@ start-follows im = record {
   below = below-none _;
   last = λ l. absurd (omega arith);
   none = λ e. refl;
-  tallied = nothing im 0;
+  read = nothing im 0;
 }
 
 -- entering an entry
@@ -43,7 +43,7 @@ module _ (im : List ℕ) (c : Cursor) (f : Follows im c) (k : ℕ) (rises : c .k
   unfolding namesIn
   unread e = record {
     count = sym (count-none (c .next) (ofEntry im k) (fresh e));
-    set =
+    names =
         λ u g.
         has-none u
         ∙ sym (any-false (c .next) (namesIn im k u) (λ q l. ap (λ (b : Bool). b && eqb (recNeighbor im q) u) (fresh e q l)));
@@ -58,13 +58,13 @@ module _ (im : List ℕ) (c : Cursor) (f : Follows im c) (k : ℕ) (rises : c .k
         good = f .good;
         below = f .below;
         key = eqb-true (c .key) k e ∙ is;
-        tallied = f .tallied;
+        read = f .read;
       }
       go false e = record {
         good = f .good;
         below = λ q l. omega (arith, f .below q l);
         key = is;
-        tallied = unread (eqb-false (c .key) k e);
+        read = unread (eqb-false (c .key) k e);
       }
 
 pub enter-next : (c : Cursor) (k : ℕ) → entered c k .next ≡ c .next
@@ -90,7 +90,7 @@ module _ (im : List ℕ) (c : Cursor) (w : Enters im c) (u : ℕ) (is : u ≡ re
   named-next v g = go (ℕ-discrete v u) ∙ sym (any-step (c .next) (namesIn im (c .key) v))
     where
       before : hasNode (c .named) v ≡ anyBelow (c .next) (namesIn im (c .key) v)
-      before = w .tallied .set v g
+      before = w .read .names v g
 
       go : Dec (v ≡ u)
           → hasNode (addNode (c .named) u) v ≡ (anyBelow (c .next) (namesIn im (c .key) v) || namesIn im (c .key) v (c .next))
@@ -111,9 +111,9 @@ module _ (im : List ℕ) (c : Cursor) (w : Enters im c) (u : ℕ) (is : u ≡ re
     below = below-more _ (c .next) (w .below) (omega (arith, w .key));
     last = λ g. w .key ∙ ap (recKey im) (omega arith);
     none = λ e. absurd (omega arith);
-    tallied = record {
-      count = count-hit (c .next) (ofEntry im (c .key)) true (c .count) (c .count + 1) (w .tallied .count) (sym here) refl refl;
-      set = named-next;
+    read = record {
+      count = count-hit (c .next) (ofEntry im (c .key)) true (c .count) (c .count + 1) (w .read .count) (sym here) refl refl;
+      names = named-next;
     };
   }
 

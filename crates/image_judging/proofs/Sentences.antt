@@ -14,7 +14,7 @@ use Rattle.model.specs.Refusals.{firstTrue, noSettings, otherVersion, countsWro
 use Rattle.model.proofs.Bools.{same-test, and-left, and-right, and-intro, and-leaves, and-goes, or-none-left, or-none-right}
 use Rattle.model.proofs.Ids.{settings-range}
 use Rattle.model.proofs.Loops.{all-at, all-of}
-use Rattle.model.proofs.Refusals.{first-leaves, first-goes, first-not-leaves, first-not-goes}
+use Rattle.model.proofs.Refusals.{sentence-leaves, sentence-goes, sentence-not-leaves, sentence-not-goes}
 use Rattle.image_fields.specs.Parts.{CountsRight}
 use Rattle.image_judging.specs.Judged.{RecordsNamed, recGood, laterRefusal}
 use Rattle.image_judging.specs.Marks.{RecordsGood}
@@ -83,7 +83,7 @@ named-of im r e g = record { nodes = sym e ∙ not-false r g }
 module _ (im : List ℕ) (a : Bool) (ea : a ≡ noSettings im) where
   pub says-3 : a ≡ true → 3 ≡ imageRefusal im
   unfolding imageRefusal
-  says-3 g = first-leaves (noSettings im) 3 _ a ea g
+  says-3 g = sentence-leaves (noSettings im) 3 _ a ea g
 
   module _ (ga : a ≡ false) where
     -- the settings are there
@@ -92,10 +92,10 @@ module _ (im : List ℕ) (a : Bool) (ea : a ≡ noSettings im) where
 
     past-3 : (x : ℕ) → x ≡ firstTrue (drop 1 (imageSentences im)) → x ≡ imageRefusal im
     unfolding imageRefusal
-    past-3 x q = first-goes (noSettings im) 3 _ x a ea ga q
+    past-3 x q = sentence-goes (noSettings im) 3 _ x a ea ga q
 
     pub says-4 : (byteAt im 1 ≡ 1 → ⊥) → 4 ≡ imageRefusal im
-    says-4 v = past-3 4 (first-leaves (otherVersion im) 4 _ true (sym (ap not (ne-eqb (byteAt im 1) 1 v))) refl)
+    says-4 v = past-3 4 (sentence-leaves (otherVersion im) 4 _ true (sym (ap not (ne-eqb (byteAt im 1) 1 v))) refl)
 
     module _ (v : byteAt im 1 ≡ 1) (x y z : ℕ) (ex : x ≡ imBase im) (ey : y ≡ imDigits im) (ez : z ≡ imDepth im)
         (b : Bool) (eb : b ≡ settingsInRange x y z) where
@@ -103,21 +103,21 @@ module _ (im : List ℕ) (a : Bool) (ea : a ≡ noSettings im) where
       settings = eb ∙ rw (ex, ey, ez)
 
       past-4 : (r : ℕ) → r ≡ firstTrue (drop 2 (imageSentences im)) → r ≡ imageRefusal im
-      past-4 r q = past-3 r (first-goes (otherVersion im) 4 _ r false (sym (ap not (eq-eqb (byteAt im 1) 1 v))) refl q)
+      past-4 r q = past-3 r (sentence-goes (otherVersion im) 4 _ r false (sym (ap not (eq-eqb (byteAt im 1) 1 v))) refl q)
 
       pub says-5 : not b ≡ true → 5 ≡ imageRefusal im
-      says-5 g = past-4 5 (first-not-leaves _ 5 _ b settings g)
+      says-5 g = past-4 5 (sentence-not-leaves _ 5 _ b settings g)
 
       module _ (gb : not b ≡ false) (w : Bool) (ew : w ≡ countsWrong im) where
         past-5 : (r : ℕ) → r ≡ firstTrue (drop 3 (imageSentences im)) → r ≡ imageRefusal im
-        past-5 r q = past-4 r (first-not-goes _ 5 _ r b settings gb q)
+        past-5 r q = past-4 r (sentence-not-goes _ 5 _ r b settings gb q)
 
         pub says-6 : w ≡ true → 6 ≡ imageRefusal im
-        says-6 g = past-5 6 (first-leaves (countsWrong im) 6 _ w ew g)
+        says-6 g = past-5 6 (sentence-leaves (countsWrong im) 6 _ w ew g)
 
         pub says-later : w ≡ false → (r : ℕ) → r ≡ laterRefusal im → r ≡ imageRefusal im
         unfolding laterRefusal
-        says-later g r q = past-5 r (first-goes (countsWrong im) 6 _ r w ew g q)
+        says-later g r q = past-5 r (sentence-goes (countsWrong im) 6 _ r w ew g q)
 
         pub counted : w ≡ false → ((a : ℕ) → byteAt im a < 256) → CountsRight im
         counted g bytes = counted-of im bytes (sym settings ∙ not-false b gb) (sym ew ∙ g)

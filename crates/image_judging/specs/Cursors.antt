@@ -31,7 +31,7 @@ namesIn im k u q = ofEntry im k q && eqb (recNeighbor im q) u
 -- the first r records are read: of those in the entry k there are n, and named is the set of their neighbours
 pub record EntryRead (im : List ℕ) (r k n named : ℕ) : Type 0 where
   pub count : n ≡ countBelow r (ofEntry im k)
-  pub set : (u : ℕ) → 1 ≤ u → hasNode named u ≡ anyBelow r (namesIn im k u)
+  pub names : (u : ℕ) → 1 ≤ u → hasNode named u ≡ anyBelow r (namesIn im k u)
 
 -- the cursor after good records: its entry is that of the last one, and no entry before is above it
 pub record Follows (im : List ℕ) (c : Cursor) : Type 0 where
@@ -39,14 +39,14 @@ pub record Follows (im : List ℕ) (c : Cursor) : Type 0 where
   pub below : (q : ℕ) → q < c .next → recKey im q ≤ c .key
   pub last : 1 ≤ c .next → c .key ≡ recKey im (c .next - 1)
   pub none : c .next ≡ 0 → c .key ≡ 0
-  pub tallied : EntryRead im (c .next) (c .key) (c .count) (c .named)
+  pub read : EntryRead im (c .next) (c .key) (c .count) (c .named)
 
 -- the cursor in the entry of the record that it is about to pass
 pub record Enters (im : List ℕ) (c : Cursor) : Type 0 where
   pub good : allBelow (c .next) (recGood im) ≡ true
   pub below : (q : ℕ) → q < c .next → recKey im q ≤ c .key
   pub key : c .key ≡ recKey im (c .next)
-  pub tallied : EntryRead im (c .next) (c .key) (c .count) (c .named)
+  pub read : EntryRead im (c .next) (c .key) (c .count) (c .named)
 
 -- before the first record
 abbrev pub started : Cursor

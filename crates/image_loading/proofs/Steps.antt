@@ -49,7 +49,7 @@ record-step im t t′ h r q k o e = rw (← (o .node), ← (o .level), ← (o .d
 
 module _ (im t₁ : List ℕ) (F : Fills t₁ im) where
   R : GoodImage im
-  R = F .readable
+  R = F .good
 
   -- the words of a state that the image gives
   words : Words im (eachBelow (imNodes im) (loadId im) (withSettings (zeroed stateLength (replicate stateLength 0)) (imBase im) (imDigits im) (imDepth im) (imNodes im)))
@@ -91,4 +91,4 @@ loaded-is s t im s₁ s₂ s₃ t₁ t₂ h o e₁ e₂ e₃ f₁ f₂ =
         ∙ ap₂ (λ (K n : ℕ). withSettings (zeroed stateLength s) (imBase im) (imDigits im) K n) (o .depth) (o .nodes)
 
 pub fills : (s t t₁ im : List ℕ) → Loads s t im → t₁ ≡ zeroed tablesLength t → Fills t₁ im
-fills s t t₁ im L e = record { before = t; long = L .tables; clear = e; readable = L .readable }
+fills s t t₁ im L e = record { before = t; long = L .tables; clear = e; good = L .good }

@@ -12,15 +12,15 @@ use Rattle.image_fields.specs.Parts.{CountsRight}
 pub record Loads (s t im : List ℕ) : Type 0 where
   pub state : stateLength ≤ length s
   pub tables : tablesLength ≤ length t
-  pub counted : CountsRight im
-  pub readable : GoodImage im
+  pub counts : CountsRight im
+  pub good : GoodImage im
 
 -- the table memory is cleared, and the image is one that reading takes
 pub record Fills (t im : List ℕ) : Type 0 where
   pub before : List ℕ
   pub long : tablesLength ≤ length before
   pub clear : t ≡ zeroed tablesLength before
-  pub readable : GoodImage im
+  pub good : GoodImage im
 
 -- u can be appended to entry (i, j) of node x in t
 pub record Appends (t : List ℕ) (K x i j u : ℕ) : Type 0 where

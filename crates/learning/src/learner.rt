@@ -27,7 +27,7 @@ impl Learner {
         }
     }
 
-    // The match of the owner and node u.
+    // The common suffix of the learner and node u.
     pub fn suffix(self, state: &[u64], u: usize) -> usize
         requires { ⌜ LearnerOf (now state) self ⌝ }
         requires { ⌜ NodeReadable (now state) u ⌝ }

@@ -24,7 +24,7 @@ pub record CanBegin (s : List ℕ) (id gateway : ℕ) : Type 0 where
   pub valid : validId (base s) (digits s) id ≡ true
   pub new : (y : ℕ) → IsNode s y → idOf s y ≢ id
   pub is-node : IsNode s gateway
-  pub settled : isInSystem s gateway ≡ true
+  pub in-system : isInSystem s gateway ≡ true
   pub room : nodeCount s < 64
 
 module _ (s t : List ℕ) (id gateway : ℕ) (S : Sound s t) (c : CanBegin s id gateway) where
@@ -154,7 +154,7 @@ module _ (s t : List ℕ) (id gateway : ℕ) (S : Sound s t) (c : CanBegin s id 
           (is-copying refl
           (record {
             is-node = node-later s s₁ later gateway (c .is-node);
-            settled = later .in-system gateway (c .is-node) (c .settled);
+            in-system = later .in-system gateway (c .is-node) (c .in-system);
             rest = joins (newNode id) copying gateway;
           })))
 

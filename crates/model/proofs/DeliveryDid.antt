@@ -81,7 +81,7 @@ pendingAt s t x y =
 pub record Attaches (s t : List ℕ) (x y : ℕ) (d : Delivery) : Type 0 where
   pub status : statusOf s x ≡ waiting
   pub requested : targetOf s x ≡ y
-  pub settled : isInSystem s y ≡ true
+  pub in-system : isInSystem s y ≡ true
   pub room : roomAtSuffix s (tableOf t y) x y ≡ true
   pub low : levelAt s t x y ≤ suffixOf s x y
   pub kind : d .kind ≡ kindAttached
@@ -198,7 +198,7 @@ module _ (s t : List ℕ) (S : Sound s t) (x y : ℕ) (nx : IsNode s x) (ny : Is
       go true p = did-attach record {
         status = e;
         requested = g;
-        settled = i;
+        in-system = i;
         room = p;
         low = level-low s (tableOf t y) x (suffixOf s x y) p;
         kind = refl;

@@ -32,7 +32,7 @@ module _ (s t : List ℕ) (S : Sound s t) (x y : ℕ) (c : CanDeliver s x y) whe
 
     rules : Asking s x y (w .status) (w .target) (d .kind) → RecordOk s x (joiningNode (nodeOf s x) (w .status) (w .target))
     rules (copies-on e q k i n) =
-        is-copying q record { is-node = w .is-node; settled = i; rest = joins (nodeOf s x) (w .status) (w .target) }
+        is-copying q record { is-node = w .is-node; in-system = i; rest = joins (nodeOf s x) (w .status) (w .target) }
     rules (starts-waiting e q k n) = waits q
     rules (waits-on e q k n) = waits q
 

@@ -13,7 +13,7 @@ use Rattle.model.specs.Lookup.{lookup}
 use Rattle.model.specs.Consistency.{consistent, nodeShort, levelShort, entryShort, firstShort, verdict}
 use Rattle.model.specs.Refusals.{Sentence, firstTrue, beginRefusal, deliverRefusal, lookupRefusal, verdictRefusal}
 use Rattle.model.specs.Calls.{Outcome, refusedAt, refused, taken, unlessRefused, deliveryFields, verdictFields, beginCall, deliverCall, lookupCall, verdictCall}
-use Rattle.model.proofs.Refusals.{numbered, first-below}
+use Rattle.model.proofs.Refusals.{numbered, sentences-below}
 use Rattle.model.proofs.Calls.{either-end}
 use Rattle.model.proofs.Loops.{first-le}
 use Rattle.model.proofs.Status.{IsNode}
@@ -38,7 +38,7 @@ bytes-unless : (m : Memory) (out : List ℕ) (cs : List Sentence) (k : ℕ) (don
     → Bytes (unlessRefused (firstTrue cs) (refused m out k) done .answer)
 unfolding Bytes refusedAt
 bytes-unless m out cs k done g f =
-    either-end (λ (o : Outcome). Bytes (o .answer)) (firstTrue cs) (refused m out k) done (λ nz. (first-below cs g, zeros k)) f
+    either-end (λ (o : Outcome). Bytes (o .answer)) (firstTrue cs) (refused m out k) done (λ nz. (sentences-below cs g, zeros k)) f
 
 bit-below : (b : Bool) → cond b 1 0 < 256
 bit-below true = omega arith

@@ -13,7 +13,7 @@ use Rattle.model.specs.Memory.{Memory}
 use Rattle.model.specs.Image.{byteAt, imBase, imDigits, imDepth, imNodes, imRecords, imId, lengthRight, imIdValid, imIdDiffers, imIdNew, recNode, recNeighbor, recNodesGood, recOrdered, recAllowed, recOwnerFirst, ownHaveRecords, recordsGood}
 use Rattle.model.specs.Refusals.{firstTrue, memoryShort, noSettings, otherVersion, countsWrong, imageSentences, readRefusal}
 use Rattle.model.proofs.Bools.{and-left, and-right, and-intro, or-none-right}
-use Rattle.model.proofs.Refusals.{numbered, testOf, passed, free, first-none}
+use Rattle.model.proofs.Refusals.{numbered, testOf, passed, free, sentence-none}
 use Rattle.model.proofs.Loops.{all-of}
 use Rattle.model.proofs.Nodes.{nodes-of}
 use Rattle.model.proofs.Ids.{settings-of}
@@ -69,7 +69,7 @@ module _ (im : List ℕ) (F : Framed im) (R : GoodImage im) where
       (free (not (allBelow (imNodes im) (node (imIdValid im)))) 7 _ (ap not (nodes-of (imNodes im) (imIdValid im) (R .ids)))
       (free (not (allBelow (imNodes im) (node (imIdNew im)))) 8 _ (ap not (nodes-of (imNodes im) (imIdNew im) ids-new))
       (free (not (allBelow (imRecords im) (recNodesGood im))) 9 _ (ap not (all-of (imRecords im) (recNodesGood im) nodes-good))
-      (free (not (recordsGood im)) 10 [] (ap not rules-kept) (sym first-none))))))))
+      (free (not (recordsGood im)) 10 [] (ap not rules-kept) (sym sentence-none))))))))
 
   pub read-free : (m : Memory) → Long (m .state) (m .tables) → readRefusal m im ≡ 0
   unfolding readRefusal

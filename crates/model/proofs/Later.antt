@@ -1,4 +1,4 @@
--- A later state of the same network: nodes may have come, and the earlier ones keep their ids, stay attached and stay in the system.
+-- A later state of the same network: nodes may have come, and the earlier ones keep their ids, stay attached and stay in system.
 -- What the rules say of a table or a record that did not change holds on. Assumes nothing.
 use Prim.Native.Nat.{ℕ, _≤_}
 use mathlib.Core.Path.{_≡_, refl, sym, ap, ap₂, subst, _∙_}
@@ -105,7 +105,7 @@ module _ (s s′ : List ℕ) (l : Later s s′) where
         is-copying e
         (record {
           is-node = node-later (r .target) (o .is-node);
-          settled = l .in-system (r .target) (o .is-node) (o .settled);
+          in-system = l .in-system (r .target) (o .is-node) (o .in-system);
           rest = o .rest;
         })
     record-later (is-waiting e o) =

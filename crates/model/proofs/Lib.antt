@@ -47,7 +47,7 @@ pub mod HopsUnchanged
 pub mod RecordRules
 pub mod LoadingIsSound
 pub mod Records
-pub mod ImageIsShort
+pub mod RecordsAreFew
 pub mod Sections
 pub mod WrittenIsTaken
 pub mod Frame

@@ -192,14 +192,14 @@ module _ (im s : List ℕ) (R : GoodImage im) (W : Words im s) where
         rest₀ : (p : ℕ) → 512 * nodeCount s ≤ p → p < tablesLength → getD z p 0 ≡ 0
         rest₀ p l h = zeroed-within tablesLength t long p h
 
-  -- every node is in the system
-  all-settled : (x : ℕ) → IsNode s x → statusOf s x ≡ 0
-  all-settled x n =
+  -- every node is in system
+  all-in-system : (x : ℕ) → IsNode s x → statusOf s x ≡ 0
+  all-in-system x n =
       let hi : x ≤ nodeCount s = n .high in
       W .zero (8 * x + 1) (omega (arith, n .low)) (omega (arith, few)) (λ y m. omega arith)
 
   all-attached : (x : ℕ) → IsNode s x → isAttached s x ≡ true
-  all-attached x n = ap (λ (v : ℕ). eqb v 0 || eqb v 3) (all-settled x n)
+  all-attached x n = ap (λ (v : ℕ). eqb v 0 || eqb v 3) (all-in-system x n)
 
   -- what the image's rules say of record r, in terms of the state
   pub record RecordFits (r : ℕ) : Type 0 where

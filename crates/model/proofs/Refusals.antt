@@ -12,67 +12,67 @@ use Rattle.model.proofs.Bools.{and-left, and-right}
 
 -- ---- early returns
 
-pub first-leaves : (test : Bool) (n : ℕ) (later : List Sentence) (r : Bool) → r ≡ test → r ≡ true → n ≡ firstTrue ((test, n) ∷ later)
+pub sentence-leaves : (test : Bool) (n : ℕ) (later : List Sentence) (r : Bool) → r ≡ test → r ≡ true → n ≡ firstTrue ((test, n) ∷ later)
 unfolding firstTrue
-first-leaves test n later r e h = ap (λ (b : Bool). cond b n (firstTrue later)) (sym h ∙ e)
+sentence-leaves test n later r e h = ap (λ (b : Bool). cond b n (firstTrue later)) (sym h ∙ e)
 
-pub first-goes : (test : Bool) (n : ℕ) (later : List Sentence) (x : ℕ) (r : Bool) → r ≡ test → r ≡ false → x ≡ firstTrue later
+pub sentence-goes : (test : Bool) (n : ℕ) (later : List Sentence) (x : ℕ) (r : Bool) → r ≡ test → r ≡ false → x ≡ firstTrue later
     → x ≡ firstTrue ((test, n) ∷ later)
 unfolding firstTrue
-first-goes test n later x r e h q = q ∙ ap (λ (b : Bool). cond b n (firstTrue later)) (sym h ∙ e)
+sentence-goes test n later x r e h q = q ∙ ap (λ (b : Bool). cond b n (firstTrue later)) (sym h ∙ e)
 
-pub first-not-leaves : (test : Bool) (n : ℕ) (later : List Sentence) (r : Bool) → r ≡ test → not r ≡ true
+pub sentence-not-leaves : (test : Bool) (n : ℕ) (later : List Sentence) (r : Bool) → r ≡ test → not r ≡ true
     → n ≡ firstTrue ((not test, n) ∷ later)
-first-not-leaves test n later r e h = first-leaves (not test) n later (not r) (ap not e) h
+sentence-not-leaves test n later r e h = sentence-leaves (not test) n later (not r) (ap not e) h
 
-pub first-not-goes : (test : Bool) (n : ℕ) (later : List Sentence) (x : ℕ) (r : Bool) → r ≡ test → not r ≡ false → x ≡ firstTrue later
+pub sentence-not-goes : (test : Bool) (n : ℕ) (later : List Sentence) (x : ℕ) (r : Bool) → r ≡ test → not r ≡ false → x ≡ firstTrue later
     → x ≡ firstTrue ((not test, n) ∷ later)
-first-not-goes test n later x r e h q = first-goes (not test) n later x (not r) (ap not e) h q
+sentence-not-goes test n later x r e h q = sentence-goes (not test) n later x (not r) (ap not e) h q
 
 -- a list of no sentences
-pub first-none : 0 ≡ firstTrue []
+pub sentence-none : 0 ≡ firstTrue []
 unfolding firstTrue
-first-none = refl
+sentence-none = refl
 
-pub ruleset sentences = (first-leaves, first-goes, first-not-leaves, first-not-goes, first-none)
+pub ruleset sentences = (sentence-leaves, sentence-goes, sentence-not-leaves, sentence-not-goes, sentence-none)
 
 -- the same where the code compares numbers: v is what it found of a
 module _ (a b n : ℕ) (later : List Sentence) (v : ℕ) (e : v ≡ a) where
   pub equal-leaves : v ≡ b → n ≡ firstTrue ((eqb a b, n) ∷ later)
-  equal-leaves q = first-leaves (eqb a b) n later true (sym (eq-eqb a b (sym e ∙ q))) refl
+  equal-leaves q = sentence-leaves (eqb a b) n later true (sym (eq-eqb a b (sym e ∙ q))) refl
 
   pub equal-goes : (v ≡ b → ⊥) → (x : ℕ) → x ≡ firstTrue later → x ≡ firstTrue ((eqb a b, n) ∷ later)
-  equal-goes ne x = first-goes (eqb a b) n later x false (sym (ne-eqb a b (λ q. ne (e ∙ q)))) refl
+  equal-goes ne x = sentence-goes (eqb a b) n later x false (sym (ne-eqb a b (λ q. ne (e ∙ q)))) refl
 
   pub other-leaves : (v ≡ b → ⊥) → n ≡ firstTrue ((not (eqb a b), n) ∷ later)
-  other-leaves ne = first-not-leaves (eqb a b) n later false (sym (ne-eqb a b (λ q. ne (e ∙ q)))) refl
+  other-leaves ne = sentence-not-leaves (eqb a b) n later false (sym (ne-eqb a b (λ q. ne (e ∙ q)))) refl
 
   pub other-goes : v ≡ b → (x : ℕ) → x ≡ firstTrue later → x ≡ firstTrue ((not (eqb a b), n) ∷ later)
-  other-goes q x = first-not-goes (eqb a b) n later x true (sym (eq-eqb a b (sym e ∙ q))) refl
+  other-goes q x = sentence-not-goes (eqb a b) n later x true (sym (eq-eqb a b (sym e ∙ q))) refl
 
-  pub short-leaves : b < v → n ≡ firstTrue ((ltb b a, n) ∷ later)
-  short-leaves l = first-leaves (ltb b a) n later true (sym (lt-ltb b a (subst (λ (v : ℕ). b < v) e l))) refl
+  pub below-leaves : b < v → n ≡ firstTrue ((ltb b a, n) ∷ later)
+  below-leaves l = sentence-leaves (ltb b a) n later true (sym (lt-ltb b a (subst (λ (v : ℕ). b < v) e l))) refl
 
-  pub short-goes : v ≤ b → (x : ℕ) → x ≡ firstTrue later → x ≡ firstTrue ((ltb b a, n) ∷ later)
-  short-goes l x = first-goes (ltb b a) n later x false (sym (le-ltb b a (subst (λ (v : ℕ). v ≤ b) e l))) refl
+  pub below-goes : v ≤ b → (x : ℕ) → x ≡ firstTrue later → x ≡ firstTrue ((ltb b a, n) ∷ later)
+  below-goes l x = sentence-goes (ltb b a) n later x false (sym (le-ltb b a (subst (λ (v : ℕ). v ≤ b) e l))) refl
 
 -- and where it asks the two halves of a test one after the other
 module _ (a b : Bool) (n : ℕ) (later : List Sentence) (v : Bool) (e : v ≡ a) where
   pub left-leaves : not v ≡ true → n ≡ firstTrue ((not (a && b), n) ∷ later)
   left-leaves h =
-      first-not-leaves (a && b) n later (v && b) (ap (λ (a : Bool). a && b) e) (ap (λ (v : Bool). not (v && b)) (not-true v h))
+      sentence-not-leaves (a && b) n later (v && b) (ap (λ (a : Bool). a && b) e) (ap (λ (v : Bool). not (v && b)) (not-true v h))
 
   module _ (h : not v ≡ false) (w : Bool) (f : w ≡ b) where
     halves : (v && w) ≡ w
     halves = ap (λ (v : Bool). v && w) (not-false v h)
 
     pub right-leaves : not w ≡ true → n ≡ firstTrue ((not (a && b), n) ∷ later)
-    right-leaves g = first-not-leaves (a && b) n later (v && w) (ap₂ _&&_ e f) (ap not halves ∙ g)
+    right-leaves g = sentence-not-leaves (a && b) n later (v && w) (ap₂ _&&_ e f) (ap not halves ∙ g)
 
     pub both-go : not w ≡ false → (x : ℕ) → x ≡ firstTrue later → x ≡ firstTrue ((not (a && b), n) ∷ later)
-    both-go g x = first-not-goes (a && b) n later x (v && w) (ap₂ _&&_ e f) (ap not halves ∙ g)
+    both-go g x = sentence-not-goes (a && b) n later x (v && w) (ap₂ _&&_ e f) (ap not halves ∙ g)
 
-pub ruleset comparisons = (equal-leaves, equal-goes, other-leaves, other-goes, short-leaves, short-goes, left-leaves, right-leaves, both-go)
+pub ruleset comparisons = (equal-leaves, equal-goes, other-leaves, other-goes, below-leaves, below-goes, left-leaves, right-leaves, both-go)
 
 -- ---- no refusal
 
@@ -111,32 +111,32 @@ free test n later e z = ap (λ (b : Bool). cond b n (firstTrue later)) e ∙ z
 
 -- ---- the first sentences, then the others
 
-pub first-refused : (cs later : List Sentence) (r : ℕ) → r ≡ firstTrue cs → (r ≡ 0 → ⊥) → r ≡ firstTrue (cs ++ later)
+pub sentences-refused : (cs later : List Sentence) (r : ℕ) → r ≡ firstTrue cs → (r ≡ 0 → ⊥) → r ≡ firstTrue (cs ++ later)
 unfolding firstTrue
-first-refused [] later r e nz = absurd (nz e)
-first-refused (c ∷ cs) later r e nz = go (c .0) (λ e. first-refused cs later r e nz) e
+sentences-refused [] later r e nz = absurd (nz e)
+sentences-refused (c ∷ cs) later r e nz = go (c .0) (λ e. sentences-refused cs later r e nz) e
   where
     go : (b : Bool) → (r ≡ firstTrue cs → r ≡ firstTrue (cs ++ later)) → r ≡ cond b (c .1) (firstTrue cs) → r ≡ cond b (c .1) (firstTrue (cs ++ later))
     go true f e = e
     go false f e = f e
 
-pub first-later : (cs later : List Sentence) → numbered cs ≡ true → (r x : ℕ) → r ≡ firstTrue cs → r ≡ 0 → x ≡ firstTrue later
+pub sentences-later : (cs later : List Sentence) → numbered cs ≡ true → (r x : ℕ) → r ≡ firstTrue cs → r ≡ 0 → x ≡ firstTrue later
     → x ≡ firstTrue (cs ++ later)
 unfolding numbered
-first-later [] later g r x e z q = q
-first-later (c ∷ cs) later g r x e z q =
+sentences-later [] later g r x e z q = q
+sentences-later (c ∷ cs) later g r x e z q =
     let p = one-passed (c .0) (c .1) cs (ltb-true 0 (c .1) (and-left _ _ g)) (sym e ∙ z) in
-    first-goes (c .0) (c .1) (cs ++ later) x (c .0) refl (p .0)
-    (first-later cs later (and-right (ltb (c .1) 256) _ (and-right (ltb 0 (c .1)) _ g)) 0 x (sym (p .1)) refl q)
+    sentence-goes (c .0) (c .1) (cs ++ later) x (c .0) refl (p .0)
+    (sentences-later cs later (and-right (ltb (c .1) 256) _ (and-right (ltb 0 (c .1)) _ g)) 0 x (sym (p .1)) refl q)
 
 -- ---- a refusal is a byte
 
-pub first-below : (cs : List Sentence) → numbered cs ≡ true → firstTrue cs < 256
+pub sentences-below : (cs : List Sentence) → numbered cs ≡ true → firstTrue cs < 256
 unfolding firstTrue numbered
-first-below [] g = omega arith
-first-below (c ∷ cs) g =
+sentences-below [] g = omega arith
+sentences-below (c ∷ cs) g =
     let h = and-right (ltb 0 (c .1)) _ g in
-    go (c .0) (ltb-true (c .1) 256 (and-left _ _ h)) (first-below cs (and-right (ltb (c .1) 256) _ h))
+    go (c .0) (ltb-true (c .1) 256 (and-left _ _ h)) (sentences-below cs (and-right (ltb (c .1) 256) _ h))
   where
     go : (b : Bool) → c .1 < 256 → firstTrue cs < 256 → cond b (c .1) (firstTrue cs) < 256
     go true h l = h

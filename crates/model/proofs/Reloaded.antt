@@ -169,10 +169,10 @@ module _ (im s t : List ℕ) (S : Sound s t) (P : Pictures im s t) (t′ : List 
 
 -- ---- the words
 
--- a node in the system has nothing but its id
-module _ (s t : List ℕ) (S : Sound s t) (settled : (x : ℕ) → IsNode s x → isInSystem s x ≡ true) (x : ℕ) (n : IsNode s x) where
+-- a node in system has nothing but its id
+module _ (s t : List ℕ) (S : Sound s t) (in-system : (x : ℕ) → IsNode s x → isInSystem s x ≡ true) (x : ℕ) (n : IsNode s x) where
   status-zero : statusOf s x ≡ 0
-  status-zero = eqb-true _ 0 (settled x n)
+  status-zero = eqb-true _ 0 (in-system x n)
 
   rest-zero : StatusOk s x → (c : ℕ) → 2 ≤ c → c < 6 → getD s (8 * x + c) 0 ≡ 0
   rest-zero (is-in-system e r) zero l h = absurd (omega arith)
@@ -194,7 +194,7 @@ module _ (s t : List ℕ) (S : Sound s t) (settled : (x : ℕ) → IsNode s x �
       go (no f) (yes g) = rest-zero (S .statuses x n) c (omega arith) g
       go (no f) (no g) = S .spare x n c (omega arith) h
 
-module _ (im s t : List ℕ) (S : Sound s t) (P : Pictures im s t) (settled : (x : ℕ) → IsNode s x → isInSystem s x ≡ true)
+module _ (im s t : List ℕ) (S : Sound s t) (P : Pictures im s t) (in-system : (x : ℕ) → IsNode s x → isInSystem s x ≡ true)
     (s′ : List ℕ) (room : stateLength ≤ length s′) where
   s₀ : List ℕ
   s₀ = withSettings (zeroed stateLength s′) (imBase im) (imDigits im) (imDepth im) (imNodes im)
@@ -259,7 +259,7 @@ module _ (im s t : List ℕ) (S : Sound s t) (P : Pictures im s t) (settled : (x
           let n : IsNode s (p / 8) = record { low = omega arith; high = omega arith } in
           let w : p ≡ 8 * (p / 8) + p % 8 = omega arith in
           W .zero p (omega arith) h (λ x m. λ q. f (omega arith))
-          ∙ sym (ap (λ (p : ℕ). getD s p 0) w ∙ words-zero s t S settled (p / 8) n (p % 8) (omega arith) (omega arith))
+          ∙ sym (ap (λ (p : ℕ). getD s p 0) w ∙ words-zero s t S in-system (p / 8) n (p % 8) (omega arith) (omega arith))
 
   low : (p : ℕ) → p < stateLength → getD s₂ p 0 ≡ getD s p 0
   low p h = go (decLt p 4) (decLt p 8)

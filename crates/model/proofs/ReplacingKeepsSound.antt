@@ -52,7 +52,7 @@ module _ (x : ℕ) (s s′ : List ℕ) (a : Agree x s s′) where
   pub agree-count : 1 ≤ x → nodeCount s′ ≡ nodeCount s
   agree-count h = a .words 3 (inl (omega arith))
 
-  -- the later state, where x stays attached if it was, and in the system if it was
+  -- the later state, where x stays attached if it was, and in system if it was
   pub agree-later : 1 ≤ x → (isAttached s x ≡ true → isAttached s′ x ≡ true) → (isInSystem s x ≡ true → isInSystem s′ x ≡ true) → Later s s′
   agree-later h f g = record {
     base = a .words 0 (inl (omega arith));

@@ -45,7 +45,7 @@ limit-le s t S x nx = go (S .statuses x nx)
     go (is-in-system e o) = rw (limit-at s x inSystem e) (omega arith)
     go (is-copying e o) =
         rw (limit-at s x copying e)
-        (omega (arith, below (o .is-node) (attached-other s x (targetOf s x) (copying-away s x e) (attached-in-system s (targetOf s x) (o .settled)))))
+        (omega (arith, below (o .is-node) (attached-other s x (targetOf s x) (copying-away s x e) (attached-in-system s (targetOf s x) (o .in-system)))))
     go (is-waiting e o) = rw (limit-at s x waiting e) (omega (arith, below (o .is-node) (attached-other s x (targetOf s x) (waiting-away s x e) (o .attached))))
     go (is-notifying e o) = rw (limit-at s x notifying e) (omega arith)
 

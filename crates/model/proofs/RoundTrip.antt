@@ -16,7 +16,7 @@ use Rattle.model.specs.Memory.{Memory, stateLength, tablesLength, nodeCo
 use Rattle.model.specs.Image.{fourBytes, allRecords, imageOf, byteAt, imNodes, imId, imRecords, recordByte, loaded}
 use Rattle.model.specs.Refusals.{someNotInSystem, readRefusal, writeRefusal}
 use Rattle.model.specs.Calls.{taken, readCall, writeCall}
-use Rattle.model.proofs.Refusals.{free, first-none}
+use Rattle.model.proofs.Refusals.{free, sentence-none}
 use Rattle.model.proofs.Nodes.{nodes-of}
 use Rattle.model.proofs.Status.{IsNode}
 use Rattle.model.proofs.Sound.{Long, Sound}
@@ -55,11 +55,11 @@ module _ (s t : List ℕ) (S : Sound s t) (m : Memory) (long : Long (m .state) (
       })
       (written-readable (imageOf s t) s t S P) m long
 
-  -- and gives back a state whose nodes are all in the system
+  -- and gives back a state whose nodes are all in system
   pub written-read : ((x : ℕ) → IsNode s x → isInSystem s x ≡ true)
       → loaded (m .state) (m .tables) (imageOf s t) ≡ onto (record { state = s; tables = t }) m
   unfolding onto
-  written-read settled = reloaded (imageOf s t) s t S (pictures s t S) settled (m .state) (long .state) (m .tables) (long .tables)
+  written-read in-system = reloaded (imageOf s t) s t S (pictures s t S) in-system (m .state) (long .state) (m .tables) (long .tables)
 
 -- ---- read, then written
 
@@ -232,10 +232,10 @@ module _ (m : Memory) (im : List ℕ) (byte : (a : ℕ) → byteAt im a < 256) (
   pub read-can-write : (out : List ℕ) → length im ≤ length out → writeRefusal given out ≡ 0
   unfolding s₂ t₂ writeRefusal
   read-can-write out room =
-      let settled : allNodes s₂ (isInSystem s₂) ≡ true =
+      let in-system : allNodes s₂ (isInSystem s₂) ≡ true =
       nodes-of (nodeCount s₂) (isInSystem s₂) (λ x l h. read-in-system x (record { low = l; high = h })) in
       let fits : ltb (length out) (length (imageOf s₂ t₂)) ≡ false = le-ltb (length out) (length (imageOf s₂ t₂)) (omega (arith, same-length)) in
-      state-free given _ S (free (someNotInSystem s₂) 15 _ (ap not settled) (free _ 16 [] fits (sym first-none)))
+      state-free given _ S (free (someNotInSystem s₂) 15 _ (ap not in-system) (free _ 16 [] fits (sym sentence-none)))
 
 -- an image read twice, over any old contents: the same state
 pub read-again : (m m′ : Memory) (im : List ℕ) → ((a : ℕ) → byteAt im a < 256) → readRefusal m im ≡ 0 → Long (m′ .state) (m′ .tables)

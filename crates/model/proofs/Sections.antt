@@ -13,7 +13,7 @@ use Rattle.model.proofs.Status.{IsNode}
 use Rattle.model.proofs.Sound.{Sound, id-fits}
 use Rattle.model.proofs.Counting.{join-at}
 use Rattle.model.proofs.Records.{filledAt, fieldsAt, records-flat, records-length, record-at}
-use Rattle.model.proofs.ImageIsShort.{records-few}
+use Rattle.model.proofs.RecordsAreFew.{records-few}
 use Rattle.model.specs.Nodes.{joinNodes}
 
 -- the ids, and all that stands before the records

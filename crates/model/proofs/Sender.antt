@@ -60,7 +60,7 @@ module _ (s : List ℕ) (x y : ℕ) where
 
   pub receiver : IsNode s y → Sending s x y → Receiver s x y
   receiver ny (copies e t o) =
-      let a : isAttached s y ≡ true = attached-in-system s y (ap (isInSystem s) (sym t) ∙ o .settled) in
+      let a : isAttached s y ≡ true = attached-in-system s y (ap (isInSystem s) (sym t) ∙ o .in-system) in
       record { attached = a; other = attached-other s x y (copying-away s x e) a }
   receiver ny (waits e t i o) =
       let a : isAttached s y ≡ true = attached-in-system s y i in

@@ -36,7 +36,7 @@ waiting-away s x = attached-by s x waiting
 pub attached-other : (s : List ℕ) (x y : ℕ) → isAttached s x ≡ false → isAttached s y ≡ true → y ≢ x
 attached-other s x y f a q = not-both (isAttached s y) a (ap (isAttached s) q ∙ f)
 
--- with the same record y is attached, and in the system, as it was
+-- with the same record y is attached, and in system, as it was
 module _ (s s′ : List ℕ) (y : ℕ) (e : nodeOf s′ y ≡ nodeOf s y) where
   pub attached-same : isAttached s′ y ≡ isAttached s y
   attached-same = ap (λ (r : Node). eqb (r .status) inSystem || eqb (r .status) notifying) e
@@ -70,7 +70,7 @@ pub record JoiningOk (r : Node) : Type 0 where
 
 pub record CopyingOk (s : List ℕ) (r : Node) : Type 0 where
   pub is-node : IsNode s (r .target)
-  pub settled : isInSystem s (r .target) ≡ true
+  pub in-system : isInSystem s (r .target) ≡ true
   pub rest : JoiningOk r
 
 pub record WaitingOk (s : List ℕ) (r : Node) : Type 0 where
@@ -109,7 +109,7 @@ pub data RecordOk (s : List ℕ) (x : ℕ) (r : Node) : Type 0 where
 abbrev pub StatusOk : List ℕ → ℕ → Type 0
 StatusOk s x = RecordOk s x (nodeOf s x)
 
--- a record that is at rest, and one that joins
+-- a record in system, and one that joins
 pub rests : (s : List ℕ) (x : ℕ) (r : Node) → RecordOk s x (inSystemNode r)
 rests s x r = is-in-system refl (record { level = refl; target = refl; pending = refl; notified = refl })
 
@@ -145,12 +145,12 @@ module _ (s : List ℕ) (x : ℕ) where
   copying-ok : copyingSound s x ≡ true → CopyingOk s (nodeOf s x)
   unfolding copyingSound
   copying-ok e =
-      record { is-node = is-node s (targetOf s x) (search parts); settled = search parts; rest = joining-ok (search parts) }
+      record { is-node = is-node s (targetOf s x) (search parts); in-system = search parts; rest = joining-ok (search parts) }
 
   copying-of : CopyingOk s (nodeOf s x) → copyingSound s x ≡ true
   unfolding copyingSound
   copying-of r =
-      and-intro _ _ (is-node-of s (targetOf s x) (r .is-node)) (and-intro _ _ (r .settled) (joining-of (r .rest)))
+      and-intro _ _ (is-node-of s (targetOf s x) (r .is-node)) (and-intro _ _ (r .in-system) (joining-of (r .rest)))
 
   waiting-ok : waitingSound s x ≡ true → WaitingOk s (nodeOf s x)
   unfolding waitingSound

@@ -111,7 +111,7 @@ module _ (s t : List ℕ) (S : Sound s t) (x y : ℕ) (c : CanDeliver s x y) whe
   pub delivered-id : delivery s t x y .sender .id ≡ idOf s x
   delivered-id = does .id
 
-  -- and was not in the system
+  -- and was not in system
   pub sender-out : isInSystem s x ≡ false
   sender-out = does .out
 

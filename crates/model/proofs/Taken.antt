@@ -15,7 +15,7 @@ use Rattle.model.specs.Sound.{sound}
 use Rattle.model.specs.Image.{imNodes, imBase, imDigits, imDepth, imRecords, imId, imIdValid, imIdDiffers, imIdNew, imIsNode, recNode, recNeighbor, recNodesGood, recOrdered, recAllowed, recOwnerFirst, ownHaveRecords, recordsGood, imageOf}
 use Rattle.model.specs.Refusals.{Sentence, firstTrue, memoryShort, unsound, hasId, areNodes, someNotInSystem, stateSentences, foundRefusal, readRefusal, stateRefusal, beginRefusal, deliverRefusal, lookupRefusal, verdictRefusal, writeRefusal}
 use Rattle.model.proofs.Bools.{and-left, and-right, and-intro, or-none-left, or-none-right, parts}
-use Rattle.model.proofs.Refusals.{numbered, testOf, passed, free, first-none}
+use Rattle.model.proofs.Refusals.{numbered, testOf, passed, free, sentence-none}
 use Rattle.model.proofs.Loops.{all-at}
 use Rattle.model.proofs.Nodes.{nodes-at, no-node-at}
 use Rattle.model.proofs.Ids.{InRange, settings-range}
@@ -75,7 +75,7 @@ module _ (m : Memory) where
           valid = not-false _ (p 7);
           new = λ y n. eqb-false (idOf s y) id (no-node-at (nodeCount s) (hasId s id) (p 8) y (n .low) (n .high));
           is-node = is-node s gateway (not-false _ (p 9));
-          settled = not-false _ (p 12);
+          in-system = not-false _ (p 12);
           room = omega (arith, full, S .few);
         },
       )
@@ -99,7 +99,7 @@ module _ (m : Memory) where
       let n = both-nodes u z (p 9) in
       (sound-past m (p 1) (p 2), n .0, n .1)
 
-  -- 15: every node is in the system
+  -- 15: every node is in system
   all-in-system : someNotInSystem s ≡ false → (x : ℕ) → IsNode s x → isInSystem s x ≡ true
   all-in-system e x n = nodes-at (nodeCount s) (isInSystem s) (not-false _ e) x (n .low) (n .high)
 
@@ -168,4 +168,4 @@ pub lookup-free : (m : Memory) (u z : ℕ) → Sound (m .state) (m .tables) → 
 unfolding lookupRefusal
 lookup-free m u z S nu nz =
     state-free m _ S
-    (free (not (areNodes (m .state) u z)) 9 [] (ap not (and-intro _ _ (is-node-of (m .state) u nu) (is-node-of (m .state) z nz))) (sym first-none))
+    (free (not (areNodes (m .state) u z)) 9 [] (ap not (and-intro _ _ (is-node-of (m .state) u nu) (is-node-of (m .state) z nz))) (sym sentence-none))

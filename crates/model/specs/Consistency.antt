@@ -1,14 +1,14 @@
 -- The verdict: document 01, "The verdict is yes exactly when each entry of each member holds min(K, H) members ..".
-use Prim.Native.Nat.{ℕ, _+_, _<_, min}
+use Prim.Native.Nat.{ℕ, _<_, min}
 use mathlib.Core.Path.{_≡_}
 use mathlib.Core.Bool.{Bool, true, cond, not}
 use mathlib.Core.List.{List, []}
 use lib.Dec.{eqb}
 use lib.ListN.{length, getD}
-use Rattle.model.specs.Loops.{allBelow, firstBelow, node}
-use Rattle.model.specs.Memory.{base, digits, depth, nodeCount, tableOf}
+use Rattle.model.specs.Loops.{allBelow, firstBelow}
+use Rattle.model.specs.Memory.{base, digits, depth, tableOf}
 use Rattle.model.specs.Tables.{entrySize, entry}
-use Rattle.model.specs.Nodes.{isNode, qualifies, allNodes, countNodes}
+use Rattle.model.specs.Nodes.{isNode, qualifies, allNodes, countNodes, firstNode}
 
 -- "H being how many members qualify, the owner included"
 unfoldable pub howMany : List ℕ → ℕ → ℕ → ℕ → ℕ
@@ -74,7 +74,7 @@ pub record Verdict : Type 0 where
 -- "A no gives member, level and digit of the first entry that falls short, in that order."
 unfoldable pub firstShort : List ℕ → List ℕ → Verdict
 firstShort s t =
-    let x = firstBelow (nodeCount s) (node (nodeShort s t)) + 1 in
+    let x = firstNode s (nodeShort s t) in
     let i = firstBelow (digits s) (levelShort s t x) in
     record { consistent = 0; node = x; level = i; digit = firstBelow (base s) (entryShort s t x i) }
 

@@ -15,11 +15,11 @@ use Rattle.model.specs.Learning.{learn, learnTable}
 
 -- ---- the records that a step gives a node; r is its record before
 
--- a new node, at rest
+-- a new node, in system
 abbrev pub newNode : ℕ → Node
 newNode id = record { id = id; status = inSystem; level = 0; target = 0; pending = 0; notified = 0 }
 
--- a node at rest
+-- a node in system
 abbrev pub inSystemNode : Node → Node
 inSystemNode r = record { id = r .id; status = inSystem; level = 0; target = 0; pending = 0; notified = 0 }
 
@@ -66,7 +66,7 @@ begun s t id gateway =
 unfoldable pub outstanding : List ℕ → ℕ → ℕ → Bool
 outstanding s x y = isJoining s x && eqb (targetOf s x) y || hasNode (pendingOf s x) y
 
--- ---- a delivery: x sends to y. Tx and Ty are their tables before the step, h their match.
+-- ---- a delivery: x sends to y. Tx and Ty are their tables before the step, h their common suffix.
 
 -- the kinds that a delivery answers: "copied .., sent on .., attached with its level, or notified"
 abbrev pub kindCopied : ℕ

@@ -103,7 +103,7 @@ isInSystem s x = eqb (statusOf s x) inSystem
 abbrev pub isJoining : List ℕ → ℕ → Bool
 isJoining s x = eqb (statusOf s x) copying || eqb (statusOf s x) waiting
 
--- settled or notifying
+-- in system or notifying
 abbrev pub isAttached : List ℕ → ℕ → Bool
 isAttached s x = eqb (statusOf s x) inSystem || eqb (statusOf s x) notifying
 

@@ -1,9 +1,9 @@
 -- The nodes of a state: document 01, "Members are numbered 1 to 64 in order of arrival." A test is asked of every node, of some, or counted.
-use Prim.Native.Nat.{ℕ}
+use Prim.Native.Nat.{ℕ, _+_}
 use mathlib.Core.Bool.{Bool, _&&_}
 use mathlib.Core.List.{List}
 use lib.Dec.{leb}
-use Rattle.model.specs.Loops.{allBelow, anyBelow, countBelow, joinBelow, node}
+use Rattle.model.specs.Loops.{allBelow, anyBelow, countBelow, firstBelow, joinBelow, node}
 use Rattle.model.specs.Ids.{commonSuffix}
 use Rattle.model.specs.Memory.{digits, nodeCount, idOf}
 use Rattle.model.specs.Tables.{qualified}
@@ -31,6 +31,10 @@ anyNode s f = anyBelow (nodeCount s) (node f)
 -- of how many nodes the test f holds
 abbrev pub countNodes : List ℕ → (ℕ → Bool) → ℕ
 countNodes s f = countBelow (nodeCount s) (node f)
+
+-- the first node of which the test f holds; a number above the nodes where there is none
+abbrev pub firstNode : List ℕ → (ℕ → Bool) → ℕ
+firstNode s f = firstBelow (nodeCount s) (node f) + 1
 
 -- the lists f 1, f 2, .., one for each node, joined into one
 abbrev pub joinNodes : List ℕ → (ℕ → List ℕ) → List ℕ

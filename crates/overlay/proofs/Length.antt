@@ -8,7 +8,7 @@ use lib.ListN.{getD}
 use Rattle.model.specs.Memory.{Memory}
 use Rattle.model.specs.Refusals.{writeRefusal}
 use Rattle.model.specs.Calls.{Outcome, refusedAt, refused, taken, writeCall}
-use Rattle.model.proofs.Refusals.{numbered, first-below}
+use Rattle.model.proofs.Refusals.{numbered, sentences-below}
 use Rattle.model.proofs.Calls.{either-end}
 use Rattle.model.proofs.Sections.{image-short}
 use Rattle.model.proofs.Taken.{write-taken}
@@ -24,7 +24,7 @@ write-short : (m : Memory) (out : List ℕ) → Short (writeCall m out .answer)
 unfolding Short writeRefusal writeCall refusedAt taken numbered
 write-short m out =
     either-end (λ (o : Outcome). Short (o .answer)) (writeRefusal m out) (refused m out 1) _
-    (λ nz. (first-below _ refl, omega arith)) (λ z. (omega arith, image-short (m .state) (m .tables) (write-taken m out z .0)))
+    (λ nz. (sentences-below _ refl, omega arith)) (λ z. (omega arith, image-short (m .state) (m .tables) (write-taken m out z .0)))
 
 module _ (m : Memory) (out after : List ℕ) (r n : ℕ) (e : writes m after (r ∷ n ∷ []) ≡ writeCall m out) where
   both-short : Short (r ∷ n ∷ [])

@@ -27,7 +27,7 @@ pub extern "C" fn overlay_found(
     engine::founding::found(state, tables, base, digits, depth, id)
 }
 
-// Reading an image into the memory, every node in the system. Answers the refusal.
+// Reading an image into the memory, every node in system. Answers the refusal.
 #[no_mangle]
 pub extern "C" fn overlay_read(state: &mut [u64], tables: &mut [u8], image: &[u8]) -> u64
     ensures { λ r. ⌜ leaves (memory (now (state .exit)) (now (tables .exit))) (r ∷ []) ≡ readCall (memory (now (state .entry)) (now (tables .entry))) (now (image .entry)) ⌝ }

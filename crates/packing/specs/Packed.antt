@@ -16,6 +16,6 @@ pub record Fit (f₀ f₁ f₂ f₃ f₄ : ℕ) : Type 0 where
   pub fourth : f₄ < 256
 
 -- a refusal that fits a byte and a length that fits 32 bits
-pub record FitLength (f₀ length : ℕ) : Type 0 where
+pub record FitLength (f₀ bytes : ℕ) : Type 0 where
   pub refusal : f₀ < 256
-  pub bytes : length < 4294967296
+  pub wide : bytes < 4294967296

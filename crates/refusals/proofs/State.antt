@@ -11,7 +11,7 @@ use Rattle.model.specs.Memory.{Memory, stateLength, base, digits}
 use Rattle.model.specs.Nodes.{isNode}
 use Rattle.model.specs.Sound.{sound}
 use Rattle.model.specs.Refusals.{Sentence, firstTrue, memoryShort, unsound, stateSentences, stateRefusal}
-use Rattle.model.proofs.Refusals.{numbered, first-leaves, first-goes, first-not-leaves, first-not-goes, first-none, first-refused, first-later}
+use Rattle.model.proofs.Refusals.{numbered, sentence-leaves, sentence-goes, sentence-not-leaves, sentence-not-goes, sentence-none, sentences-refused, sentences-later}
 use Rattle.model.proofs.Sound.{Sound}
 use Rattle.model.proofs.Status.{is-node}
 use Rattle.model.proofs.Taken.{state-taken}
@@ -24,7 +24,7 @@ use Rattle.refusals.specs.Refused.{NodesPlaced}
 module _ (m : Memory) (r : Bool) (e : r ≡ memoryShort m) where
   pub state-short : r ≡ true → 1 ≡ stateRefusal m
   unfolding stateRefusal
-  state-short h = first-leaves (memoryShort m) 1 _ r e h
+  state-short h = sentence-leaves (memoryShort m) 1 _ r e h
 
   module _ (h : r ≡ false) (q : Bool) (f : q ≡ (not (memoryShort m) && sound (m .state) (m .tables))) where
     judged : q ≡ sound (m .state) (m .tables)
@@ -32,11 +32,11 @@ module _ (m : Memory) (r : Bool) (e : r ≡ memoryShort m) where
 
     pub state-unsound : not q ≡ true → 2 ≡ stateRefusal m
     unfolding stateRefusal
-    state-unsound g = first-goes (memoryShort m) 1 _ 2 r e h (first-not-leaves (sound (m .state) (m .tables)) 2 _ q judged g)
+    state-unsound g = sentence-goes (memoryShort m) 1 _ 2 r e h (sentence-not-leaves (sound (m .state) (m .tables)) 2 _ q judged g)
 
     pub state-good : not q ≡ false → 0 ≡ stateRefusal m
     unfolding stateRefusal
-    state-good g = first-goes (memoryShort m) 1 _ 0 r e h (first-not-goes (sound (m .state) (m .tables)) 2 _ 0 q judged g first-none)
+    state-good g = sentence-goes (memoryShort m) 1 _ 0 r e h (sentence-not-goes (sound (m .state) (m .tables)) 2 _ 0 q judged g sentence-none)
 
 -- the record of a sound state's node stands in it
 pub node-placed : (s t : List ℕ) (x : ℕ) (q : Bool) → Sound s t → q ≡ isNode s x → not q ≡ false → Placed s x
@@ -54,12 +54,12 @@ module _ (m : Memory) (r : ℕ) (e : r ≡ stateRefusal m) where
   -- a refusal by 1 or 2 is the call's, whatever its later sentences are
   pub state-refused : (later : List Sentence) → (r ≡ 0 → ⊥) → r ≡ firstTrue ((memoryShort m, 1) ∷ (unsound m, 2) ∷ later)
   unfolding stateRefusal
-  state-refused later nz = first-refused (stateSentences m) later r e nz
+  state-refused later nz = sentences-refused (stateSentences m) later r e nz
 
   module _ (z : r ≡ 0) where
     pub state-later : (later : List Sentence) (x : ℕ) → x ≡ firstTrue later → x ≡ firstTrue ((memoryShort m, 1) ∷ (unsound m, 2) ∷ later)
     unfolding stateRefusal numbered
-    state-later later x q = first-later (stateSentences m) later refl r x e z q
+    state-later later x q = sentences-later (stateSentences m) later refl r x e z q
 
     pub state-sound : Sound (m .state) (m .tables)
     state-sound = state-taken m (sym e ∙ z)

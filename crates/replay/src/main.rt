@@ -10,6 +10,8 @@ use replay_words::table;
 use script::command;
 use script::command::Command;
 use script::words;
+use state::lent::STATE_LENGTH;
+use state::lent::TABLES_LENGTH;
 
 fn not_understood(number: u64) {
     say::text(b"line ");
@@ -69,7 +71,7 @@ fn main() {
         say::text(b"the script is longer than 1048575 bytes\n");
         return;
     }
-    let mut state = [0u64; 520];
-    let mut tables = [0u8; 32768];
+    let mut state = [0u64; STATE_LENGTH];
+    let mut tables = [0u8; TABLES_LENGTH];
     lines(&mut state, &mut tables, &script[..n]);
 }

@@ -33,7 +33,8 @@ fn sentence_to_8(refusal: u64) {
             b"the image's node count is wrong, or its length differs from its counts",
         ),
         Refusal::BAD_ID => text(b"an id has a digit not below the base, or a bit above its digits"),
-        _ => text(b"an id is taken already"),
+        Refusal::ID_TAKEN => text(b"an id is taken already"),
+        _ => return,
     }
 }
 
@@ -48,7 +49,8 @@ fn sentence_from_9(refusal: u64) {
         ),
         Refusal::HELD => text(b"the receiver of a wait request is not settled"),
         Refusal::JOIN_IN_FLIGHT => text(b"a node is not settled"),
-        _ => text(b"the memory for the image is too short"),
+        Refusal::SHORT_OUTPUT => text(b"the memory for the image is too short"),
+        _ => return,
     }
 }
 

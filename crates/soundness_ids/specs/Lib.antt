@@ -1,2 +1,2 @@
--- What the check of the ids hands to the checks that lean on it.
+-- What the check of the ids cites.
 pub mod Rows

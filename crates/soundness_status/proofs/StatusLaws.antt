@@ -16,11 +16,11 @@ use Rattle.state.specs.declared.settings.Settings.{Settings}
 use Rattle.state.proofs.Loads.{carried}
 use Rattle.model.proofs.Memory.{same-status}
 use Rattle.model.proofs.Status.{IsNode}
-use Rattle.soundness_status.specs.StatusFacts.{atRest, joiningAtRest}
+use Rattle.soundness_status.specs.StatusFacts.{inSystemWords, joiningWords}
 
-pub rest-of : (s : List ℕ) (x : ℕ) (r : Node) (q : Bool) → bookNode r ≡ nodeOf s x → q ≡ atRest (bookNode r) → q ≡ inSystemSound s x
+pub rest-of : (s : List ℕ) (x : ℕ) (r : Node) (q : Bool) → bookNode r ≡ nodeOf s x → q ≡ inSystemWords (bookNode r) → q ≡ inSystemSound s x
 unfolding inSystemSound
-rest-of s x r q w = subst (λ (r : Record). q ≡ atRest r) w
+rest-of s x r q w = subst (λ (r : Record). q ≡ inSystemWords r) w
 
 -- ---- copying and waiting
 
@@ -34,16 +34,16 @@ target-node s n t h p e g =
     let m : t ≤ n = leb-true t n (and-right (leb 1 t) _ o) in record { low = l; high = omega arith }
 
 pub copying-of : (s : List ℕ) (x : ℕ) (v : Settings) (r : Node) (q : Bool) → SettingsOf s v → bookNode r ≡ nodeOf s x
-    → q ≡ (isNodeOf (v .nodes) (r .target) && (isInSystem s (r .target) && joiningAtRest (bookNode r))) → q ≡ copyingSound s x
+    → q ≡ (isNodeOf (v .nodes) (r .target) && (isInSystem s (r .target) && joiningWords (bookNode r))) → q ≡ copyingSound s x
 unfolding copyingSound joiningSound
 copying-of s x v r q =
-    carried (λ v r. q ≡ (isNodeOf (v .nodes) (r .target) && (isInSystem s (r .target) && joiningAtRest r))) s x v r
+    carried (λ v r. q ≡ (isNodeOf (v .nodes) (r .target) && (isInSystem s (r .target) && joiningWords r))) s x v r
 
 pub waiting-of : (s : List ℕ) (x : ℕ) (v : Settings) (r : Node) (q : Bool) → SettingsOf s v → bookNode r ≡ nodeOf s x
-    → q ≡ (isNodeOf (v .nodes) (r .target) && (isAttached s (r .target) && joiningAtRest (bookNode r))) → q ≡ waitingSound s x
+    → q ≡ (isNodeOf (v .nodes) (r .target) && (isAttached s (r .target) && joiningWords (bookNode r))) → q ≡ waitingSound s x
 unfolding waitingSound joiningSound
 waiting-of s x v r q =
-    carried (λ v r. q ≡ (isNodeOf (v .nodes) (r .target) && (isAttached s (r .target) && joiningAtRest r))) s x v r
+    carried (λ v r. q ≡ (isNodeOf (v .nodes) (r .target) && (isAttached s (r .target) && joiningWords r))) s x v r
 
 -- ---- the four statuses, by the number that the code has read
 

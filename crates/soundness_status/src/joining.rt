@@ -7,14 +7,14 @@ ghost use Rattle.model.specs.Memory.{nodeOf};
 ghost use Rattle.model.specs.Sound.{copyingSound, waitingSound};
 ghost use Rattle.state.specs.Loaded.{SettingsOf, bookNode};
 ghost use Rattle.state.specs.Checked.{Ranged};
-ghost use Rattle.soundness_status.specs.StatusFacts.{joiningAtRest};
+ghost use Rattle.soundness_status.specs.StatusFacts.{joiningWords};
 use state::node;
 use state::record::Node;
 use state::sets;
 use state::settings::Settings;
 
 fn at_rest(r: Node) -> bool
-    ensures { λ q. ⌜ q ≡ joiningAtRest (bookNode r) ⌝ }
+    ensures { λ q. ⌜ q ≡ joiningWords (bookNode r) ⌝ }
 {
     if r.level != 0 {
         return false;

@@ -5,7 +5,7 @@ ghost use Rattle.state.specs.Loaded.{SettingsOf, bookNode};
 ghost use Rattle.model.proofs.Status.{IsNode};
 ghost use Rattle.model.specs.Nodes.{allNodes};
 ghost use Rattle.state.specs.Checked.{Identified};
-ghost use Rattle.soundness_status.specs.StatusFacts.{atRest};
+ghost use Rattle.soundness_status.specs.StatusFacts.{inSystemWords};
 use state::record;
 use state::record::Node;
 use state::sets;
@@ -16,7 +16,7 @@ mod joining;
 
 // "a settled member's attach level, target and sets are zero"
 fn in_system(r: Node) -> bool
-    ensures { λ q. ⌜ q ≡ atRest (bookNode r) ⌝ }
+    ensures { λ q. ⌜ q ≡ inSystemWords (bookNode r) ⌝ }
 {
     if r.level != 0 {
         return false;

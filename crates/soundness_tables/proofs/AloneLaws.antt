@@ -20,7 +20,7 @@ use Rattle.model.proofs.Bools.{and-intro, or-intro-left, is-false, true-or-fals
 use Rattle.model.proofs.Loops.{all-of, all-zero, count-step, count-some}
 use Rattle.model.proofs.Splice.{part-at}
 use Rattle.model.proofs.Zero.{part-zero-of}
-use Rattle.soundness_tables.specs.TableFacts.{filledAt, filledSound, slotExact, entryExact, levelExact}
+use Rattle.soundness_tables.specs.TableFacts.{slotFilled, filledSound, slotExact, entryExact, levelExact}
 use Rattle.soundness_tables.proofs.SlotLaws.{slot-empty, slot-filled}
 
 -- ---- counting
@@ -86,7 +86,7 @@ module _ (s : List ℕ) (x : ℕ) (T : List ℕ) (i j : ℕ) (whole : length T �
 -- the code's facts: u is the first of entry j, count the number of filled slots
 pub alone-sound : (s : List ℕ) (x : ℕ) (T : List ℕ) (i j u count : ℕ) → length T ≡ 512 → i < 8 → j ≡ digitOf (idOf s x) i → j < base s
     → base s ≤ 16 → 1 ≤ depth s → x ≤ nodeCount s → 1 ≤ x → u ≡ slotAt T i j 0 → u ≡ x
-    → count ≡ countBelow 64 (filledAt (take (64 * i + 64 - 64 * i) (drop (64 * i) T))) → count ≡ 1 → true ≡ levelExact s x T i
+    → count ≡ countBelow 64 (slotFilled (take (64 * i + 64 - 64 * i) (drop (64 * i) T))) → count ≡ 1 → true ≡ levelExact s x T i
 alone-sound s x T i j u count whole l e below few deep known some p q c one =
     level-is-sound s x T i j whole l e below few deep known (λ z. omega arith) (sym p ∙ q) others
   where
@@ -99,7 +99,7 @@ alone-sound s x T i j u count whole l e below few deep known some p q c one =
     at : (k : ℕ) → k < 64 → getD row k 0 ≡ getD T (64 * i + k) 0
     at k g = part-at (64 * i) (64 * i + 64 - 64 * i) T (omega arith) k (omega arith)
 
-    own : filledAt row (4 * j) ≡ true
+    own : slotFilled row (4 * j) ≡ true
     own =
         let f : x ≢ 0 = omega arith in
         let w : 64 * i + 4 * j ≡ 64 * i + 4 * j + 0 = omega arith in
@@ -108,4 +108,4 @@ alone-sound s x T i j u count whole l e below few deep known some p q c one =
     others : (k : ℕ) → k < 64 → (k ≡ 4 * j → ⊥) → getD T (64 * i + k) 0 ≡ 0
     others k g h =
         sym (at k g)
-        ∙ eqb-true (getD row k 0) 0 (not-false _ (count-one 64 (filledAt row) (4 * j) (omega arith) own (sym c ∙ one) k g h))
+        ∙ eqb-true (getD row k 0) 0 (not-false _ (count-one 64 (slotFilled row) (4 * j) (omega arith) own (sym c ∙ one) k g h))

@@ -17,7 +17,7 @@ use Rattle.model.proofs.Nodes.{nodes-at}
 use Rattle.state.specs.Checked.{Identified, OwnerOf}
 use Rattle.state.specs.declared.node.Owner.{Owner}
 use Rattle.soundness_tables.specs.declared.rows.Row.{Row}
-use Rattle.soundness_tables.specs.TableFacts.{filledAt, RowMade, entryExact, levelExact}
+use Rattle.soundness_tables.specs.TableFacts.{slotFilled, RowMade, entryExact, levelExact}
 use Rattle.soundness_tables.proofs.AloneLaws.{alone-sound}
 
 module _ (s : List ℕ) (o : Owner) (T : List ℕ) (i j u : ℕ) (w : OwnerOf s o) (d : j ≡ digitOf (o .id) i) (p : u ≡ slotAt T i j 0) where
@@ -34,7 +34,7 @@ module _ (s : List ℕ) (o : Owner) (T : List ℕ) (i j u : ℕ) (w : OwnerOf s 
 
   -- nothing else stands in the level
   pub level-alone : (count : ℕ) → Identified s → length T ≡ 512 → i < digits s → u ≡ o .number
-      → count ≡ countBelow 64 (filledAt (take (64 * i + 64 - 64 * i) (drop (64 * i) T))) → count ≡ 1 → true ≡ levelExact s (o .number) T i
+      → count ≡ countBelow 64 (slotFilled (take (64 * i + 64 - 64 * i) (drop (64 * i) T))) → count ≡ 1 → true ≡ levelExact s (o .number) T i
   level-alone count v whole l e c one =
       let r = v .ranged in
       let id = idOf s (o .number) in

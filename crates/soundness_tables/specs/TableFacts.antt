@@ -25,8 +25,8 @@ pub record EntryIn (T : List ℕ) (i j : ℕ) : Type 0 where
 abbrev pub filledByte : ℕ → Bool
 filledByte w = not (eqb w 0)
 
-abbrev pub filledAt : List ℕ → ℕ → Bool
-filledAt row p = filledByte (getD row p 0)
+abbrev pub slotFilled : List ℕ → ℕ → Bool
+slotFilled row p = filledByte (getD row p 0)
 
 -- level i of the owner's table as the code makes it
 pub record RowMade (o : Owner) (i : ℕ) (r : Row) : Type 0 where

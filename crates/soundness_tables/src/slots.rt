@@ -6,7 +6,7 @@ ghost use lib.ListN.{length};
 ghost use Rattle.model.specs.Loops.{allBelow, countBelow};
 ghost use Rattle.model.specs.Tables.{slotAt};
 ghost use Rattle.model.specs.Sound.{slotDiffers, noGapBefore};
-ghost use Rattle.soundness_tables.specs.TableFacts.{EntryIn, filledByte, filledAt};
+ghost use Rattle.soundness_tables.specs.TableFacts.{EntryIn, filledByte, slotFilled};
 
 // The node in slot k.
 pub fn at(table: &[u8], i: usize, j: usize, k: usize) -> usize
@@ -63,7 +63,7 @@ fn one(slot: u8) -> u8
 // How many slots of a level are filled: counted with no early exit, so that wide instructions serve.
 pub fn filled(level: &[u8]) -> u8
     requires { ⌜ length (now level) ≡ 64 ⌝ }
-    ensures { λ r. ⌜ r ≡ countBelow 64 (filledAt (now (level .entry))) ⌝ }
+    ensures { λ r. ⌜ r ≡ countBelow 64 (slotFilled (now (level .entry))) ⌝ }
 {
     let mut count: u8 = 0;
     let mut p = 0;

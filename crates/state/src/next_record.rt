@@ -7,7 +7,7 @@ use crate::record::Node;
 use crate::sets;
 use crate::status::Status;
 
-// A new node, at rest.
+// A new node, in system.
 pub fn new_node(id: u32) -> Node
     ensures { λ n. ⌜ bookNode n ≡ join.newNode id ⌝ }
 {
@@ -21,7 +21,7 @@ pub fn new_node(id: u32) -> Node
     }
 }
 
-// One at rest.
+// One in system.
 fn in_system_node(r: Node) -> Node
     ensures { λ n. ⌜ bookNode n ≡ join.inSystemNode (bookNode r) ⌝ }
 {

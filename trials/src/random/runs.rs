@@ -86,7 +86,7 @@ impl<'a> Maker<'a> {
         self.call(Call::Found { settings, id });
     }
 
-    /// Any node, in the system or not.
+    /// Any node, in system or not.
     fn any(&mut self) -> u64 {
         self.rng.between(1, self.network().count() as u64)
     }

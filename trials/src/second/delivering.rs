@@ -41,7 +41,7 @@ fn try_deliver(
     let (state, tables) = memory::lent_mut(state, tables).ok_or(Refusal::ShortMemory)?;
     let network = Network::decode(state);
     let (sender, receiver) = (network.number(sender)?, network.number(receiver)?);
-    Refusal::NotOutstanding.when(!network.node(sender).has_asked(receiver))?;
+    Refusal::NotOutstanding.when(!network.node(sender).requests(receiver))?;
     let waiting = matches!(network.node(sender).status, Status::Waiting { .. });
     Refusal::Held.when(waiting && !network.node(receiver).in_system())?;
 
@@ -222,7 +222,7 @@ impl Delivery {
         chosen
     }
 
-    /// A notifying sender that has nobody left to ask is in the system from this step on.
+    /// A notifying sender that has nobody left to ask is in system from this step on.
     fn settle(&mut self) -> bool {
         let status = self.network.node(self.sender).status;
         let settled = matches!(status, Status::Notifying { pending, .. } if pending.is_empty());

@@ -50,7 +50,7 @@ impl Node {
     }
 
     /// Is a request from this node to `receiver` outstanding?
-    pub fn has_asked(&self, receiver: usize) -> bool {
+    pub fn requests(&self, receiver: usize) -> bool {
         match self.status {
             Status::InSystem => false,
             Status::Copying { target } | Status::Waiting { target } => target == receiver,
@@ -93,7 +93,7 @@ impl Node {
 }
 
 impl Network {
-    /// A network whose nodes are all in the system.
+    /// A network whose nodes are all in system.
     pub fn settled(settings: Settings, ids: &[u32]) -> Network {
         let in_system = |&id| Node {
             id,
@@ -172,8 +172,8 @@ impl Network {
         let numbers = 1..=self.count();
         self.iter()
             .flat_map(|(sender, node)| {
-                let asked = numbers.clone().filter(|&receiver| node.has_asked(receiver));
-                asked.map(move |receiver| (sender, receiver))
+                let open = numbers.clone().filter(|&receiver| node.requests(receiver));
+                open.map(move |receiver| (sender, receiver))
             })
             .collect()
     }

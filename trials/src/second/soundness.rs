@@ -128,10 +128,10 @@ impl Judge {
             && pending.is_subset(others)
             && pending.is_disjoint(notified)
             && notified.is_subset(others)
-            && pending.iter().all(|asked| {
+            && pending.iter().all(|node| {
                 let common = self
                     .settings
-                    .common_suffix(self.ids[number], self.ids[asked]);
+                    .common_suffix(self.ids[number], self.ids[node]);
                 common as u64 >= attach_level
             })
     }

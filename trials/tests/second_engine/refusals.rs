@@ -6,7 +6,7 @@ use trials::second;
 
 use crate::support::Trial;
 
-/// A network of 64 nodes, all in the system.
+/// A network of 64 nodes, all in system.
 fn full() -> Trial {
     let mut trial = Trial::founded([16, 2, 1], 0);
     for id in 1..64 {
@@ -16,7 +16,7 @@ fn full() -> Trial {
     trial
 }
 
-/// Nodes 1 and 2 are in the system, 3 and 4 have begun.
+/// Nodes 1 and 2 are in system, 3 and 4 have begun.
 fn two_joins() -> Trial {
     let mut trial = Trial::founded([2, 3, 1], 0x000);
     trial.begin(0x001, 1);

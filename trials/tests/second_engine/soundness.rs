@@ -16,7 +16,7 @@ fn judged(memory: &Lent) -> bool {
     answer
 }
 
-/// Nodes 1 and 2 in the system, 3 notifying with 2 pending and 1 notified, 4 waiting for 3, 5 copying.
+/// Nodes 1 and 2 in system, 3 notifying with 2 pending and 1 notified, 4 waiting for 3, 5 copying.
 fn all_statuses() -> Lent {
     let mut trial = Trial::founded([2, 3, 1], 0x000);
     trial.begin(0x100, 1);

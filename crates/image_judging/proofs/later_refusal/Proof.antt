@@ -1,7 +1,7 @@
 -- `later_refusal`: each return is a sentence of the chain. Assumes nothing.
 use denote.Ref.{now}
 use borrow.Author.Needs.{needs}
-use Rattle.model.proofs.Refusals.{sentences, first-not-goes, first-none}
+use Rattle.model.proofs.Refusals.{sentences, sentence-not-goes, sentence-none}
 use Rattle.image_judging.specs.Judged.{laterRefusal}
 use Rattle.image_judging.proofs.Sentences.{named-of}
 use Rattle.image_judging.proofs.later_refusal.Statement.{statement}
@@ -41,10 +41,10 @@ returns-4 c = search sentences
 returns-5 : tie.Need-returns-5
 unfolding laterRefusal
 returns-5 c =
-    first-not-goes _ 7 _ _ _ (c .before .before .before .before .before .before .before .valid .ensures) (c .before .before .before .before .before .before .if1 .left)
-    (first-not-goes _ 8 _ _ _ (c .before .before .before .before .before .different .ensures) (c .before .before .before .before .if2 .left)
-    (first-not-goes _ 9 _ _ _ (c .before .before .before .named .ensures) (c .before .before .if3 .left)
-    (first-not-goes _ 10 _ _ _ (c .before .good2 .ensures) (c .if4 .left) first-none)))
+    sentence-not-goes _ 7 _ _ _ (c .before .before .before .before .before .before .before .valid .ensures) (c .before .before .before .before .before .before .if1 .left)
+    (sentence-not-goes _ 8 _ _ _ (c .before .before .before .before .before .different .ensures) (c .before .before .before .before .if2 .left)
+    (sentence-not-goes _ 9 _ _ _ (c .before .before .before .named .ensures) (c .before .before .if3 .left)
+    (sentence-not-goes _ 10 _ _ _ (c .before .good2 .ensures) (c .if4 .left) sentence-none)))
 
 pub later-refusal-spec : {M : Type 1} → statement M
 later-refusal-spec =

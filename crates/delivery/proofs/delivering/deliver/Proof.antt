@@ -1,5 +1,5 @@
 -- `deliver`: the arm that is taken is the definition's case, and a sender that asks has one of the three statuses. Assumes nothing.
-use Rattle.delivery_parts.proofs.Deliveries.{delivers, delivers-copying, delivers-waiting, delivers-notifying, settled-asks-nothing, other-asks-nothing}
+use Rattle.delivery_parts.proofs.Deliveries.{delivers, delivers-copying, delivers-waiting, delivers-notifying, in-system-asks-nothing, other-asks-nothing}
 use borrow.Author.Needs.{needs}
 use Rattle.delivery.proofs.delivering.deliver.Statement.{statement}
 use Rattle.delivery.proofs.delivering.deliver.Tie as tie
@@ -47,7 +47,7 @@ same-length-7 : tie.Need-same-length-7
 same-length-7 c = search needs
 
 returns-4 : tie.Need-returns-4
-returns-4 c = search settled-asks-nothing
+returns-4 c = search in-system-asks-nothing
 
 same-length-8 : tie.Need-same-length-8
 same-length-8 c = search needs

@@ -1,4 +1,4 @@
--- `outstanding`: the target of its own request, or a node of its asked set. Assumes nothing.
+-- `outstanding`: the target of its own request, or a node of its pending set. Assumes nothing.
 use borrow.Author.Needs.{needs}
 use Rattle.refusals.proofs.DeliverLaws.{asks-target, asks-pending}
 use Rattle.refusals.proofs.delivering.outstanding.Statement.{statement}

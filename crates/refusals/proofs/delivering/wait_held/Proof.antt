@@ -1,4 +1,4 @@
--- `wait_held`: the sender waits, and the receiver is not settled. Assumes nothing.
+-- `wait_held`: the sender waits, and the receiver is not in system. Assumes nothing.
 use borrow.Author.Needs.{needs}
 use Rattle.refusals.proofs.DeliverLaws.{not-waiting, waits-on}
 use Rattle.refusals.proofs.delivering.wait_held.Statement.{statement}

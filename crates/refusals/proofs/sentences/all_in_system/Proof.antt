@@ -1,4 +1,4 @@
--- `all_in_system`: the loop is left at the first node that is not in the system. Assumes nothing.
+-- `all_in_system`: the loop is left at the first node that is not in system. Assumes nothing.
 use Prim.Native.Nat.{_≤_, _-_}
 use mathlib.Core.Path.{_≡_, refl, sym, _∙_}
 use mathlib.Core.Bool.{true, false}

@@ -5,13 +5,13 @@ use native.Mathlib.Omega.{arith}
 use borrow.Author.Needs.{needs}
 use Rattle.model.specs.Loops.{countBelow}
 use Rattle.model.proofs.Loops.{count-zero, count-ends}
-use Rattle.soundness_tables.specs.TableFacts.{filledAt}
+use Rattle.soundness_tables.specs.TableFacts.{slotFilled}
 use Rattle.soundness_tables.proofs.AloneLaws.{count-goes}
 use Rattle.soundness_tables.proofs.slots.filled.Statement.{statement}
 use Rattle.soundness_tables.proofs.slots.filled.Tie as tie
 
 abbrev Inv-loop : tie.InvT-loop
-Inv-loop level count₀ p₀ count p = (p ≤ 64) × (count ≡ countBelow p (filledAt level)) × (count ≤ p)
+Inv-loop level count₀ p₀ count p = (p ≤ 64) × (count ≡ countBelow p (slotFilled level)) × (count ≤ p)
 
 abbrev μ-loop : tie.MeasureT-loop
 μ-loop level count₀ p₀ count p = 64 - p
