@@ -7,15 +7,14 @@ use native.Mathlib.Omega.{arith}
 use lib.Dec.{eqb}
 use lib.ListN.{length}
 use borrow.Author.Tests.{eq-eqb, ne-eqb}
-use Rattle.model.specs.Memory.{Node as Record, nodeOf, statusOf, levelOf, pendingOf, notifiedOf, withNode, inSystem, copying, waiting, isInSystem, addNode, removeNode, tableOf, withTable}
-use Rattle.model.specs.Nodes.{suffixOf}
+use Rattle.model.specs.Memory.{Node as Record, nodeOf, statusOf, levelOf, pendingOf, notifiedOf, withNode, inSystem, copying, waiting, notifying, isInSystem, addNode, removeNode, tableOf, withTable}
 use Rattle.model.specs.Learning.{learn, learnTable}
-use Rattle.model.specs.Join.{Delivery, joiningNode, notifyingNode, settle, roomAtSuffix, firstAtSuffix, attachLevel, gather, delivered, delivery}
+use Rattle.model.specs.Join.{Delivery, joiningNode, notifyingNode, settle, roomAtSuffix, firstAtSuffix, gather, delivered, delivery}
 use Rattle.model.specs.Join.{deliverCopying, deliverSentOn, deliverAttached, deliverWaiting, deliverNotifying}
 use Rattle.model.specs.Calls.{Outcome, taken, deliveryFields}
 use Rattle.model.proofs.Sound.{Sound}
 use Rattle.model.proofs.Sender.{CanDeliver, Sending, copies, waits, notifies, sends, Receiver}
-use Rattle.model.proofs.DeliveryDid.{levelAt, stateAt, pendingAt, to-receiver}
+use Rattle.model.proofs.DeliveryDid.{levelAt, stateAt, pendingAt, delivery-is, to-receiver}
 use Rattle.model.proofs.Memory.{same-level, same-pending, same-notified, stored-twice, table-back}
 use Rattle.model.proofs.Settling.{settled-is}
 use Rattle.state.specs.declared.record.Node.{Node}
@@ -190,18 +189,15 @@ module _ (s t : List ℕ) (x y : ℕ) (o : Outcome) where
 
   pub delivers-copying : (n : ℕ) → n ≡ statusOf s x → n ≡ 1 → o ≡ tookDelivery s t x y (deliverCopying s x y (tableOf t x) (tableOf t y))
       → o ≡ tookDelivery s t x y (delivery s t x y)
-  unfolding delivery
-  delivers-copying n e q f = rw (sym e ∙ q) f
+  delivers-copying n e q f = f ∙ ap (tookDelivery s t x y) (sym (delivery-is s t x y copying (sym e ∙ q)))
 
   pub delivers-waiting : (n : ℕ) → n ≡ statusOf s x → n ≡ 2 → o ≡ tookDelivery s t x y (deliverWaiting s x y (tableOf t x) (tableOf t y))
       → o ≡ tookDelivery s t x y (delivery s t x y)
-  unfolding delivery
-  delivers-waiting n e q f = rw (sym e ∙ q) f
+  delivers-waiting n e q f = f ∙ ap (tookDelivery s t x y) (sym (delivery-is s t x y waiting (sym e ∙ q)))
 
   pub delivers-notifying : (n : ℕ) → n ≡ statusOf s x → n ≡ 3 → o ≡ tookDelivery s t x y (deliverNotifying s x y (tableOf t x) (tableOf t y))
       → o ≡ tookDelivery s t x y (delivery s t x y)
-  unfolding delivery
-  delivers-notifying n e q f = rw (sym e ∙ q) f
+  delivers-notifying n e q f = f ∙ ap (tookDelivery s t x y) (sym (delivery-is s t x y notifying (sym e ∙ q)))
 
 -- ---- what the refusals of a delivery leave
 

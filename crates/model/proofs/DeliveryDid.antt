@@ -120,6 +120,18 @@ level-low : (s Ty : List ℕ) (x h : ℕ) → hasRoom s Ty x h ≡ true → atta
 unfolding attachLevel
 level-low s Ty x h e = first-min (suc h) (roomFrom s Ty x h) h (room-from s Ty x h e)
 
+-- "What a delivery does is decided by the sender's status"
+pub delivery-is : (s t : List ℕ) (x y n : ℕ) → statusOf s x ≡ n
+    → delivery s t x y
+    ≡ cond (eqb n copying) (deliverCopying s x y (tableOf t x) (tableOf t y))
+    (cond (eqb n waiting) (deliverWaiting s x y (tableOf t x) (tableOf t y)) (deliverNotifying s x y (tableOf t x) (tableOf t y)))
+unfolding delivery
+delivery-is s t x y n =
+    ap
+    (λ (n : ℕ).
+    cond (eqb n copying) (deliverCopying s x y (tableOf t x) (tableOf t y))
+    (cond (eqb n waiting) (deliverWaiting s x y (tableOf t x) (tableOf t y)) (deliverNotifying s x y (tableOf t x) (tableOf t y))))
+
 module _ (s t : List ℕ) (S : Sound s t) (x y : ℕ) (nx : IsNode s x) (ny : IsNode s y) (r : Receiver s x y) where
   abbrev room : Bool
   room = roomAtSuffix s (tableOf t y) x y
@@ -223,21 +235,10 @@ module _ (s t : List ℕ) (S : Sound s t) (x y : ℕ) (nx : IsNode s x) (ny : Is
         tells = record { sender = refl; own = refl; theirs = refl; settling = settling _ refl };
       }
 
-  delivery-is : (n : ℕ) → statusOf s x ≡ n
-      → delivery s t x y
-      ≡ cond (eqb n copying) (deliverCopying s x y (tableOf t x) (tableOf t y))
-      (cond (eqb n waiting) (deliverWaiting s x y (tableOf t x) (tableOf t y)) (deliverNotifying s x y (tableOf t x) (tableOf t y)))
-  unfolding delivery
-  delivery-is n =
-      ap
-      (λ (n : ℕ).
-      cond (eqb n copying) (deliverCopying s x y (tableOf t x) (tableOf t y))
-      (cond (eqb n waiting) (deliverWaiting s x y (tableOf t x) (tableOf t y)) (deliverNotifying s x y (tableOf t x) (tableOf t y))))
-
   did : Sending s x y → Did s t x y (delivery s t x y)
-  did (copies e g o) = subst (Did s t x y) (sym (delivery-is copying e)) (copied e g)
-  did (waits e g i o) = subst (Did s t x y) (sym (delivery-is waiting e)) (waited e g i)
-  did (notifies e h o) = subst (Did s t x y) (sym (delivery-is notifying e)) (notifying-did e h o)
+  did (copies e g o) = subst (Did s t x y) (sym (delivery-is s t x y copying e)) (copied e g)
+  did (waits e g i o) = subst (Did s t x y) (sym (delivery-is s t x y waiting e)) (waited e g i)
+  did (notifies e h o) = subst (Did s t x y) (sym (delivery-is s t x y notifying e)) (notifying-did e h o)
 
 module _ (s t : List ℕ) (S : Sound s t) (x y : ℕ) (c : CanDeliver s x y) where
   pub to-receiver : Receiver s x y

@@ -7,12 +7,13 @@ use native.Mathlib.Omega.{arith}
 use lib.Dec.{eqb}
 use lib.ListN.{replicate}
 use Rattle.model.specs.Loops.{firstBelow, node}
+use Rattle.model.specs.Nodes.{firstNode}
 use Rattle.model.specs.Memory.{Memory, base, digits, nodeCount, inSystem}
 use Rattle.model.specs.Join.{delivery}
 use Rattle.model.specs.Lookup.{lookup}
 use Rattle.model.specs.Consistency.{consistent, nodeShort, levelShort, entryShort, firstShort, verdict}
 use Rattle.model.specs.Refusals.{Sentence, firstTrue, beginRefusal, deliverRefusal, lookupRefusal, verdictRefusal}
-use Rattle.model.specs.Calls.{Outcome, refusedAt, refused, taken, unlessRefused, deliveryFields, verdictFields, beginCall, deliverCall, lookupCall, verdictCall}
+use Rattle.model.specs.Calls.{Outcome, refusedAt, refused, taken, unlessRefused, verdictFields, beginCall, deliverCall, lookupCall, verdictCall}
 use Rattle.model.proofs.Refusals.{numbered, sentences-below}
 use Rattle.model.proofs.Calls.{either-end}
 use Rattle.model.proofs.Loops.{first-le}
@@ -86,7 +87,7 @@ unfolding Bytes verdict firstShort
 judged-bytes s t S = go (consistent s t)
   where
     x : ℕ
-    x = firstBelow (nodeCount s) (node (nodeShort s t)) + 1
+    x = firstNode s (nodeShort s t)
 
     i : ℕ
     i = firstBelow (digits s) (levelShort s t x)

@@ -10,7 +10,7 @@ use Rattle.model.specs.Memory.{Node, digits, nodeCount, nodeOf, statusOf
 use Rattle.model.specs.Join.{inSystemNode, joiningNode}
 use Rattle.model.specs.Nodes.{isNode, suffixOf, allNodes}
 use Rattle.model.specs.Sound.{inSystemSound, joiningSound, copyingSound, waitingSound, pendingSound, notifiedSound, notifyingSound, statusSound}
-use Rattle.model.proofs.Bools.{and-left, and-right, and-intro, or-cases, or-right, or-intro-left, or-intro-right, not-both, parts}
+use Rattle.model.proofs.Bools.{and-intro, or-cases, or-right, or-intro-left, or-intro-right, not-both, parts}
 use Rattle.model.proofs.Nodes.{nodes-at, nodes-of}
 
 -- whether x is attached, by the number of its status

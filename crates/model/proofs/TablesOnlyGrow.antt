@@ -4,7 +4,6 @@ use mathlib.Core.Path.{_≡_, refl, _∙_}
 use mathlib.Core.Bool.{true, false}
 use mathlib.Core.List.{List}
 use native.Mathlib.Nat.{le-trans}
-use native.Mathlib.Omega.{arith}
 use lib.ListN.{length}
 use Rattle.model.specs.Memory.{nodeCount, Node, nodeOf, idOf, isAttached, isInSystem, withNode, tableOf}
 use Rattle.model.specs.Join.{Delivery, notifyingNode, begun, delivery, delivered}

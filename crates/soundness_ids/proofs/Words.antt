@@ -11,15 +11,12 @@ use lib.ListN.{length, getD, set, replicate, length-set}
 use lib.Seq.{getD-set-same, getD-set-other}
 use Rattle.model.specs.Loops.{allBelow, node}
 use Rattle.model.specs.Ids.{validId}
-use Rattle.model.specs.Memory.{base, digits, nodeCount, idOf}
-use Rattle.model.specs.Sound.{hasValidId, idDiffers, hasNewId}
+use Rattle.model.specs.Memory.{nodeCount, idOf}
+use Rattle.model.specs.Sound.{idDiffers, hasNewId}
 use Rattle.model.proofs.Bools.{is-false}
 use Rattle.model.proofs.Ids.{valid-fits}
 use Rattle.model.proofs.Loops.{all-same, all-goes, all-leaves}
-use Rattle.model.proofs.Nodes.{nodes-at}
-use Rattle.model.proofs.Status.{IsNode}
 use Rattle.model.specs.Nodes.{allNodes}
-use Rattle.state.specs.Checked.{Identified}
 use Rattle.soundness_ids.specs.Rows.{InRow, differsAt}
 
 pub word-invalid : (b d id : ℕ) → d ≤ 8 → 4294967295 < id → false ≡ validId b d id

@@ -1,6 +1,5 @@
 // "valid, different ids".
 ghost use mathlib.Core.Path.{_≡_};
-ghost use Rattle.model.specs.Loops.{node};
 ghost use Rattle.model.specs.Sound.{hasValidId, hasNewId};
 ghost use Rattle.state.specs.Loaded.{SettingsOf};
 ghost use Rattle.model.proofs.Status.{IsNode};
