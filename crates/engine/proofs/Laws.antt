@@ -7,9 +7,10 @@ use borrow.Author.Tests.{not-false}
 use Rattle.model.specs.Memory.{Memory, stateLength, tablesLength}
 use Rattle.model.specs.Lookup.{Lookup}
 use Rattle.model.specs.Consistency.{Verdict}
-use Rattle.model.specs.Calls.{lookupFields, verdictFields}
+use Rattle.model.specs.Calls.{Outcome, refusedAt, refused, taken, lookupFields, verdictFields, soundCall}
 use Rattle.model.specs.Image.{byteAt, imageOf}
-use Rattle.model.specs.Refusals.{foundRefusal, readRefusal, beginRefusal, deliverRefusal, lookupRefusal, verdictRefusal, writeRefusal}
+use Rattle.model.specs.Refusals.{foundRefusal, readRefusal, beginRefusal, deliverRefusal, lookupRefusal, verdictRefusal, writeRefusal, stateRefusal}
+use Rattle.model.proofs.Calls.{either-end}
 use Rattle.model.proofs.Refusals.{numbered, testOf, passed}
 use Rattle.model.proofs.Sound.{Sound}
 use Rattle.model.proofs.Status.{IsNode}
@@ -18,6 +19,7 @@ use Rattle.model.proofs.Taken.{found-taken, read-taken, begin-taken, deliver-ta
 use Rattle.image_judging.proofs.Sentences.{counted-of}
 use Rattle.join.specs.Begins.{Begins}
 use Rattle.image_loading.specs.Loads.{Loads}
+use Rattle.engine.specs.Outcomes.{leaves}
 
 -- the fields of an answer, by what they are of
 pub one-field : (x y : ℕ) → x ≡ y → _≡_ {A = List ℕ} (x ∷ []) (y ∷ [])
@@ -28,6 +30,14 @@ lookup-fields a b e = ap lookupFields e
 
 pub verdict-fields : (a b : Verdict) → a ≡ b → verdictFields a ≡ verdictFields b
 verdict-fields a b e = ap verdictFields e
+
+-- the check of a state answers its refusal at either end
+pub sound-is : (m : Memory) (r : ℕ) → r ≡ stateRefusal m → leaves m (r ∷ []) ≡ soundCall m
+unfolding soundCall refusedAt taken
+sound-is m r e =
+    ap (λ (r : ℕ). leaves m (r ∷ [])) e
+    ∙ either-end (λ (o : Outcome). leaves m (stateRefusal m ∷ []) ≡ o) (stateRefusal m) (refused m [] 0) (taken m [] []) (λ nz. refl)
+    (λ z. ap (λ (r : ℕ). leaves m (r ∷ [])) z)
 
 -- r is the refusal that the code found
 module _ (m : Memory) (r : ℕ) where

@@ -1,5 +1,5 @@
 -- The fields of every answer but the length of a written image are below 256. Assumes nothing.
-use Prim.Native.Nat.{ℕ, zero, suc, _+_, _≤_, _<_}
+use Prim.Native.Nat.{ℕ, zero, suc, _≤_, _<_}
 use mathlib.Core.Path.{_≡_, refl}
 use mathlib.Core.Bool.{Bool, true, false, cond}
 use mathlib.Core.List.{List, [], _∷_}
@@ -66,8 +66,8 @@ ends : (s t : List ℕ) → Sound s t → (z : ℕ) → IsNode s z → (u : ℕ)
     → (lookup s t u z .arrived ≤ 1) × (lookup s t u z .last ≤ nodeCount s)
 ends s t S z nz =
     walk s t S z nz (λ (u : ℕ). (lookup s t u z .arrived ≤ 1) × (lookup s t u z .last ≤ nodeCount s))
-    (λ u nu e. rw (arrives-is (digits s) s t u z e) (omega arith, nu .high))
-    (λ u nu e q. rw (loses-is (digits s) s t u z e q) (omega arith, nu .high))
+    (λ u nu e. rw (arrives-is s t u z e) (omega arith, nu .high))
+    (λ u nu e q. rw (loses-is s t u z e q) (omega arith, nu .high))
     (λ u nu e q ih. rw (lookup-hop s t S z nz u nu e q) ih)
 
 pub lookup-bytes : (m : Memory) (u z : ℕ) → Bytes (lookupCall m u z .answer)

@@ -9,13 +9,13 @@ use Rattle.model.specs.Ids.{digitOf}
 use Rattle.model.specs.Memory.{digits, idOf, tableOf}
 use Rattle.model.specs.Tables.{slotPlace, firstOf}
 use Rattle.model.specs.Nodes.{suffixOf}
-use Rattle.model.specs.Lookup.{oneHopMore, nextHop, lookup, veryHops}
+use Rattle.model.specs.Lookup.{nextHop, veryHops, answerOf, lookup}
 use Rattle.model.specs.Consistency.{consistent}
 use Rattle.model.proofs.Status.{IsNode}
 use Rattle.model.proofs.Sound.{Sound}
 use Rattle.model.proofs.Later.{Later, node-later, suffix-later}
 use Rattle.model.proofs.TablesOnlyGrow.{Onward}
-use Rattle.model.proofs.Lookup.{walk, lookup-hop, path-hop, arrives-is, arrives-path}
+use Rattle.model.proofs.Lookup.{walk, path-hop, arrives-path}
 use Rattle.model.proofs.Consistency.{not-lost}
 
 module _ (s t s′ t′ : List ℕ) (S : Sound s t) (S′ : Sound s′ t′) (on : Onward s t s′ t′) where
@@ -40,18 +40,6 @@ module _ (s t s′ t′ : List ℕ) (S : Sound s t) (S′ : Sound s′ t′) (on
     some′ : (u : ℕ) → IsNode s u → u ≢ z → nextHop s′ t′ u z ≢ 0
     some′ u nu e q = not-lost s t S whole z nz u nu e (sym (same u nu e) ∙ q)
 
-    -- lookups between nodes of that time have the same answer ever after
-    pub same-lookup : (u : ℕ) → IsNode s u → lookup s′ t′ u z ≡ lookup s t u z
-    same-lookup =
-        walk s t S z nz (λ (u : ℕ). lookup s′ t′ u z ≡ lookup s t u z)
-        (λ u nu e. arrives-is (digits s′) s′ t′ u z e ∙ sym (arrives-is (digits s) s t u z e))
-        (λ u nu e q. absurd (not-lost s t S whole z nz u nu e q))
-        (λ u nu e q ih.
-        lookup-hop s′ t′ S′ z nz′ u (node′ u nu) e (some′ u nu e)
-        ∙ ap (λ (v : ℕ). oneHopMore (lookup s′ t′ v z)) (same u nu e)
-        ∙ ap oneHopMore ih
-        ∙ sym (lookup-hop s t S z nz u nu e q))
-
     pub same-hops : (u : ℕ) → IsNode s u → veryHops s′ t′ u z ≡ veryHops s t u z
     same-hops =
         walk s t S z nz (λ (u : ℕ). veryHops s′ t′ u z ≡ veryHops s t u z)
@@ -62,3 +50,8 @@ module _ (s t s′ t′ : List ℕ) (S : Sound s t) (S′ : Sound s′ t′) (on
         ∙ ap (λ (v : ℕ). u ∷ veryHops s′ t′ v z) (same u nu e)
         ∙ ap (_∷_ u) ih
         ∙ sym (path-hop s t S z nz u nu e q))
+
+    -- so they have the same answer
+    pub same-lookup : (u : ℕ) → IsNode s u → lookup s′ t′ u z ≡ lookup s t u z
+    unfolding lookup
+    same-lookup u nu = ap (answerOf z) (same-hops u nu)

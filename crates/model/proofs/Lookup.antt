@@ -3,7 +3,7 @@
 use Prim.Native.Nat.{ℕ, zero, suc, _+_, _-_, _≤_, _<_}
 use mathlib.Core.Path.{_≡_, sym, ap, _∙_}
 use mathlib.Core.Logic.{_≢_, _⊎_, inl, inr}
-use mathlib.Core.Bool.{true, false}
+use mathlib.Core.Bool.{true, false, cond}
 use mathlib.Core.List.{List, [], _∷_}
 use native.Mathlib.Omega.{arith}
 use lib.Dec.{eqb}
@@ -12,7 +12,7 @@ use borrow.Author.Tests.{eqb-true, eqb-false, eq-eqb, ne-eqb}
 use Rattle.model.specs.Ids.{digitOf}
 use Rattle.model.specs.Memory.{base, digits, idOf, tableOf}
 use Rattle.model.specs.Nodes.{suffixOf}
-use Rattle.model.specs.Lookup.{arrivedAt, lostAt, oneHopMore, nextHop, lookupWithin, lookup, veryHopsWithin, veryHops}
+use Rattle.model.specs.Lookup.{nextHop, veryHopsWithin, veryHops, Lookup, lastOf, answerOf, lookup}
 use Rattle.model.proofs.Bools.{true-or-false}
 use Rattle.model.proofs.Ids.{next-hop, valid-digit}
 use Rattle.model.proofs.Status.{IsNode}
@@ -36,18 +36,6 @@ step-of s t u z = go (true-or-false (eqb u z)) (true-or-false (eqb (nextHop s t 
     go (inr e) (inr q) = hops (eqb-false u z e) (eqb-false (nextHop s t u z) 0 q)
 
 module _ (n : ℕ) (s t : List ℕ) (u z : ℕ) where
-  pub arrives-is : u ≡ z → lookupWithin (suc n) s t u z ≡ arrivedAt u
-  unfolding lookupWithin
-  arrives-is e = rw (eq-eqb u z e)
-
-  pub loses-is : u ≢ z → nextHop s t u z ≡ 0 → lookupWithin (suc n) s t u z ≡ lostAt u
-  unfolding lookupWithin
-  loses-is e q = rw (ne-eqb u z e, eq-eqb (nextHop s t u z) 0 q)
-
-  pub hops-is : u ≢ z → nextHop s t u z ≢ 0 → lookupWithin (suc n) s t u z ≡ oneHopMore (lookupWithin n s t (nextHop s t u z) z)
-  unfolding lookupWithin
-  hops-is e q = rw (ne-eqb u z e, ne-eqb (nextHop s t u z) 0 q)
-
   pub arrives-path : u ≡ z → veryHopsWithin (suc n) s t u z ≡ u ∷ []
   unfolding veryHopsWithin
   arrives-path e = rw (eq-eqb u z e)
@@ -59,6 +47,42 @@ module _ (n : ℕ) (s t : List ℕ) (u z : ℕ) where
   pub hops-path : u ≢ z → nextHop s t u z ≢ 0 → veryHopsWithin (suc n) s t u z ≡ u ∷ veryHopsWithin n s t (nextHop s t u z) z
   unfolding veryHopsWithin
   hops-path e q = rw (ne-eqb u z e, ne-eqb (nextHop s t u z) 0 q)
+
+-- a path begins with its start
+path-starts : (n : ℕ) (s t : List ℕ) (u z : ℕ) → (rest : List ℕ) × (veryHopsWithin (suc n) s t u z ≡ u ∷ rest)
+path-starts n s t u z = go (step-of s t u z)
+  where
+    go : Step s t u z → (rest : List ℕ) × (veryHopsWithin (suc n) s t u z ≡ u ∷ rest)
+    go (arrives e) = ([], arrives-path n s t u z e)
+    go (loses e q) = ([], loses-path n s t u z e q)
+    go (hops e q) = (veryHopsWithin n s t (nextHop s t u z) z, hops-path n s t u z e q)
+
+-- ---- the answer, read off the path
+
+abbrev pub arrivedAt : ℕ → Lookup
+arrivedAt u = record { arrived = 1; hops = 0; last = u }
+
+abbrev pub lostAt : ℕ → Lookup
+lostAt u = record { arrived = 0; hops = 0; last = u }
+
+abbrev pub oneHopMore : Lookup → Lookup
+oneHopMore r = record { arrived = r .arrived; hops = r .hops + 1; last = r .last }
+
+module _ (s t : List ℕ) (u z : ℕ) where
+  pub arrives-is : u ≡ z → lookup s t u z ≡ arrivedAt u
+  unfolding lookup answerOf lastOf
+  arrives-is e = rw (arrives-path (digits s) s t u z e, eq-eqb u z e)
+
+  pub loses-is : u ≢ z → nextHop s t u z ≡ 0 → lookup s t u z ≡ lostAt u
+  unfolding lookup answerOf lastOf
+  loses-is e q = rw (loses-path (digits s) s t u z e q, ne-eqb u z e)
+
+-- a node more in front of a path is one hop more
+longer : (z u v : ℕ) (rest : List ℕ) → answerOf z (u ∷ v ∷ rest) ≡ oneHopMore (answerOf z (v ∷ rest))
+unfolding answerOf lastOf
+longer z u v rest =
+    let e : length (u ∷ v ∷ rest) - 1 ≡ length (v ∷ rest) - 1 + 1 = omega arith in
+    ap (λ (h : ℕ). record { arrived = cond (eqb (lastOf (v ∷ rest)) z) 1 0; hops = h; last = lastOf (v ∷ rest) }) e
 
 -- ---- in a sound state
 
@@ -102,56 +126,45 @@ module _ (s t : List ℕ) (S : Sound s t) where
       pub walk : (u : ℕ) → IsNode s u → P u
       walk u nu = within (suc (digits s)) u nu (omega arith)
 
-    -- a recursion along the hops does not depend on how many steps it may take, if they are more than is left to match
-    module _ {A : Type 0} (F : ℕ → ℕ → A) (end : ℕ → A) (lost : ℕ → A) (more : ℕ → A → A)
-        (at-end : (n u : ℕ) → u ≡ z → F (suc n) u ≡ end u)
-        (at-lost : (n u : ℕ) → u ≢ z → nextHop s t u z ≡ 0 → F (suc n) u ≡ lost u)
-        (at-hop : (n u : ℕ) → u ≢ z → nextHop s t u z ≢ 0 → F (suc n) u ≡ more u (F n (nextHop s t u z))) where
-      Enough : ℕ → Type 0
-      Enough u = (a b : ℕ) → digits s - suffixOf s u z < suc a → digits s - suffixOf s u z < suc b → F (suc a) u ≡ F (suc b) u
+    -- the path does not depend on how many hops it may have, if they are more than is left to match
+    Enough : ℕ → Type 0
+    Enough u =
+        (a b : ℕ) → digits s - suffixOf s u z < suc a → digits s - suffixOf s u z < suc b
+        → veryHopsWithin (suc a) s t u z ≡ veryHopsWithin (suc b) s t u z
 
-      hop-enough : (u : ℕ) → IsNode s u → u ≢ z → nextHop s t u z ≢ 0 → Enough (nextHop s t u z) → Enough u
-      unfolding Enough
-      hop-enough u nu e q ih zero b h g = absurd (omega (arith, left-falls u nu e q))
-      hop-enough u nu e q ih (suc a) zero h g = absurd (omega (arith, left-falls u nu e q))
-      hop-enough u nu e q ih (suc a) (suc b) h g =
-          at-hop (suc a) u e q
-          ∙ ap (more u) (ih a b (omega (arith, left-falls u nu e q)) (omega (arith, left-falls u nu e q)))
-          ∙ sym (at-hop (suc b) u e q)
+    hop-enough : (u : ℕ) → IsNode s u → u ≢ z → nextHop s t u z ≢ 0 → Enough (nextHop s t u z) → Enough u
+    unfolding Enough
+    hop-enough u nu e q ih zero b h g = absurd (omega (arith, left-falls u nu e q))
+    hop-enough u nu e q ih (suc a) zero h g = absurd (omega (arith, left-falls u nu e q))
+    hop-enough u nu e q ih (suc a) (suc b) h g =
+        hops-path (suc a) s t u z e q
+        ∙ ap (_∷_ u) (ih a b (omega (arith, left-falls u nu e q)) (omega (arith, left-falls u nu e q)))
+        ∙ sym (hops-path (suc b) s t u z e q)
 
-      enough : (u : ℕ) → IsNode s u → Enough u
-      unfolding Enough
-      enough =
-          walk Enough (λ u nu e a b h g. at-end a u e ∙ sym (at-end b u e))
-          (λ u nu e q a b h g. at-lost a u e q ∙ sym (at-lost b u e q)) hop-enough
+    enough : (u : ℕ) → IsNode s u → Enough u
+    unfolding Enough
+    enough =
+        walk Enough (λ u nu e a b h g. arrives-path a s t u z e ∙ sym (arrives-path b s t u z e))
+        (λ u nu e q a b h g. loses-path a s t u z e q ∙ sym (loses-path b s t u z e q)) hop-enough
 
-      -- so the whole recursion, of d + 1 steps, is one hop before the whole recursion from the next node
-      hop-whole : (u : ℕ) → IsNode s u → u ≢ z → nextHop s t u z ≢ 0 → F (suc (digits s)) u ≡ more u (F (suc (digits s)) (nextHop s t u z))
-      unfolding Enough
-      hop-whole u nu e q =
-          enough u nu (digits s) (suc (digits s)) (omega arith) (omega arith) ∙ at-hop (suc (digits s)) u e q
+    -- so the very hops are one hop before the very hops from the next node
+    pub path-hop : (u : ℕ) → IsNode s u → u ≢ z → nextHop s t u z ≢ 0 → veryHops s t u z ≡ u ∷ veryHops s t (nextHop s t u z) z
+    unfolding Enough
+    path-hop u nu e q =
+        enough u nu (digits s) (suc (digits s)) (omega arith) (omega arith) ∙ hops-path (suc (digits s)) s t u z e q
 
     pub lookup-hop : (u : ℕ) → IsNode s u → u ≢ z → nextHop s t u z ≢ 0 → lookup s t u z ≡ oneHopMore (lookup s t (nextHop s t u z) z)
-    lookup-hop =
-        hop-whole (λ n u. lookupWithin n s t u z) arrivedAt lostAt (λ u. oneHopMore) (λ n u. arrives-is n s t u z)
-        (λ n u. loses-is n s t u z) (λ n u. hops-is n s t u z)
+    unfolding lookup
+    lookup-hop u nu e q =
+        let v : ℕ = nextHop s t u z in
+        let p = path-starts (digits s) s t v z in
+        ap (answerOf z) (path-hop u nu e q ∙ ap (_∷_ u) (p .1))
+        ∙ longer z u v (p .0)
+        ∙ ap (λ (path : List ℕ). oneHopMore (answerOf z path)) (sym (p .1))
 
-    pub path-hop : (u : ℕ) → IsNode s u → u ≢ z → nextHop s t u z ≢ 0 → veryHops s t u z ≡ u ∷ veryHops s t (nextHop s t u z) z
-    path-hop =
-        hop-whole (λ n u. veryHopsWithin n s t u z) (λ u. u ∷ []) (λ u. u ∷ []) (λ u. _∷_ u) (λ n u. arrives-path n s t u z)
-        (λ n u. loses-path n s t u z) (λ n u. hops-path n s t u z)
-
-    -- at most d hops less "the digits already matched"
+    -- at most d hops less the digits already matched
     pub hops-bound : (u : ℕ) → IsNode s u → lookup s t u z .hops ≤ digits s - suffixOf s u z
     hops-bound =
-        walk (λ (u : ℕ). lookup s t u z .hops ≤ digits s - suffixOf s u z) (λ u nu e. rw (arrives-is (digits s) s t u z e) (omega arith))
-        (λ u nu e q. rw (loses-is (digits s) s t u z e q) (omega arith))
+        walk (λ (u : ℕ). lookup s t u z .hops ≤ digits s - suffixOf s u z) (λ u nu e. rw (arrives-is s t u z e) (omega arith))
+        (λ u nu e q. rw (loses-is s t u z e q) (omega arith))
         (λ u nu e q ih. rw (lookup-hop u nu e q) (omega (arith, left-falls u nu e q)))
-
-    -- the very hops are one node more than the hops
-    pub path-length : (u : ℕ) → IsNode s u → length (veryHops s t u z) ≡ lookup s t u z .hops + 1
-    path-length =
-        walk (λ (u : ℕ). length (veryHops s t u z) ≡ lookup s t u z .hops + 1)
-        (λ u nu e. rw (arrives-path (digits s) s t u z e, arrives-is (digits s) s t u z e))
-        (λ u nu e q. rw (loses-path (digits s) s t u z e q, loses-is (digits s) s t u z e q))
-        (λ u nu e q ih. rw (path-hop u nu e q, lookup-hop u nu e q) (omega (arith, ih)))

@@ -1,4 +1,5 @@
--- The seven calls, each from the lent memory and its arguments to the memory after, the output after and the answer.
+-- The calls, each from the lent memory and its arguments to the memory after, the output after and the answer. What each does is in document 01
+-- where its subject is; what a refusal leaves, in "What a call declines".
 use Prim.Native.Nat.{ℕ, _+_}
 use mathlib.Core.Bool.{cond}
 use mathlib.Core.List.{List, [], _∷_, _++_}
@@ -9,7 +10,7 @@ use Rattle.model.specs.Join.{Delivery, founded, begun, delivery, deliver
 use Rattle.model.specs.Lookup.{Lookup, lookup}
 use Rattle.model.specs.Consistency.{Verdict, verdict}
 use Rattle.model.specs.Image.{imageOf, loaded}
-use Rattle.model.specs.Refusals.{foundRefusal, readRefusal, beginRefusal, deliverRefusal, lookupRefusal, verdictRefusal, writeRefusal}
+use Rattle.model.specs.Refusals.{foundRefusal, readRefusal, beginRefusal, deliverRefusal, lookupRefusal, verdictRefusal, writeRefusal, stateRefusal}
 
 -- what a call leaves: the memory, the memory for output (none but for writing), and the answer's fields, of which the refusal is the first
 pub record Outcome : Type 0 where
@@ -21,7 +22,7 @@ pub record Outcome : Type 0 where
 unfoldable pub refusedAt : Memory → List ℕ → List ℕ → ℕ → Outcome
 refusedAt m out fields number = record { memory = m; out = out; answer = number ∷ fields }
 
--- "A refusal gives its number with every other answer field zero, and changes no byte." The call has this many other fields.
+-- the same, with zero in all the other fields; the call has this many of them
 abbrev pub refused : Memory → List ℕ → ℕ → ℕ → Outcome
 refused m out fields number = refusedAt m out (replicate fields 0) number
 
@@ -49,7 +50,7 @@ beginCall m id gateway =
     unlessRefused (beginRefusal m id gateway) (refused m [] 1)
     (taken (begun (m .state) (m .tables) id gateway) [] ((nodeCount (m .state) + 1) ∷ []))
 
--- "A taken delivery answers what it was .. and whether x settled."
+-- what a delivery that was taken answers: its kind, the level if it attached, and whether its sender settled
 abbrev pub deliveryFields : Delivery → List ℕ
 deliveryFields r = r .kind ∷ r .level ∷ cond (eqb (r .sender .status) inSystem) 1 0 ∷ []
 
@@ -77,8 +78,12 @@ unfoldable pub verdictCall : Memory → Outcome
 verdictCall m =
     unlessRefused (verdictRefusal m) (refused m [] 4) (taken m [] (verdictFields (verdict (m .state) (m .tables))))
 
--- answer: the refusal and the length. "Writing leaves bytes past the image alone."
+-- answer: the refusal and the length. The output past the image stays as it was.
 unfoldable pub writeCall : Memory → List ℕ → Outcome
 writeCall m out =
     let im = imageOf (m .state) (m .tables) in
     unlessRefused (writeRefusal m out) (refused m out 1) (taken m (im ++ drop (length im) out) (length im ∷ []))
+
+-- answer: the refusal alone, by the two sentences that every call on a state has first. (A call of ours: the paper has none such.)
+unfoldable pub soundCall : Memory → Outcome
+soundCall m = unlessRefused (stateRefusal m) (refused m [] 0) (taken m [] [])

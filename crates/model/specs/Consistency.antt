@@ -1,4 +1,4 @@
--- The verdict: document 01, "The verdict is yes exactly when each entry of each member holds min(K, H) members ..".
+-- The verdict: document 01, "Lookup and verdict", second paragraph; and K-consistency: report TR-07-31, Definition 3.3.
 use Prim.Native.Nat.{ℕ, _<_, min}
 use mathlib.Core.Path.{_≡_}
 use mathlib.Core.Bool.{Bool, true, cond, not}
@@ -10,11 +10,11 @@ use Rattle.model.specs.Memory.{base, digits, depth, tableOf}
 use Rattle.model.specs.Tables.{entrySize, entry}
 use Rattle.model.specs.Nodes.{isNode, qualifies, allNodes, countNodes, firstNode}
 
--- "H being how many members qualify, the owner included"
+-- the paper's H: how many nodes qualify for entry (i, j) of x; x counts like any other
 unfoldable pub howMany : List ℕ → ℕ → ℕ → ℕ → ℕ
 howMany s x i j = countNodes s (qualifies s x i j)
 
--- entry (i, j) of x "holds min(K, H) members"
+-- entry (i, j) of x holds as many nodes as there are for it, but not more than K
 unfoldable pub entryWhole : List ℕ → List ℕ → ℕ → ℕ → ℕ → Bool
 entryWhole s t x i j = eqb (entrySize (depth s) (tableOf t x) i j) (min (depth s) (howMany s x i j))
 
@@ -24,11 +24,11 @@ levelWhole s t x i = allBelow (base s) (entryWhole s t x i)
 unfoldable pub nodeWhole : List ℕ → List ℕ → ℕ → Bool
 nodeWhole s t x = allBelow (digits s) (levelWhole s t x)
 
--- "The verdict is yes exactly when each entry of each member holds min(K, H) members"
+-- the verdict is yes: this holds of every entry of every node
 unfoldable pub consistent : List ℕ → List ℕ → Bool
 consistent s t = allNodes s (nodeWhole s t)
 
--- ---- the same as TR-07-31 states it, in Definition 3.3; laws turn the test above into it and back (proofs/Consistency)
+-- ---- K-consistency as Definition 3.3 of the report has it; laws turn the test above into it and back (proofs/Consistency)
 
 -- N_x(i, j): the nodes in entry (i, j) of x
 abbrev pub neighbors : List ℕ → List ℕ → ℕ → ℕ → ℕ → List ℕ
@@ -39,16 +39,16 @@ pub record HasSuffix (s : List ℕ) (x i j y : ℕ) : Type 0 where
   pub node : isNode s y ≡ true
   pub suffix : qualifies s x i j y ≡ true
 
--- "each entry in its table satisfies the following conditions"
+-- what the definition asks of entry (i, j) of x, in two conditions
 pub record EntryConsistent (s t : List ℕ) (x i j : ℕ) : Type 0 where
-  -- "(a) If V_{j·x[i−1]…x[0]} ≠ ∅, then N_x(i, j).size = min(K, |V_{j·x[i−1]…x[0]}|)"
+  -- (a) where some node has the suffix, the entry holds K nodes, or as many as have the suffix if these are fewer
   pub filled : (y : ℕ) → HasSuffix s x i j y → length (neighbors s t x i j) ≡ min (depth s) (howMany s x i j)
-  -- "where N_x(i, j) ⊆ V_{j·x[i−1]…x[0]}"
+  -- and each of them has the suffix
   pub within : (k : ℕ) → k < length (neighbors s t x i j) → HasSuffix s x i j (getD (neighbors s t x i j) k 0)
-  -- "(b) If V_{j·x[i−1]…x[0]} = ∅, .. then N_x(i, j) = ∅"
+  -- (b) where no node has it, the entry is empty
   pub empty : ((y : ℕ) → HasSuffix s x i j y → ⊥) → neighbors s t x i j ≡ []
 
--- "The network .. satisfies K-consistency, K ≥ 1, if for any node x": i ∈ [d], j ∈ [b]. (That K is at least 1 is a setting in range.)
+-- K-consistency: each entry, of a level below d and a digit below b, of each node meets the two. (That K is at least 1 is a setting in range.)
 unfoldable pub KConsistent : List ℕ → List ℕ → Type 0
 KConsistent s t =
     (x i j : ℕ) → isNode s x ≡ true → i < digits s → j < base s → EntryConsistent s t x i j
@@ -71,7 +71,7 @@ pub record Verdict : Type 0 where
   pub level : ℕ
   pub digit : ℕ
 
--- "A no gives member, level and digit of the first entry that falls short, in that order."
+-- a no names the first entry that is not whole: the first node that has one, its first such level, and there the first such digit
 unfoldable pub firstShort : List ℕ → List ℕ → Verdict
 firstShort s t =
     let x = firstNode s (nodeShort s t) in

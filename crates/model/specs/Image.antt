@@ -1,4 +1,5 @@
--- The image: document 01, "Sections in a fixed order, each after its count. ..". im is an image, a list of bytes.
+-- The image: document 01, "The image". It has three sections, settings, nodes and records, with a count before each. im is an image, a list of
+-- bytes.
 use Prim.Native.Nat.{ℕ, _+_, _-_, _*_, _/_, _%_}
 use mathlib.Core.Bool.{Bool, cond, not, _&&_, _||_}
 use mathlib.Core.List.{List, [], _∷_, _++_}
@@ -14,25 +15,25 @@ use Rattle.model.specs.Nodes.{joinNodes}
 
 -- ---- writing
 
--- "two bytes, low first" and "four bytes, low byte first"
+-- a number in two bytes and in four, the low byte first
 abbrev pub twoBytes : ℕ → List ℕ
 twoBytes n = n % 256 ∷ n / 256 % 256 ∷ []
 
 abbrev pub fourBytes : ℕ → List ℕ
 fourBytes n = n % 256 ∷ n / 256 % 256 ∷ n / 65536 % 256 ∷ n / 16777216 % 256 ∷ []
 
--- "Settings: count byte 4, then version 1, b, d, K."
+-- the settings: their count, 4, and then the version, 1, and b, d and K
 abbrev pub settingsBytes : List ℕ → List ℕ
 settingsBytes s = 4 ∷ 1 ∷ base s ∷ digits s ∷ depth s ∷ []
 
 abbrev pub idBytes : List ℕ → ℕ → List ℕ
 idBytes s x = fourBytes (idOf s x)
 
--- "Members: count byte, then each id in four bytes, low byte first."
+-- the nodes: their count in one byte, then the id of each in four
 abbrev pub nodesBytes : List ℕ → List ℕ
 nodesBytes s = nodeCount s ∷ joinNodes s (idBytes s)
 
--- "four bytes each: member, level, digit, neighbour": the record of a filled slot
+-- the record of a filled slot, four bytes: whose table it is in, the level, the digit, and the node in the slot (the neighbour)
 unfoldable pub slotRecord : List ℕ → ℕ → ℕ → ℕ → ℕ → List ℕ
 slotRecord T x i j k = cond (eqb (slotAt T i j k) 0) [] (x ∷ i ∷ j ∷ slotAt T i j k ∷ [])
 
@@ -45,11 +46,11 @@ levelRecords s T x i = joinBelow (base s) (entryRecords s T x i)
 unfoldable pub nodeRecords : List ℕ → List ℕ → ℕ → List ℕ
 nodeRecords s t x = joinBelow (digits s) (levelRecords s (tableOf t x) x)
 
--- "Records rise by member, level, digit, and within an entry stand in slot order."
+-- the records in their order: by node, then level, then digit, then slot
 unfoldable pub allRecords : List ℕ → List ℕ → List ℕ
 allRecords s t = joinNodes s (nodeRecords s t)
 
--- "Records: count in two bytes, low first, then four bytes each"
+-- the records: their count in two bytes, then each of them
 abbrev pub recordsBytes : List ℕ → List ℕ → List ℕ
 recordsBytes s t = twoBytes (length (allRecords s t) / 4) ++ allRecords s t
 
@@ -129,7 +130,7 @@ unfoldable pub sameEntry : List ℕ → ℕ → ℕ → Bool
 sameEntry im r q =
     eqb (recNode im q) (recNode im r) && (eqb (recLevel im q) (recLevel im r) && eqb (recDigit im q) (recDigit im r))
 
--- record r is not below record q: "Records rise by member, level, digit"
+-- record r is not below record q, by node, then level, then digit: one of the same entry is its next slot
 unfoldable pub risesFrom : List ℕ → ℕ → ℕ → Bool
 risesFrom im q r =
     ltb (recNode im q) (recNode im r)
@@ -171,7 +172,7 @@ ownHasRecord im x i = anyBelow (imRecords im) (recOfOwn im x i)
 unfoldable pub ownHaveRecords : List ℕ → ℕ → Bool
 ownHaveRecords im x = allBelow (imDigits im) (ownHasRecord im x)
 
--- the records keep "their order" and "the table rules"
+-- the records are in their order and keep the rules of the tables
 unfoldable pub recordsGood : List ℕ → Bool
 recordsGood im =
     allBelow (imRecords im) (recOrdered im)
@@ -189,7 +190,7 @@ loadRecord im r t =
     let x = recNode im r in
     withTable t x (append (imDepth im) (tableOf t x) (recLevel im r) (recDigit im r) (recNeighbor im r))
 
--- the state that an image gives. "Reading makes every member settled", so the rest of each record is zero.
+-- the state that an image gives: every node is in system, so each record is zero but for the id
 unfoldable pub loaded : List ℕ → List ℕ → List ℕ → Memory
 loaded s t im =
     record {

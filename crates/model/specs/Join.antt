@@ -33,7 +33,7 @@ abbrev pub notifyingNode : Node → ℕ → ℕ → ℕ → Node
 notifyingNode r level pending notified =
     record { id = r .id; status = notifying; level = level; target = 0; pending = pending; notified = notified }
 
--- "A notifying member whose asked set is empty settles in the same step: attach level, target and both sets become zero."
+-- a notifying node that has nobody left to notify is in system within the same step (the paper's "settles"); the rest of its record is cleared
 unfoldable pub settle : Node → Node
 settle r = cond (eqb (r .status) notifying && eqb (r .pending) 0) (inSystemNode r) r
 
@@ -43,7 +43,7 @@ settle r = cond (eqb (r .status) notifying && eqb (r .pending) 0) (inSystemNode 
 abbrev pub withSettings : List ℕ → ℕ → ℕ → ℕ → ℕ → List ℕ
 withSettings s b d K n = set (set (set (set s 0 b) 1 d) 2 K) 3 n
 
--- "Founding makes member 1, settled, with only its own entries." Every place of the fixed lengths is decided.
+-- founding: node 1 alone, in system, in its own entries and no other. Every place of the fixed lengths is decided.
 unfoldable pub founded : List ℕ → List ℕ → ℕ → ℕ → ℕ → ℕ → Memory
 founded s t b d K id =
     record {
@@ -51,7 +51,7 @@ founded s t b d K id =
       tables = withTable (zeroed tablesLength t) 1 (ownTable d id 1);
     }
 
--- "Beginning a join adds the next number, copying, own entries only, target the gateway."
+-- beginning a join: the node with the next number copies, from the gateway first, and stands in its own entries and no other
 unfoldable pub begun : List ℕ → List ℕ → ℕ → ℕ → Memory
 begun s t id gateway =
     let x = nodeCount s + 1 in
@@ -60,15 +60,15 @@ begun s t id gateway =
       tables = withTable t x (ownTable (digits s) id x);
     }
 
--- ---- requests: "A copying member's request is a copy request, a waiting one's a wait request."
+-- ---- requests: copy requests of copying nodes, wait requests of waiting ones, and those of notifying nodes
 
--- "The outstanding requests are one to the target of each copying or waiting member and one to each member of each asked set."
+-- a request from x to y is outstanding: x copies or waits and y is its target, or y is in x's pending set
 unfoldable pub outstanding : List ℕ → ℕ → ℕ → Bool
 outstanding s x y = isJoining s x && eqb (targetOf s x) y || hasNode (pendingOf s x) y
 
 -- ---- a delivery: x sends to y. Tx and Ty are their tables before the step, h their common suffix.
 
--- the kinds that a delivery answers: "copied .., sent on .., attached with its level, or notified"
+-- the kinds of delivery, as it answers them; the paper names the four and gives no numbers
 abbrev pub kindCopied : ℕ
 kindCopied = 1
 
@@ -89,11 +89,11 @@ pub record Delivery : Type 0 where
   pub kind : ℕ
   pub level : ℕ
 
--- "y entry (i, digit i of x) .. holds fewer than K"
+-- y's entry for x at level i, (i, digit i of x), is not full
 abbrev pub hasRoom : List ℕ → List ℕ → ℕ → ℕ → Bool
 hasRoom s Ty x i = ltb (entrySize (depth s) Ty i (digitOf (idOf s x) i)) (depth s)
 
--- "E holds fewer than K", E being "y's entry (h, digit h of x) before the step"
+-- the paper's E, y's entry for x at level h as it is before the step, is not full
 abbrev pub roomAtSuffix : List ℕ → List ℕ → ℕ → ℕ → Bool
 roomAtSuffix s Ty x y = hasRoom s Ty x (suffixOf s x y)
 
@@ -101,8 +101,8 @@ roomAtSuffix s Ty x y = hasRoom s Ty x (suffixOf s x y)
 abbrev pub firstAtSuffix : List ℕ → List ℕ → ℕ → ℕ → ℕ
 firstAtSuffix s Ty x y = firstOf Ty (suffixOf s x y) (digitOf (idOf s x) (suffixOf s x y))
 
--- "Copying. x learns y's table. If E holds fewer than K, x becomes waiting with target y. Otherwise the target is the first of E: x
--- stays copying if that member is settled, else becomes waiting."
+-- a copy request: x learns y's table. If E is not full, x will wait at y. If it is full, x goes to its first node: to copy from it where
+-- that is in system, and else to wait there.
 unfoldable pub deliverCopying : List ℕ → ℕ → ℕ → List ℕ → List ℕ → Delivery
 deliverCopying s x y Tx Ty =
     let next = firstAtSuffix s Ty x y in
@@ -116,7 +116,7 @@ deliverCopying s x y Tx Ty =
       level = 0;
     }
 
--- "If E holds K, x learns y's table and the target becomes the first of E."
+-- a wait request where E is full: x learns y's table, and goes on to wait at the first node of E
 unfoldable pub deliverSentOn : List ℕ → ℕ → ℕ → List ℕ → List ℕ → Delivery
 deliverSentOn s x y Tx Ty =
     record {
@@ -131,15 +131,15 @@ deliverSentOn s x y Tx Ty =
 abbrev pub belowOrRoom : List ℕ → List ℕ → ℕ → ℕ → ℕ → Bool
 belowOrRoom s Ty x k i = ltb i k || hasRoom s Ty x i
 
--- "each y entry (i, digit i of x), k to h, holds fewer than K"
+-- at every level from k to h, y's entry for x is not full
 abbrev pub roomFrom : List ℕ → List ℕ → ℕ → ℕ → ℕ → Bool
 roomFrom s Ty x h k = allBelow (suc h) (belowOrRoom s Ty x k)
 
--- "the attach level is the lowest k such that each y entry (i, digit i of x), k to h, holds fewer than K"
+-- the attach level: the lowest level from which on, up to h, there is room for x at every level
 unfoldable pub attachLevel : List ℕ → List ℕ → ℕ → ℕ → ℕ
 attachLevel s Ty x h = firstBelow (suc h) (roomFrom s Ty x h)
 
--- u may join x's pending set: it "matches x in k digits or more and isn't x or told"
+-- u is to be notified by x: it is a node, not x itself, shares at least k digits with x, and has not been notified
 abbrev pub toNotify : List ℕ → ℕ → ℕ → ℕ → ℕ → Bool
 toNotify s x k notified u = not (eqb u 0) && (not (eqb u x) && (leb k (suffixOf s x u) && not (hasNode notified u)))
 
@@ -150,8 +150,8 @@ gatherPlace s x k notified T p nodes = let u = getD T p 0 in cond (toNotify s x 
 unfoldable pub gather : List ℕ → ℕ → ℕ → ℕ → List ℕ → ℕ → ℕ
 gather s x k notified T nodes = eachBelow 512 (gatherPlace s x k notified T) nodes
 
--- "x becomes notifying with it and target zero, learns y's table, and y learns x. The told set is y. The asked set is every member of
--- x's table or y's that matches x in k digits or more and isn't x or told." s′ has x notifying: y learns x from that level on.
+-- a wait request where E is not full: x attaches at level k and notifies from now on. x learns y's table and y learns x, from level k on since
+-- x notifies in s′. y counts as notified; pending are the nodes of both tables that x is to notify.
 unfoldable pub deliverAttached : List ℕ → ℕ → ℕ → List ℕ → List ℕ → Delivery
 deliverAttached s x y Tx Ty =
     let k = attachLevel s Ty x (suffixOf s x y) in
@@ -169,13 +169,13 @@ deliverAttached s x y Tx Ty =
       level = k;
     }
 
--- "Waiting, y settled."
+-- a wait request to a node in system: attached or sent on
 unfoldable pub deliverWaiting : List ℕ → ℕ → ℕ → List ℕ → List ℕ → Delivery
 deliverWaiting s x y Tx Ty =
     cond (roomAtSuffix s Ty x y) (deliverAttached s x y Tx Ty) (deliverSentOn s x y Tx Ty)
 
--- "Notifying. y learns x, x learns y's table, y moves from asked to told, and members of y's table that match x in at least the attach
--- level, aren't x, told or asked, join the asked set."
+-- a request of a notifying node: y learns x and x learns y's table. y is notified and no longer pending, and the nodes of y's table that x is to
+-- notify, by its attach level, become pending.
 unfoldable pub deliverNotifying : List ℕ → ℕ → ℕ → List ℕ → List ℕ → Delivery
 deliverNotifying s x y Tx Ty =
     let k = levelOf s x in
@@ -191,7 +191,7 @@ deliverNotifying s x y Tx Ty =
       level = 0;
     }
 
--- "What a delivery does is decided by the sender's status."
+-- one of the three, by the status of the sender
 unfoldable pub delivery : List ℕ → List ℕ → ℕ → ℕ → Delivery
 delivery s t x y =
     let Tx = tableOf t x in

@@ -1,5 +1,7 @@
--- The definitions of document 01, a file for each of its subjects, to be read beside it.
--- Every definition computes. Settings are parameters everywhere: b the base, d the digits, K the depth.
+-- The definitions of document 01, a file for each of its subjects, to be read beside it. docs/SOURCES.md says which paper that is, and which
+-- definition says which of its rules.
+-- Every definition computes, but for `KConsistent` and its parts, which state a definition of report TR-07-31. Settings are parameters
+-- everywhere: b the base, d the digits, K the depth.
 -- The paper's words, where ours differ: member is node, match is common suffix, settled is in system, asked set is pending,
 -- told set is notified.
 pub mod Loops

@@ -1,4 +1,4 @@
--- The lent memory: document 01, "A member's record ..", and the places that docs/MEMORY.md fixes.
+-- The lent memory: document 01, "Identifiers and tables", and the places that docs/MEMORY.md fixes.
 -- s is the state, a list of words; t the table memory, a list of bytes; x, y, u, z are node numbers.
 use Prim.Native.Nat.{ℕ, _+_, _-_, _*_, _/_, _%_, _^_}
 use mathlib.Core.Bool.{Bool, cond, _||_}
@@ -31,7 +31,7 @@ depth s = getD s 2 0
 abbrev pub nodeCount : List ℕ → ℕ
 nodeCount s = getD s 3 0
 
--- "A member's record is its id, status, attach level, target, asked set and told set": words 8x to 8x + 5 for node x
+-- a node's record, in words 8x to 8x + 5 for node x: its id, its status, its attach level, the node that it asks (its target), and two sets
 pub record Node : Type 0 where
   pub id : ℕ
   pub status : ℕ
@@ -52,11 +52,11 @@ levelOf s x = getD s (8 * x + 2) 0
 abbrev pub targetOf : List ℕ → ℕ → ℕ
 targetOf s x = getD s (8 * x + 3) 0
 
--- the asked set
+-- the paper's "asked set": whom x has still to notify
 abbrev pub pendingOf : List ℕ → ℕ → ℕ
 pendingOf s x = getD s (8 * x + 4) 0
 
--- the told set
+-- the paper's "told set": whom x has notified
 abbrev pub notifiedOf : List ℕ → ℕ → ℕ
 notifiedOf s x = getD s (8 * x + 5) 0
 
@@ -83,7 +83,7 @@ withNode s x r =
     (8 * x + 5)
     (r .notified)
 
--- "the four statuses have fixed numbers: 0 settled, 1 copying, 2 waiting, 3 notifying"
+-- the four statuses by their numbers; in system is the paper's "settled"
 abbrev pub inSystem : ℕ
 inSystem = 0
 
@@ -107,7 +107,7 @@ isJoining s x = eqb (statusOf s x) copying || eqb (statusOf s x) waiting
 abbrev pub isAttached : List ℕ → ℕ → Bool
 isAttached s x = eqb (statusOf s x) inSystem || eqb (statusOf s x) notifying
 
--- sets of nodes, "64 bits each, bit n−1 for member n"; u counts from 1
+-- a set of nodes is a number of 64 bits, in which bit u − 1 stands for node u
 unfoldable pub hasNode : ℕ → ℕ → Bool
 hasNode nodes u = eqb (nodes / 2 ^ (u - 1) % 2) 1
 
@@ -117,7 +117,7 @@ addNode nodes u = cond (hasNode nodes u) nodes (nodes + 2 ^ (u - 1))
 unfoldable pub removeNode : ℕ → ℕ → ℕ
 removeNode nodes u = cond (hasNode nodes u) (nodes - 2 ^ (u - 1)) nodes
 
--- "the answering member's table is one run of the lent table memory, 512 bytes from 512 times (number − 1)"
+-- node x's table is one run of the table memory: the 512 bytes from 512 (x − 1) on
 abbrev pub tableStart : ℕ → ℕ
 tableStart x = 512 * (x - 1)
 

@@ -1,4 +1,5 @@
--- The nodes of a state: document 01, "Members are numbered 1 to 64 in order of arrival." A test is asked of every node, of some, or counted.
+-- The nodes of a state, the paper's members: document 01, "Identifiers and tables". They have the numbers from 1 on, as they came. A test is
+-- asked of every node, of some, or counted.
 use Prim.Native.Nat.{ℕ, _+_}
 use mathlib.Core.Bool.{Bool, _&&_}
 use mathlib.Core.List.{List}

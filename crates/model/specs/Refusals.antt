@@ -17,48 +17,48 @@ use Rattle.model.specs.Image.{recordsGood, imageOf}
 abbrev pub Sentence : Type 0
 Sentence = Bool × ℕ
 
--- "The first true sentence wins": the number of the first whose test is true. 0 is no refusal.
+-- a call is refused by the first of its sentences whose test is true; 0 is no refusal
 unfoldable pub firstTrue : List Sentence → ℕ
 firstTrue [] = 0
 firstTrue (c ∷ cs) = cond (c .0) (c .1) (firstTrue cs)
 
--- 1. "Lent table memory is shorter than 32,768 bytes, or other lent state memory than the fixed length docs/ gives it."
+-- 1: the table memory or the state is shorter than its fixed length
 abbrev pub memoryShort : Memory → Bool
 memoryShort m = ltb (length (m .tables)) tablesLength || ltb (length (m .state)) stateLength
 
--- 2. "The state isn't sound"
+-- 2: the state is not sound
 abbrev pub unsound : Memory → Bool
 unsound m = not (sound (m .state) (m .tables))
 
--- 3. "An image has fewer than 5 bytes or its first byte isn't 4."
+-- 3: the image is shorter than its settings, which take 5 bytes, or does not begin with their count, 4
 abbrev pub noSettings : List ℕ → Bool
 noSettings im = ltb (length im) 5 || not (eqb (byteAt im 0) 4)
 
--- 4. "An image's version isn't 1."
+-- 4: the image is of another version than 1
 abbrev pub otherVersion : List ℕ → Bool
 otherVersion im = not (eqb (byteAt im 1) 1)
 
--- 6. "An image's member count is missing, 0 or above 64, or its length differs from its counts or passes 65,535."
+-- 6: the node count is missing or not from 1 to 64, or the image is not as long as its counts say, or longer than 65,535 bytes
 abbrev pub countsWrong : List ℕ → Bool
 countsWrong im =
     ltb (length im) 6 || (eqb (imNodes im) 0 || (ltb 64 (imNodes im) || not (lengthRight im)))
 
--- 8. "An id is a member's already"
+-- 8, of a join: some node has this id
 abbrev pub hasId : List ℕ → ℕ → ℕ → Bool
 hasId s id x = eqb (idOf s x) id
 
 abbrev pub idTaken : List ℕ → ℕ → Bool
 idTaken s id = anyNode s (hasId s id)
 
--- 14. "A wait request's receiver isn't settled"
+-- 14: x waits, and y is not in system to take its request
 abbrev pub waitHeld : List ℕ → ℕ → ℕ → Bool
 waitHeld s x y = eqb (statusOf s x) waiting && not (isInSystem s y)
 
--- both numbers are nodes'
+-- not 9: both numbers are nodes'
 abbrev pub areNodes : List ℕ → ℕ → ℕ → Bool
 areNodes s x y = isNode s x && isNode s y
 
--- 15. "Verdict or writing finds a member not settled."
+-- 15: some node is not in system
 abbrev pub someNotInSystem : List ℕ → Bool
 someNotInSystem s = not (allNodes s (isInSystem s))
 
@@ -68,8 +68,8 @@ unfoldable pub foundRefusal : Memory → ℕ → ℕ → ℕ → ℕ → ℕ
 foundRefusal m b d K id =
     firstTrue ((memoryShort m, 1) ∷ (not (settingsInRange b d K), 5) ∷ (not (validId b d id), 7) ∷ [])
 
--- what the image itself decides. 7, "An id has a digit not below b, or a bit above its digits"; 8, it "occurs twice in an image"; 9, "A
--- member number, in a call or a record, is 0 or above the member count"; 10, "Image records break their order or the table rules."
+-- what the image itself decides, each sentence over the whole image: 3 to 6 of its settings and counts; 7, some id is not valid; 8, some id
+-- occurs twice; 9, some record names no node; 10, the records are out of order or break a rule of the tables
 abbrev pub imageSentences : List ℕ → List Sentence
 imageSentences im =
     (noSettings im, 3)
@@ -95,7 +95,7 @@ stateSentences m = (memoryShort m, 1) ∷ (unsound m, 2) ∷ []
 unfoldable pub stateRefusal : Memory → ℕ
 stateRefusal m = firstTrue (stateSentences m)
 
--- 7 and 9 as for an image, 8, 11, "A join finds 64 members", and 12, "The gateway isn't settled"
+-- 7, the id is not valid; 8; 9, the gateway is no node; 11, there are 64 nodes already; 12, the gateway is not in system
 abbrev pub beginSentences : List ℕ → ℕ → ℕ → List Sentence
 beginSentences s id gateway =
     (not (validId (base s) (digits s) id), 7)
@@ -108,7 +108,7 @@ beginSentences s id gateway =
 unfoldable pub beginRefusal : Memory → ℕ → ℕ → ℕ
 beginRefusal m id gateway = firstTrue (stateSentences m ++ beginSentences (m .state) id gateway)
 
--- 13, "No request from the first member to the second is outstanding"
+-- 9, one of the two is no node; 13, x has no request to y outstanding; 14
 abbrev pub deliverSentences : List ℕ → ℕ → ℕ → List Sentence
 deliverSentences s x y =
     (not (areNodes s x y), 9) ∷ (not (outstanding s x y), 13) ∷ (waitHeld s x y, 14) ∷ []
@@ -128,7 +128,7 @@ verdictSentences s = (someNotInSystem s, 15) ∷ []
 unfoldable pub verdictRefusal : Memory → ℕ
 verdictRefusal m = firstTrue (stateSentences m ++ verdictSentences (m .state))
 
--- 16, "Memory for the written image is too short"
+-- 15; 16, the image is longer than the memory for it
 abbrev pub writeSentences : Memory → List ℕ → List Sentence
 writeSentences m out =
     (someNotInSystem (m .state), 15) ∷ (ltb (length out) (length (imageOf (m .state) (m .tables))), 16) ∷ []

@@ -1,4 +1,5 @@
--- Runs: document 01, "A run is a taken founding or reading, then any list of calls on that state with any arguments, taken or refused".
+-- Runs: document 01, "The join, step by step", the paragraph on runs. A run begins with a founding or reading that is taken; then come any calls
+-- with any arguments, taken or refused, but for a founding or reading that is taken: that begins another run.
 use Prim.Native.Nat.{ℕ, _+_}
 use mathlib.Core.Bool.{Bool, true, false, cond, not, _&&_, _||_}
 use mathlib.Core.List.{List, [], _∷_}
@@ -6,7 +7,7 @@ use lib.ListN.{getD}
 use lib.Dec.{eqb}
 use Rattle.model.specs.Memory.{Memory}
 use Rattle.model.specs.Join.{kindCopied, kindSentOn}
-use Rattle.model.specs.Calls.{Outcome, foundCall, readCall, beginCall, deliverCall, lookupCall, verdictCall, writeCall}
+use Rattle.model.specs.Calls.{Outcome, foundCall, readCall, beginCall, deliverCall, lookupCall, verdictCall, writeCall, soundCall}
 
 -- a call with its arguments
 pub data Call : Type 0 where
@@ -23,8 +24,9 @@ pub data Call : Type 0 where
   verdict : Call
   -- the memory for output
   write : List ℕ → Call
+  sound : Call
 
--- "Each call gets the state and table memory as the one before left it"
+-- a call, done on the memory that the call before it left
 unfoldable pub step : Memory → Call → Outcome
 step m (found b d K id) = foundCall m b d K id
 step m (read im) = readCall m im
@@ -33,6 +35,7 @@ step m (deliver x y) = deliverCall m x y
 step m (lookup u z) = lookupCall m u z
 step m verdict = verdictCall m
 step m (write out) = writeCall m out
+step m sound = soundCall m
 
 -- the memory after a call
 unfoldable pub after : Memory → Call → Memory
@@ -43,7 +46,7 @@ unfoldable pub play : Memory → List Call → Memory
 play m [] = m
 play m (c ∷ cs) = play (after m c) cs
 
--- "The run's history is its calls with their answers."
+-- the history of a run has an event for each call, with its answer
 pub record Event : Type 0 where
   pub call : Call
   pub answer : List ℕ
@@ -65,8 +68,9 @@ isStart (deliver x y) = false
 isStart (lookup u z) = false
 isStart verdict = false
 isStart (write out) = false
+isStart sound = false
 
--- "a taken founding or reading"
+-- a founding or reading that is taken, and so begins a run
 unfoldable pub starts : Memory → Call → Bool
 starts m c = isStart c && isTaken (step m c .answer)
 
@@ -81,12 +85,12 @@ isRun m c cs = starts m c && goesOn (after m c) cs
 
 -- ---- what a node has sent
 
--- "copied or sent on"
+-- the kinds of delivery that leave their sender copying or waiting
 abbrev pub keepsAsking : ℕ → Bool
 keepsAsking kind = eqb kind kindCopied || eqb kind kindSentOn
 
--- "A taken beginning sends one request, its new member's, and each taken delivery that leaves its sender copying or waiting sends one,
--- that sender's; its answer then is copied or sent on."
+-- asked of a call that was taken: it sent a request of x. It began the join of x, or it delivered a request of x and left x copying or waiting, as
+-- its kind tells.
 abbrev pub isSentBy : ℕ → Call → List ℕ → Bool
 isSentBy x (found b d K id) answer = false
 isSentBy x (read im) answer = false
@@ -95,6 +99,7 @@ isSentBy x (deliver y z) answer = eqb y x && keepsAsking (getD answer 1 0)
 isSentBy x (lookup u z) answer = false
 isSentBy x verdict answer = false
 isSentBy x (write out) answer = false
+isSentBy x sound answer = false
 
 -- what x has sent after an event, where it had sent n before
 unfoldable pub tally : ℕ → Event → ℕ → ℕ
@@ -104,6 +109,6 @@ unfoldable pub sentFrom : ℕ → ℕ → List Event → ℕ
 sentFrom n x [] = n
 sentFrom n x (e ∷ es) = sentFrom (tally x e n) x es
 
--- "What a member has sent is the number of its own among these over the history, 0 for one that sent none in this run."
+-- what x has sent in a run: how many requests of x its history counts
 abbrev pub sent : ℕ → List Event → ℕ
 sent x es = sentFrom 0 x es

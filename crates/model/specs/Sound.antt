@@ -1,4 +1,4 @@
--- Soundness: document 01, "A state is sound when: ..", a definition for each clause of that sentence.
+-- Soundness: document 01, "Identifiers and tables", last paragraph; a definition for each of its clauses.
 use Prim.Native.Nat.{ℕ, _+_, _-_, _*_, _/_, _%_, _^_}
 use mathlib.Core.Bool.{Bool, true, not, _&&_, _||_}
 use mathlib.Core.List.{List, [], _∷_}
@@ -12,7 +12,7 @@ use Rattle.model.specs.Memory.{tableOf}
 use Rattle.model.specs.Tables.{slotAt, firstOf}
 use Rattle.model.specs.Nodes.{isNode, suffixOf, qualifies, allNodes}
 
--- ---- "there are 1 to 64 members with valid, different ids"
+-- ---- the number of nodes, and their ids: each is valid and no two are equal
 
 abbrev pub countInRange : ℕ → Bool
 countInRange n = leb 1 n && leb n 64
@@ -27,16 +27,16 @@ idDiffers s x k = not (eqb (idOf s (k + 1)) (idOf s x))
 unfoldable pub hasNewId : List ℕ → ℕ → Bool
 hasNewId s x = allBelow (x - 1) (idDiffers s x)
 
--- ---- "tables obey the paragraphs above"
+-- ---- the tables
 
--- copying and waiting nodes "stand in no table but their own": in x's table stand x and attached nodes
+-- in x's table stand x and attached nodes: a copying or waiting node is in no table but its own
 abbrev pub mayStand : List ℕ → ℕ → ℕ → Bool
 mayStand s x u = eqb u x || isAttached s u
 
 abbrev pub slotDiffers : List ℕ → ℕ → ℕ → ℕ → ℕ → Bool
 slotDiffers T i j u e = not (eqb (slotAt T i j e) u)
 
--- "without a gap": the slot before k is filled
+-- no gap before slot k: it is the first, or the slot before it is filled
 abbrev pub noGapBefore : List ℕ → ℕ → ℕ → ℕ → Bool
 noGapBefore T i j k = eqb k 0 || not (eqb (slotAt T i j (k - 1)) 0)
 
@@ -48,45 +48,45 @@ slotSound s x T i j k =
     || (leb u (nodeCount s)
     && (mayStand s x u && (qualifies s x i j u && (noGapBefore T i j k && allBelow k (slotDiffers T i j u)))))
 
--- "at most K different qualified members .. without a gap"
+-- the K slots of an entry; those behind them are unused places
 unfoldable pub entrySound : List ℕ → ℕ → List ℕ → ℕ → ℕ → Bool
 entrySound s x T i j = allBelow (depth s) (slotSound s x T i j)
 
 unfoldable pub levelSound : List ℕ → ℕ → List ℕ → ℕ → Bool
 levelSound s x T i = allBelow (base s) (entrySound s x T i)
 
--- "Member x stands first in each of its own entries (i, x's digit i)"
+-- x is first in its own entry of level i
 abbrev pub ownerFirst : List ℕ → ℕ → List ℕ → ℕ → Bool
 ownerFirst s x T i = eqb (firstOf T i (digitOf (idOf s x) i)) x
 
 -- ---- the statuses
 
--- "a settled member's attach level, target and sets are zero"
+-- a node in system: no attach level and no target, and both sets empty
 unfoldable pub inSystemSound : List ℕ → ℕ → Bool
 inSystemSound s x =
     eqb (levelOf s x) 0 && (eqb (targetOf s x) 0 && (eqb (pendingOf s x) 0 && eqb (notifiedOf s x) 0))
 
--- "both have zero attach level and sets"
+-- a copying or waiting node: no attach level, and both sets empty
 unfoldable pub joiningSound : List ℕ → ℕ → Bool
 joiningSound s x = eqb (levelOf s x) 0 && (eqb (pendingOf s x) 0 && eqb (notifiedOf s x) 0)
 
--- "a copying member's target is settled"
+-- a copying node asks a node in system
 unfoldable pub copyingSound : List ℕ → ℕ → Bool
 copyingSound s x = isNode s (targetOf s x) && (isInSystem s (targetOf s x) && joiningSound s x)
 
--- "a waiting one's settled or notifying"
+-- a waiting node asks one in system or notifying
 unfoldable pub waitingSound : List ℕ → ℕ → Bool
 waitingSound s x = isNode s (targetOf s x) && (isAttached s (targetOf s x) && joiningSound s x)
 
--- a node of the pending set is "settled or notifying .., matching it in at least as many digits as its attach level, not itself and
--- not in its told set"
+-- u, if it is in x's pending set, is in system or notifying, shares at least as many digits with x as x's attach level says, is not x and has
+-- not been notified
 unfoldable pub pendingSound : List ℕ → ℕ → ℕ → Bool
 pendingSound s x u =
     not (hasNode (pendingOf s x) u)
     || (isAttached s u
     && (leb (levelOf s x) (suffixOf s x u) && (not (eqb u x) && not (hasNode (notifiedOf s x) u))))
 
--- "its told set names only settled or notifying others"
+-- u, if it is in x's notified set, is in system or notifying and is not x
 unfoldable pub notifiedSound : List ℕ → ℕ → ℕ → Bool
 notifiedSound s x u = not (hasNode (notifiedOf s x) u) || (isAttached s u && not (eqb u x))
 
@@ -94,7 +94,7 @@ notifiedSound s x u = not (hasNode (notifiedOf s x) u) || (isAttached s u && not
 abbrev pub onlyNodes : List ℕ → ℕ → Bool
 onlyNodes s nodes = ltb nodes (2 ^ nodeCount s)
 
--- "a notifying member has target zero, attach level below d, a nonempty asked set .."
+-- a notifying node: no target, an attach level below d, somebody pending, and in both sets only nodes, each of them one that may be there
 unfoldable pub notifyingSound : List ℕ → ℕ → Bool
 notifyingSound s x =
     eqb (targetOf s x) 0
@@ -111,7 +111,7 @@ statusSound s x =
     || (eqb (statusOf s x) copying && copyingSound s x
     || (eqb (statusOf s x) waiting && waitingSound s x || eqb (statusOf s x) notifying && notifyingSound s x))
 
--- ---- "unused places are zero"
+-- ---- the places that nothing uses, which are zero
 
 unfoldable pub allZero : List ℕ → Bool
 allZero [] = true
@@ -128,16 +128,16 @@ placeUsed s p = ltb (p / 64) (digits s) && (ltb (p % 64 / 4) (base s) && ltb (p 
 abbrev pub placeSound : List ℕ → List ℕ → ℕ → Bool
 placeSound s T p = placeUsed s p || eqb (getD T p 0) 0
 
--- words 4 to 7, and the records of no node
+-- words 4 to 7, and the records behind the last node's
 unfoldable pub stateRestZero : List ℕ → Bool
 stateRestZero s =
     allZero (take 4 (drop 4 s)) && allZero (take (stateLength - (8 * nodeCount s + 8)) (drop (8 * nodeCount s + 8) s))
 
--- the tables of no node
+-- the tables behind the last node's
 unfoldable pub tablesRestZero : List ℕ → List ℕ → Bool
 tablesRestZero s t = allZero (take (tablesLength - 512 * nodeCount s) (drop (512 * nodeCount s) t))
 
--- the two spare words of each record, words 4 to 7, the records and the tables of no node
+-- the two spare words of each record, words 4 to 7, and the records and tables behind the last node's
 unfoldable pub unusedZero : List ℕ → List ℕ → Bool
 unusedZero s t = allNodes s (spareZero s) && (stateRestZero s && tablesRestZero s t)
 
@@ -152,7 +152,7 @@ tableSound s x T =
 abbrev pub hasSoundTable : List ℕ → List ℕ → ℕ → Bool
 hasSoundTable s t x = tableSound s x (tableOf t x)
 
--- "A state is sound when .."
+-- a sound state
 unfoldable pub sound : List ℕ → List ℕ → Bool
 sound s t =
     settingsInRange (base s) (digits s) (depth s)

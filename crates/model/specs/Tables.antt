@@ -1,4 +1,5 @@
--- Entries of a table: document 01, "A member has a table with entries (i, j) ..". T is the 512 bytes of one node's table.
+-- Entries of a table: document 01, "Identifiers and tables", second paragraph. T is the 512 bytes of one node's table; an entry (i, j) has a
+-- level i below d and a digit j below b.
 use Prim.Native.Nat.{ℕ, _+_, _*_}
 use mathlib.Core.Bool.{Bool, _&&_}
 use mathlib.Core.List.{List}
@@ -7,11 +8,11 @@ use lib.Dec.{eqb}
 use Rattle.model.specs.Loops.{anyBelow, firstBelow, eachBelow}
 use Rattle.model.specs.Ids.{digitOf, lowDigits}
 
--- "A member y is qualified for entry (i, j) of x when its low i digits equal those of x and its digit i is j", by their ids
+-- y is qualified for entry (i, j) of x, by their ids: y ends in the low i digits of x, and j is the digit before them
 unfoldable pub qualified : ℕ → ℕ → ℕ → ℕ → Bool
 qualified xId yId i j = eqb (lowDigits yId i) (lowDigits xId i) && eqb (digitOf yId i) j
 
--- "slot s (0 to 3) of entry (i, j) at 64i + 4j + s within it; 0 means empty"
+-- the place of slot k, from 0 to 3, of entry (i, j) within the table; an empty slot holds 0
 abbrev pub slotPlace : ℕ → ℕ → ℕ → ℕ
 slotPlace i j k = 64 * i + 4 * j + k
 
@@ -25,11 +26,11 @@ slotIs T i j u k = eqb (slotAt T i j k) u
 unfoldable pub entrySize : ℕ → List ℕ → ℕ → ℕ → ℕ
 entrySize K T i j = firstBelow K (slotIs T i j 0)
 
--- the nodes of an entry in their order: "An entry is an ordered list"
+-- the nodes of an entry, in the order of its slots
 unfoldable pub entry : ℕ → List ℕ → ℕ → ℕ → List ℕ
 entry K T i j = take (entrySize K T i j) (drop (slotPlace i j 0) T)
 
--- "the front one is its first, in slot 0"; 0 where the entry is empty
+-- the first node of an entry: the one in slot 0; 0 where the entry is empty
 abbrev pub firstOf : List ℕ → ℕ → ℕ → ℕ
 firstOf T i j = slotAt T i j 0
 
@@ -44,6 +45,6 @@ append K T i j u = set T (slotPlace i j (entrySize K T i j)) u
 abbrev pub ownSlot : ℕ → ℕ → ℕ → List ℕ → List ℕ
 ownSlot xId x i T = set T (slotPlace i (digitOf xId i) 0) x
 
--- "Member x stands first in each of its own entries (i, x's digit i)": the table that has these and nothing else
+-- the own entries of x are those of its own digits, (i, digit i of x): the table in which x is first in each of them and nothing else stands
 unfoldable pub ownTable : ℕ → ℕ → ℕ → List ℕ
 ownTable d xId x = eachBelow d (ownSlot xId x) (replicate 512 0)

@@ -2,8 +2,7 @@
 // bits; bits 0 to 7 are the refusal.
 ghost use mathlib.Core.Path.{_≡_};
 ghost use mathlib.Core.List.{[], _∷_};
-ghost use Rattle.model.specs.Refusals.{stateRefusal};
-ghost use Rattle.model.specs.Calls.{foundCall, readCall, beginCall, deliverCall, lookupCall, verdictCall, writeCall};
+ghost use Rattle.model.specs.Calls.{foundCall, readCall, beginCall, deliverCall, lookupCall, verdictCall, writeCall, soundCall};
 ghost use Rattle.state.specs.Lent.{memory};
 ghost use Rattle.engine.specs.Outcomes.{leaves};
 ghost use Rattle.overlay.specs.Packed.{gives, fills, packing};
@@ -91,10 +90,10 @@ pub extern "C" fn overlay_write(state: &[u64], tables: &[u8], out: &mut [u8]) ->
     pack_length(written.refusal, written.bytes)
 }
 
-// What sentences 1 and 2 say of this memory: 1 too short, 2 not sound, 0 neither.
+// The check of a state. Answers the refusal: 1 too short, 2 not sound, 0 neither.
 #[no_mangle]
 pub extern "C" fn overlay_sound(state: &[u64], tables: &[u8]) -> u64
-    ensures { λ r. ⌜ r ≡ stateRefusal (memory (now (state .entry)) (now (tables .entry))) ⌝ }
+    ensures { λ r. ⌜ leaves (memory (now (state .entry)) (now (tables .entry))) (r ∷ []) ≡ soundCall (memory (now (state .entry)) (now (tables .entry))) ⌝ }
 {
-    refusals::sentences::state_refusal(state, tables)
+    engine::sound::sound(state, tables)
 }

@@ -10,11 +10,11 @@ use Rattle.model.specs.Memory.{digits, idOf, tableOf}
 use Rattle.model.specs.Tables.{firstOf}
 use Rattle.model.specs.Nodes.{suffixOf}
 use Rattle.model.specs.Lookup as book
-use Rattle.model.specs.Lookup.{nextHop, oneHopMore}
+use Rattle.model.specs.Lookup.{nextHop}
 use Rattle.model.proofs.Status.{IsNode}
 use Rattle.model.proofs.Sound.{Sound}
 use Rattle.model.proofs.SoundNodes.{suffix-below}
-use Rattle.model.proofs.Lookup.{hop-node, left-falls, lookup-hop, hops-bound}
+use Rattle.model.proofs.Lookup.{oneHopMore, hop-node, left-falls, lookup-hop, hops-bound}
 use Rattle.routing.specs.declared.answer.Lookup.{Lookup}
 use Rattle.routing.specs.Answer.{bookLookup}
 

@@ -1,4 +1,4 @@
-// "It answers arrived or lost, the hops, and the last member."
+// Whether a lookup arrived or was lost, how many hops it took, and the last node.
 pub struct Lookup {
     pub arrived: bool,
     pub hops: usize,

@@ -15,7 +15,7 @@ use state::settings;
 use tables::entry;
 use tables::part;
 
-// "with match m, it takes the first of u's entry (m, digit m of z)"; 0 if that is empty.
+// Where a lookup at u goes next: to the first node of u's entry for z at the level of their common suffix; 0 if that entry is empty.
 pub fn next_hop(state: &[u64], tables: &[u8], u: usize, z: usize) -> usize
     requires { ⌜ Sound (now state) (now tables) ⌝ }
     requires { ⌜ IsNode (now state) u ⌝ }
@@ -30,8 +30,8 @@ pub fn next_hop(state: &[u64], tables: &[u8], u: usize, z: usize) -> usize
     entry::first(part::lent(tables, u), m, digit(to, m))
 }
 
-// "A lookup from u to z has arrived if u is z. Otherwise .. if empty, it is lost at u; else a lookup goes on from the next member by
-// the same rule, one hop more."
+// A lookup that starts at its destination has arrived. One with no next hop is lost where it is. Any other is the lookup from the next hop, with
+// one hop more.
 pub fn lookup(state: &[u64], tables: &[u8], u: usize, z: usize) -> Lookup
     requires { ⌜ Sound (now state) (now tables) ⌝ }
     requires { ⌜ IsNode (now state) u ⌝ }

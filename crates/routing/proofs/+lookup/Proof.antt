@@ -30,7 +30,7 @@ lookup-below t = and 2 lookup-kinds.ps (cycle.falls 2 lookup-kinds.ps _<_ μ-loo
 lookup-returns : (t : ℕ) → lookup-lts.Need-returns (next-hop.Asked, next-hop.Learnt, lookup-below t, lookup.Post) (lookup-at t) lookup.Post
 lookup-returns t c =
     let p = c .before .before .before in
-    sym (arrives-is _ _ _ (p .args .u) (p .args .z) (c .if1 .taken))
+    sym (arrives-is _ _ (p .args .u) (p .args .z) (c .if1 .taken))
 
 lookup-next-hop-requires : (t : ℕ) → lookup-lts.Need-next-hop-requires (next-hop.Asked, next-hop.Learnt, lookup-below t, lookup.Post) (lookup-at t) lookup.Post
 lookup-next-hop-requires t c κs =
@@ -41,7 +41,7 @@ lookup-returns-2 : (t : ℕ) → lookup-lts.Need-returns-2 (next-hop.Asked, next
 lookup-returns-2 t c =
     let p = c .before .before .before .before .before in
     sym
-    (loses-is _ _ _ (p .args .u) (p .args .z) (c .before .before .if1 .left)
+    (loses-is _ _ (p .args .u) (p .args .z) (c .before .before .if1 .left)
     (sym (c .before .next-hop .ensures) ∙ c .if2 .taken))
 
 -- past both tests
