@@ -120,7 +120,7 @@ level-low : (s Ty : List ℕ) (x h : ℕ) → hasRoom s Ty x h ≡ true → atta
 unfolding attachLevel
 level-low s Ty x h e = first-min (suc h) (roomFrom s Ty x h) h (room-from s Ty x h e)
 
--- "What a delivery does is decided by the sender's status"
+-- a delivery is the one of its sender's status
 pub delivery-is : (s t : List ℕ) (x y n : ℕ) → statusOf s x ≡ n
     → delivery s t x y
     ≡ cond (eqb n copying) (deliverCopying s x y (tableOf t x) (tableOf t y))

@@ -16,6 +16,7 @@ pub mod Memory
 pub mod Parts
 pub mod Zero
 pub mod Over
+pub mod Within
 pub mod Tables
 pub mod TableSteps
 pub mod OwnTable
@@ -58,4 +59,12 @@ pub mod RoundTrip
 pub mod Refusals
 pub mod Taken
 pub mod Calls
+pub mod RequestsSent
 pub mod Fields
+-- ---- what calls write, and what they read, lies within the fixed lengths
+pub mod Works
+pub mod Alike
+pub mod AlikeLearning
+pub mod AlikeDelivery
+pub mod AlikeLooking
+pub mod AlikeRefusals

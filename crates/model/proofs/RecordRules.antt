@@ -35,7 +35,7 @@ module _ (x i j y k l : ℕ) (hi : i < 256) (hj : j < 256) (hk : k < 256) (hl : 
           let w : 65536 * x + 256 * i + j ≡ 65536 * y + 256 * k + l = eqb-true _ _ e in
           and-intro _ _ (eq-eqb x y (omega arith)) (and-intro _ _ (eq-eqb i k (omega arith)) (eq-eqb j l (omega arith)))
 
-  -- "Records rise by member, level, digit"
+  -- the order of records is that of their keys
   pub key-le : (ltb x y || (eqb x y && (ltb i k || (eqb i k && leb j l)))) ≡ leb (entryKey x i j) (entryKey y k l)
   key-le = same-test _ _ to from
     where

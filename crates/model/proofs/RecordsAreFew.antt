@@ -1,18 +1,20 @@
--- A sound state has few records, so its image is short: in a node's table an entry that is not its own holds nodes that agree with the
--- owner in exactly the entry's level, so each other node stands in one such place at most. Assumes nothing.
+-- A sound state has few records, so its image is short: outside the 28 places of the own entries of levels 0 to 6 each node stands at
+-- most once in a table, for an entry that is not the owner's holds nodes that agree with it in exactly the entry's level, and level 7 is
+-- the last. Assumes nothing.
 use Prim.Native.Nat.{ℕ, _+_, _-_, _*_, _/_, _%_, _≤_, _<_}
 use mathlib.Core.Path.{_≡_, refl, sym, ap, ap₂, _∙_}
-use mathlib.Core.Bool.{Bool, true, false, cond}
+use mathlib.Core.Bool.{Bool, true, false, cond, _&&_}
 use mathlib.Core.List.{List}
 use native.Mathlib.Decide.{decLt}
 use native.Mathlib.Omega.{arith}
-use lib.Dec.{eqb}
+use lib.Dec.{eqb, ltb}
 use lib.ListN.{getD}
-use borrow.Author.Tests.{eqb-true, eqb-false}
+use borrow.Author.Tests.{eqb-true, eqb-false, ltb-true, lt-ltb}
 use Rattle.model.specs.Loops.{countBelow}
 use Rattle.model.specs.Ids.{digitOf}
 use Rattle.model.specs.Memory.{nodeCount, idOf, tableOf}
 use Rattle.model.specs.Tables.{slotPlace}
+use Rattle.model.proofs.Bools.{and-left, and-right}
 use Rattle.model.proofs.Ids.{low-at, qualified-low, qualified-digit}
 use Rattle.model.proofs.Status.{IsNode}
 use Rattle.model.proofs.Sound.{SlotOk, Sound, filled-slot}
@@ -53,11 +55,20 @@ module _ (s t : List ℕ) (S : Sound s t) (y : ℕ) (h : y < nodeCount s) where
   slot-of : (q : ℕ) → q < 512 → filled q ≡ true → SlotOk s (y + 1) T (q / 64) (q % 64 / 4) (q % 4)
   slot-of q l e = filled-slot s (S .settings) (y + 1) T (S .tables (y + 1) is-node) q l (nonzero q l e) .0
 
-  -- a place of an own entry
-  abbrev own : ℕ → Bool
-  own q = eqb (q % 64 / 4) (digitOf (idOf s (y + 1)) (q / 64))
+  -- a place of an own entry, and one below the last of eight levels
+  abbrev ofOwn : ℕ → Bool
+  ofOwn q = eqb (q % 64 / 4) (digitOf (idOf s (y + 1)) (q / 64))
 
-  -- a node does not stand twice, but for own entries
+  abbrev own : ℕ → Bool
+  own q = ltb (q / 64) 7 && ofOwn q
+
+  own-digit : (q : ℕ) → own q ≡ true → q % 64 / 4 ≡ digitOf id (q / 64)
+  own-digit q e = eqb-true _ _ (and-right (ltb (q / 64) 7) (ofOwn q) e)
+
+  not-own : (q : ℕ) → q / 64 < 7 → own q ≡ false → ofOwn q ≡ false
+  not-own q l e = sym (ap (λ (b : Bool). b && ofOwn q) (lt-ltb (q / 64) 7 l)) ∙ e
+
+  -- a node does not stand twice, but for own entries below the last level
   twice : (p q : ℕ) → p < q → q < 512 → filled p ≡ true → filled q ≡ true → own p ≡ false → getD T p 0 ≡ getD T q 0 → ⊥
   twice p q l g fp fq other e = go (decLt (p / 64) (q / 64))
     where
@@ -88,7 +99,7 @@ module _ (s t : List ℕ) (S : Sound s t) (y : ℕ) (h : y < nodeCount s) where
 
       go : Dec (p / 64 < q / 64) → ⊥
       go (yes lower) =
-          eqb-false _ _ other
+          eqb-false _ _ (not-own p (omega arith) other)
           (sym digit
           ∙ ap (λ (v : ℕ). digitOf v (p / 64)) (sym eq)
           ∙ sym (low-at _ _ (q / 64) (qualified-low _ _ (q / 64) (q % 64 / 4) (Q .qual)) (p / 64) lower))
@@ -98,7 +109,7 @@ module _ (s t : List ℕ) (S : Sound s t) (y : ℕ) (h : y < nodeCount s) where
           let w : slotPlace (q / 64) (q % 64 / 4) (p % 4) ≡ p = omega arith in
           Q .fresh (p % 4) (omega arith) (ap (λ (p : ℕ). getD T p 0) w ∙ e ∙ sym (ap (λ (p : ℕ). getD T p 0) wq))
 
-  -- a number below 96 for each filled place: of an own entry by level and slot, of another by the node
+  -- a number below 92 for each filled place: of an own entry below the last level by level and slot, of another by the node
   abbrev code : ℕ → ℕ
   code q = cond (own q) (64 + 4 * (q / 64) + q % 4) (getD T q 0 - 1)
 
@@ -106,12 +117,12 @@ module _ (s t : List ℕ) (S : Sound s t) (y : ℕ) (h : y < nodeCount s) where
   node-most q l e =
       omega (arith, slot-of q l e .within, S .few, ap (λ (p : ℕ). getD T p 0) (place-of q))
 
-  code-below : (q : ℕ) → q < 512 → filled q ≡ true → code q < 96
-  code-below q l e = go (own q)
+  code-below : (q : ℕ) → q < 512 → filled q ≡ true → code q < 92
+  code-below q l e = go (own q) refl
     where
-      go : (b : Bool) → cond b (64 + 4 * (q / 64) + q % 4) (getD T q 0 - 1) < 96
-      go true = omega arith
-      go false = omega (arith, node-most q l e)
+      go : (b : Bool) → own q ≡ b → cond b (64 + 4 * (q / 64) + q % 4) (getD T q 0 - 1) < 92
+      go true o = omega (arith, ltb-true (q / 64) 7 (and-left _ _ o))
+      go false o = omega (arith, node-most q l e)
 
   code-differs : (p q : ℕ) → p < 512 → q < 512 → filled p ≡ true → filled q ≡ true → code p ≡ code q → p ≡ q
   code-differs p q l g fp fq e = go (own p) (own q) refl refl e
@@ -121,7 +132,7 @@ module _ (s t : List ℕ) (S : Sound s t) (y : ℕ) (h : y < nodeCount s) where
       go true true op oq w =
           let ei : p / 64 ≡ q / 64 = omega arith in
           let ek : p % 4 ≡ q % 4 = omega arith in
-          let ej : p % 64 / 4 ≡ q % 64 / 4 = eqb-true _ _ op ∙ ap (digitOf id) ei ∙ sym (eqb-true _ _ oq) in
+          let ej : p % 64 / 4 ≡ q % 64 / 4 = own-digit p op ∙ ap (digitOf id) ei ∙ sym (own-digit q oq) in
           same-place p q ei ej ek
       go true false op oq w = absurd (omega (arith, node-most q g fq))
       go false true op oq w = absurd (omega (arith, node-most p l fp))
@@ -129,18 +140,15 @@ module _ (s t : List ℕ) (S : Sound s t) (y : ℕ) (h : y < nodeCount s) where
           let nzp : getD T p 0 ≡ 0 → ⊥ = nonzero p l fp in
           let nzq : getD T q 0 ≡ 0 → ⊥ = nonzero q g fq in
           let v : getD T p 0 ≡ getD T q 0 = omega (arith, nzp, nzq) in
-          order v (decLt p q) (decLt q p)
-        where
-          order : getD T p 0 ≡ getD T q 0 → Dec (p < q) → Dec (q < p) → p ≡ q
-          order v (yes less) d = absurd (twice p q less g fp fq op v)
-          order v (no a) (yes more) = absurd (twice q p more l fq fp oq (sym v))
-          order v (no a) (no b) = omega arith
+          let below : p < q → ⊥ = λ less. twice p q less g fp fq op v in
+          let above : q < p → ⊥ = λ more. twice q p more l fq fp oq (sym v) in
+          omega (arith, below, above)
 
-  -- at most 96 filled places in the table
-  few-here : countBelow 512 filled ≤ 96
-  few-here = count-most 512 96 filled code code-below code-differs
+  -- at most 92 filled places in the table
+  few-here : countBelow 512 filled ≤ 92
+  few-here = count-most 512 92 filled code code-below code-differs
 
--- at most 96 records a node
-pub records-few : (s t : List ℕ) → Sound s t → countBelow (512 * nodeCount s) (filledAt t) ≤ 6144
+-- at most 92 records a node
+pub records-few : (s t : List ℕ) → Sound s t → countBelow (512 * nodeCount s) (filledAt t) ≤ 5888
 records-few s t S =
-    omega (arith, count-blocks 512 (nodeCount s) 96 (filledAt t) (λ y l. few-here s t S y l), S .few)
+    omega (arith, count-blocks 512 (nodeCount s) 92 (filledAt t) (λ y l. few-here s t S y l), S .few)

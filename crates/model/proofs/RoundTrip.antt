@@ -222,7 +222,7 @@ module _ (m : Memory) (im : List ℕ) (byte : (a : ℕ) → byteAt im a < 256) (
   unfolding s₂ t₂
   read-written = ext-getD 0 (imageOf s₂ t₂) im same-length (λ a h. same-byte a (omega (arith, same-length)))
 
-  -- "Reading makes every member settled"
+  -- after a reading every node is in system
   pub read-in-system : (x : ℕ) → IsNode (given .state) x → isInSystem (given .state) x ≡ true
   unfolding s₂
   read-in-system x n =

@@ -97,9 +97,13 @@ module _ (s t : List ℕ) (S : Sound s t) where
   flat-length : length (allRecords s t) ≡ 4 * filled
   flat-length = ap length (records-flat s t S) ∙ records-length t (512 * nodeCount s)
 
-  -- an image is at most 65,535 bytes long
+  -- an image is at most 23,816 bytes long, four for each of 64 ids and of 5,888 records and eight more
+  pub image-most : length (imageOf s t) ≤ 23816
+  image-most = omega (arith, image-length s t, flat-length, records-few s t S, S .few)
+
+  -- so no longer than reading takes
   pub image-short : length (imageOf s t) ≤ 65535
-  image-short = omega (arith, image-length s t, flat-length, records-few s t S, S .few)
+  image-short = omega (arith, image-most)
 
   -- each field, read back
   id-back : (x : ℕ) → IsNode s x → imId (imageOf s t) x ≡ idOf s x

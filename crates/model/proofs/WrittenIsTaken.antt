@@ -287,7 +287,7 @@ module _ (im s t : List ℕ) (S : Sound s t) (P : Pictures im s t) where
           (ap not (any-false r (sameNeighbor im r) (λ q l. back-false (sameNeighbor im r q) false (λ e. absurd (different q l e)) refl)))
           (lt-ltb (countBelow r (sameEntry im r)) (imDepth im) (omega (arith, few-before, P .depth, slot .slot))))
 
-    -- "Member x stands first in each of its own entries"
+    -- an own entry begins with its owner
     owner-first : recOwnerFirst im r ≡ true
     unfolding recOwnerFirst
     owner-first = go (true-or-false (recOwn im r)) (ℕ-discrete (p % 4) 0)

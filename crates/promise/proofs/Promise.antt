@@ -2,34 +2,34 @@
 use Prim.Native.Nat.{ℕ, _+_, _-_, _≤_}
 use mathlib.Core.Path.{_≡_, refl, sym, ap, subst, _∙_}
 use mathlib.Core.Logic.{_⊎_, inl, inr}
-use mathlib.Core.Bool.{Bool, true, false, cond, not, false≢true}
+use mathlib.Core.Bool.{true, false, not, false≢true}
 use mathlib.Core.List.{List, [], _∷_, _++_}
 use native.Mathlib.Omega.{arith}
-use lib.ListN.{length, getD}
+use lib.ListN.{getD}
 use Rattle.model.specs.Memory.{Memory, digits}
-use Rattle.model.specs.Nodes.{isNode, suffixOf}
+use Rattle.model.specs.Nodes.{isNode}
 use Rattle.model.specs.Lookup as book
 use Rattle.model.specs.Lookup.{Lookup, veryHops}
-use Rattle.model.specs.Consistency as book2
-use Rattle.model.specs.Consistency.{consistent, firstShort}
-use Rattle.model.specs.Refusals.{foundRefusal, readRefusal, lookupRefusal, verdictRefusal}
-use Rattle.model.specs.Calls.{Outcome, refused, taken, lookupFields, verdictFields, foundCall, readCall, lookupCall, verdictCall}
-use Rattle.model.specs.Run.{Call, found, read, begin, deliver, lookup, verdict, write, step, after, play, history, isTaken, starts, goesOn, isRun, sentFrom, sent}
+use Rattle.model.specs.Consistency.{consistent}
+use Rattle.model.specs.Refusals.{foundRefusal, readRefusal, lookupRefusal}
+use Rattle.model.specs.Calls.{Outcome, refused, taken, lookupFields, foundCall, readCall, lookupCall}
+use Rattle.model.specs.Run.{Call, found, read, begin, deliver, lookup, verdict, write, sound, step, after, play, history, isTaken, starts, goesOn, isRun, sentFrom, sent}
 use Rattle.model.proofs.Bools.{and-left, and-right, and-intro, not-both, true-or-false}
 use Rattle.model.proofs.Status.{IsNode, is-node, is-node-of}
 use Rattle.model.proofs.Sound.{Sound}
 use Rattle.model.proofs.FoundingIsSound.{founded-ok}
 use Rattle.model.proofs.LoadingIsSound.{loaded-ok}
 use Rattle.model.proofs.RequestBound.{limit-le}
-use Rattle.model.proofs.Lookup.{hops-bound, path-length}
+use Rattle.model.proofs.Lookup.{hops-bound}
 use Rattle.model.proofs.HopsUnchanged.{same-lookup, same-hops}
 use Rattle.model.proofs.Later.{node-later}
 use Rattle.model.proofs.TablesOnlyGrow.{Onward}
 use Rattle.model.proofs.Taken.{found-taken, read-taken, lookup-free}
-use Rattle.promise.specs.Promise.{lookupIn, alreadyMatched, Passes, NodeIn, Demand3}
+use Rattle.promise.specs.Promise.{alreadyMatched, Passes, NodeIn, Demand3}
 use Rattle.model.proofs.Calls.{taken-is, taken-zero}
 use Rattle.promise.proofs.Steps.{Silent, quiet}
 use Rattle.promise.proofs.Run.{Holds, run-goes}
+use Rattle.promise.proofs.Demand2.{says-yes}
 
 -- ---- the start
 
@@ -59,6 +59,7 @@ module _ (m : Memory) where
   started (lookup u z) e = absurd (false≢true e)
   started verdict e = absurd (false≢true e)
   started (write out) e = absurd (false≢true e)
+  started sound e = absurd (false≢true e)
 
   -- so the count of the run is that of the calls after its start
   sent-after : (c : Call) → starts m c ≡ true → (x : ℕ) (cs : List Call) → sent x (history m (c ∷ cs)) ≡ sent x (history (after m c) cs)
@@ -70,26 +71,12 @@ module _ (m : Memory) where
 
 -- ---- a verdict that says yes
 
-yes-whole : (s t : List ℕ) → book2.verdict s t .consistent ≡ 1 → consistent s t ≡ true
-unfolding book2.verdict firstShort
-yes-whole s t e = go (consistent s t) refl
-  where
-    go : (b : Bool) → consistent s t ≡ b → consistent s t ≡ true
-    go true q = q
-    go false q =
-        let w = ap (λ (b : Bool). cond b (record { consistent = 1; node = 0; level = 0; digit = 0 }) (firstShort s t) .consistent) q in
-        absurd (omega (arith, sym w ∙ e))
-
 passes-whole : (m : Memory) → Passes m → consistent (m .state) (m .tables) ≡ true
-unfolding verdictCall taken
-passes-whole m p =
-    let z = taken-zero m (verdictRefusal m) [] _ _ (p .taken) in
-    let w : verdictCall m ≡ taken m [] (verdictFields (book2.verdict (m .state) (m .tables))) = taken-is _ _ _ z in
-    yes-whole (m .state) (m .tables) (sym (ap (λ (o : Outcome). getD (o .answer) 1 0) w) ∙ p .yes)
+passes-whole m p = says-yes m (p .taken) (p .yes)
 
 -- ---- lists of calls
 
-play-append : (m : Memory) (early late : List Call) → play m (early ++ late) ≡ play (play m early) late
+pub play-append : (m : Memory) (early late : List Call) → play m (early ++ late) ≡ play (play m early) late
 unfolding play
 play-append m [] late = refl
 play-append m (c ∷ early) late = play-append (after m c) early late
@@ -119,26 +106,22 @@ requests-bound count m H x = go (true-or-false (isNode (m .state) x))
     go (inr e) = omega (arith, H .others x (λ n. not-both (isNode (m .state) x) (is-node-of (m .state) x n) e))
 
 module _ (m : Memory) (S : Sound (m .state) (m .tables)) (u z : ℕ) (nu : IsNode (m .state) u) (nz : IsNode (m .state) z) where
-  lookup-answer : lookupIn m u z .answer ≡ 0 ∷ lookupFields (book.lookup (m .state) (m .tables) u z)
+  lookup-answer : lookupCall m u z .answer ≡ 0 ∷ lookupFields (book.lookup (m .state) (m .tables) u z)
   unfolding lookupCall taken
   lookup-answer =
       ap (λ (o : Outcome). o .answer) (taken-is (lookupRefusal m u z) (refused m [] 3) _ (lookup-free m u z S nu nz))
 
-  lookup-bound : (isTaken (lookupIn m u z .answer) ≡ true)
-      × (getD (lookupIn m u z .answer) 2 0 ≤ digits (m .state) - alreadyMatched m u z)
-      × (length (veryHops (m .state) (m .tables) u z) ≡ getD (lookupIn m u z .answer) 2 0 + 1)
+  lookup-bound : (isTaken (lookupCall m u z .answer) ≡ true)
+      × (getD (lookupCall m u z .answer) 2 0 ≤ digits (m .state) - alreadyMatched m u z)
   lookup-bound = (
     ap isTaken lookup-answer,
-    subst (λ (l : List ℕ). getD l 2 0 ≤ digits (m .state) - suffixOf (m .state) u z) (sym lookup-answer)
-        (hops-bound (m .state) (m .tables) S z nz u nu),
-    subst (λ (l : List ℕ). length (veryHops (m .state) (m .tables) u z) ≡ getD l 2 0 + 1) (sym lookup-answer)
-        (path-length (m .state) (m .tables) S z nz u nu),
+    omega (arith, ap (λ (l : List ℕ). getD l 2 0) lookup-answer, hops-bound (m .state) (m .tables) S z nz u nu),
   )
 
 -- from a point where the network passes to any later one
 lookups-stay : (m m′ : Memory) → Sound (m .state) (m .tables) → Sound (m′ .state) (m′ .tables)
     → Onward (m .state) (m .tables) (m′ .state) (m′ .tables) → Passes m → (u z : ℕ) → NodeIn m u → NodeIn m z
-    → (veryHops (m′ .state) (m′ .tables) u z ≡ veryHops (m .state) (m .tables) u z) × (lookupIn m′ u z .answer ≡ lookupIn m u z .answer)
+    → (veryHops (m′ .state) (m′ .tables) u z ≡ veryHops (m .state) (m .tables) u z) × (lookupCall m′ u z .answer ≡ lookupCall m u z .answer)
 lookups-stay m m′ S S′ on p u z a b =
     let nu = is-node (m .state) u a in
     let nz = is-node (m .state) z b in
@@ -160,7 +143,7 @@ promise m c cs run =
     let G = run-goes (λ (x : ℕ). 0) (after m c) cs H on in
     let M : Memory = play (after m c) cs in
     record {
-      requests = λ x. rw (sent-after m c start x cs) (requests-bound (λ (x : ℕ). sent x (history (after m c) cs)) M (G .holds) x);
+      requests = λ x. omega (arith, sent-after m c start x cs, requests-bound (λ (x : ℕ). sent x (history (after m c) cs)) M (G .holds) x);
       lookups = λ u z a b. lookup-bound M (G .holds .sound) u z (is-node (M .state) u a) (is-node (M .state) z b);
       unchanged =
           λ early late e.
@@ -172,7 +155,7 @@ promise m c cs run =
           (λ (M : Memory).
           Passes (play (after m c) early) → (u z : ℕ) → NodeIn (play (after m c) early) u → NodeIn (play (after m c) early) z
           → (veryHops (M .state) (M .tables) u z ≡ veryHops (play (after m c) early .state) (play (after m c) early .tables) u z)
-          × (lookupIn M u z .answer ≡ lookupIn (play (after m c) early) u z .answer))
+          × (lookupCall M u z .answer ≡ lookupCall (play (after m c) early) u z .answer))
           (sym w)
           (lookups-stay (play (after m c) early) (play (play (after m c) early) late) (E .holds .sound) (L .holds .sound) (L .onward));
     }

@@ -1,1 +1,5 @@
+-- The three demands as statements about the book's calls. docs/SOURCES.md says what they are.
+pub mod Fixed
+pub mod Demand1
+pub mod Demand2
 pub mod Promise

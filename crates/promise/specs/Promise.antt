@@ -1,25 +1,21 @@
--- Demand 3, one claim about every run: a taken founding or reading, then any list of calls with any arguments, taken or refused, of
--- which none starts a new run. The list is any list, so what holds at its end holds at every point of a run.
+-- Demand 3, one claim about every run (document 01, "The join, step by step", the paragraph on runs): a founding or reading that is taken, and
+-- then any calls, taken or refused, of which none starts a new run. The list is any list, so what holds at its end holds at every point of a run.
 use Prim.Native.Nat.{ℕ, _+_, _-_, _≤_}
 use mathlib.Core.Path.{_≡_}
 use mathlib.Core.Bool.{true}
 use mathlib.Core.List.{List, _∷_, _++_}
-use lib.ListN.{length, getD}
+use lib.ListN.{getD}
 use Rattle.model.specs.Memory.{Memory, digits}
 use Rattle.model.specs.Nodes.{isNode, suffixOf}
 use Rattle.model.specs.Lookup.{veryHops}
-use Rattle.model.specs.Calls.{Outcome, lookupCall, verdictCall}
+use Rattle.model.specs.Calls.{lookupCall, verdictCall}
 use Rattle.model.specs.Run.{Call, play, history, sent, isTaken, isRun}
 
--- the lookup from u to z in a memory
-abbrev pub lookupIn : Memory → ℕ → ℕ → Outcome
-lookupIn m u z = lookupCall m u z
-
--- "The digits already matched are the match of u and z at its start."
+-- the digits already matched: the common suffix of u and z, where the lookup starts
 abbrev pub alreadyMatched : Memory → ℕ → ℕ → ℕ
 alreadyMatched m u z = suffixOf (m .state) u z
 
--- "The network passes the verdict .. when a verdict there says yes"
+-- the network passes the verdict: one asked for here is not refused and says yes
 pub record Passes (m : Memory) : Type 0 where
   pub taken : isTaken (verdictCall m .answer) ≡ true
   pub yes : getD (verdictCall m .answer) 1 0 ≡ 1
@@ -32,21 +28,18 @@ NodeIn m u = isNode (m .state) u ≡ true
 pub record Promise (m : Memory) (c : Call) (cs : List Call) : Type 0 where
   -- (a) no node has sent more than d + 1 copy and wait requests, counted from the history
   pub requests : (x : ℕ) → sent x (history m (c ∷ cs)) ≤ digits (play m (c ∷ cs) .state) + 1
-  -- (b) a lookup from any node to any node is not refused, takes at most d hops less the digits already matched, and its very hops are
-  -- one node more than the hops that it answers
+  -- (b) a lookup from any node to any node is not refused and takes at most d hops less the digits already matched
   pub lookups : (u z : ℕ) → NodeIn (play m (c ∷ cs)) u → NodeIn (play m (c ∷ cs)) z
-      → (isTaken (lookupIn (play m (c ∷ cs)) u z .answer) ≡ true)
-      × (getD (lookupIn (play m (c ∷ cs)) u z .answer) 2 0
+      → (isTaken (lookupCall (play m (c ∷ cs)) u z .answer) ≡ true)
+      × (getD (lookupCall (play m (c ∷ cs)) u z .answer) 2 0
       ≤ digits (play m (c ∷ cs) .state) - alreadyMatched (play m (c ∷ cs)) u z)
-      × (length (veryHops (play m (c ∷ cs) .state) (play m (c ∷ cs) .tables) u z)
-      ≡ getD (lookupIn (play m (c ∷ cs)) u z .answer) 2 0 + 1)
   -- (c) since any point of the run at which the network passed the verdict, lookups between nodes of that time have taken the very same
   -- hops and given the same answers
   pub unchanged : (early late : List Call) → cs ≡ early ++ late → Passes (play m (c ∷ early))
       → (u z : ℕ) → NodeIn (play m (c ∷ early)) u → NodeIn (play m (c ∷ early)) z
       → (veryHops (play m (c ∷ cs) .state) (play m (c ∷ cs) .tables) u z
       ≡ veryHops (play m (c ∷ early) .state) (play m (c ∷ early) .tables) u z)
-      × (lookupIn (play m (c ∷ cs)) u z .answer ≡ lookupIn (play m (c ∷ early)) u z .answer)
+      × (lookupCall (play m (c ∷ cs)) u z .answer ≡ lookupCall (play m (c ∷ early)) u z .answer)
 
 -- the claim, about every run
 abbrev pub Demand3 : Type 0

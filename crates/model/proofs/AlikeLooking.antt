@@ -1,0 +1,157 @@
+-- On memories alike in the fixed lengths lookup, verdict and image are the same. Assumes nothing.
+use Prim.Native.Nat.{ℕ, zero, suc, _+_, _≤_, _<_}
+use mathlib.Core.Path.{_≡_, refl, sym, ap, fun-ext, _∙_}
+use mathlib.Core.Bool.{Bool, true, false, not}
+use mathlib.Core.List.{List, _∷_}
+use native.Mathlib.Omega.{arith}
+use lib.ListN.{take}
+use Rattle.model.specs.Loops.{allBelow, firstBelow, countBelow, joinBelow, node}
+use Rattle.model.specs.Memory.{stateLength, base, digits, nodeCount, tableOf}
+use Rattle.model.specs.Nodes.{qualifies}
+use Rattle.model.specs.Lookup.{nextHop, veryHopsWithin, answerOf, lookup}
+use Rattle.model.specs.Consistency.{Verdict, howMany, entryWhole, levelWhole, nodeWhole, consistent, nodeShort, levelShort, entryShort, firstShort, verdict}
+use Rattle.model.specs.Image.{idBytes, entryRecords, levelRecords, nodeRecords, allRecords, imageOf}
+use Rattle.model.proofs.Loops.{all-same, count-same, first-same, join-same, first-fails}
+use Rattle.model.proofs.Status.{IsNode}
+use Rattle.model.proofs.Sound.{Sound}
+use Rattle.model.proofs.Lookup.{Step, arrives, loses, hops, step-of, arrives-path, loses-path, hops-path, hop-node}
+use Rattle.model.proofs.Alike as same
+use Rattle.model.proofs.Alike.{LongAlike, base-same, digits-same, depth-same, id-same, suffix-same, table-same}
+
+-- loops over the nodes, where both memories have as many
+pub nodes-same {ℓ κ} : {A : Type ℓ} {B : Type κ} (loop : ℕ → (ℕ → A) → B)
+    → ((n : ℕ) (f g : ℕ → A) → ((k : ℕ) → k < n → f k ≡ g k) → loop n f ≡ loop n g) → (n n′ : ℕ) → n′ ≡ n → (f f′ : ℕ → A)
+    → ((x : ℕ) → 1 ≤ x → x ≤ n → f′ x ≡ f x) → loop n′ (node f′) ≡ loop n (node f)
+nodes-same loop law n n′ e f f′ h =
+    ap (λ (n : ℕ). loop n (node f′)) e ∙ law n (node f′) (node f) (λ k l. h (k + 1) (omega arith) (omega arith))
+
+-- the verdict that x has the first short entry
+shortAt : List ℕ → List ℕ → ℕ → Verdict
+shortAt s t x =
+    let i = firstBelow (digits s) (levelShort s t x) in
+    record { consistent = 0; node = x; level = i; digit = firstBelow (base s) (entryShort s t x i) }
+
+module _ (s t s′ t′ : List ℕ) (L : LongAlike s t s′ t′) (S : Sound s t) where
+  a : take stateLength s′ ≡ take stateLength s
+  a = L .alike .state
+
+  count : nodeCount s′ ≡ nodeCount s
+  count = same.count-same s s′ a
+
+  few : (x : ℕ) → x ≤ nodeCount s → x ≤ 64
+  few x h = omega (arith, S .few)
+
+  -- ---- lookup
+
+  module _ (z : ℕ) (nz : IsNode s z) where
+    next-same : (u : ℕ) → IsNode s u → nextHop s′ t′ u z ≡ nextHop s t u z
+    unfolding nextHop
+    next-same u nu =
+        cc (
+          suffix-same s s′ a u z (few u (nu .high)) (few z (nz .high)),
+          id-same s s′ a z (few z (nz .high)),
+          table-same s t s′ t′ L u (nu .low) (few u (nu .high)),
+        )
+
+    hops-same : (n u : ℕ) → IsNode s u → veryHopsWithin n s′ t′ u z ≡ veryHopsWithin n s t u z
+    unfolding veryHopsWithin
+    hops-same zero u nu = refl
+    hops-same (suc n) u nu = go (λ v nv. hops-same n v nv) (step-of s t u z)
+      where
+        e : nextHop s′ t′ u z ≡ nextHop s t u z
+        e = next-same u nu
+
+        go : ((v : ℕ) → IsNode s v → veryHopsWithin n s′ t′ v z ≡ veryHopsWithin n s t v z) → Step s t u z
+            → veryHopsWithin (suc n) s′ t′ u z ≡ veryHopsWithin (suc n) s t u z
+        go ih (arrives q) = arrives-path n s′ t′ u z q ∙ sym (arrives-path n s t u z q)
+        go ih (loses ne q) = loses-path n s′ t′ u z ne (e ∙ q) ∙ sym (loses-path n s t u z ne q)
+        go ih (hops ne some) =
+            hops-path n s′ t′ u z ne (λ q. some (sym e ∙ q))
+            ∙ ap (λ (v : ℕ). u ∷ veryHopsWithin n s′ t′ v z) e
+            ∙ ap (_∷_ u) (ih (nextHop s t u z) (hop-node s t S u z nu nz ne some .0))
+            ∙ sym (hops-path n s t u z ne some)
+
+    pub lookup-same : (u : ℕ) → IsNode s u → lookup s′ t′ u z ≡ lookup s t u z
+    unfolding lookup
+    lookup-same u nu =
+        ap (λ (d : ℕ). answerOf z (veryHopsWithin (suc d) s′ t′ u z)) (digits-same s s′ a)
+        ∙ ap (answerOf z) (hops-same (suc (digits s)) u nu)
+
+  -- ---- the verdict
+
+  module _ (x : ℕ) (low : 1 ≤ x) (high : x ≤ nodeCount s) where
+    how-many-same : (i j : ℕ) → howMany s′ x i j ≡ howMany s x i j
+    unfolding howMany
+    how-many-same i j =
+        nodes-same countBelow count-same (nodeCount s) (nodeCount s′) count (qualifies s x i j) (qualifies s′ x i j)
+        (λ y l h. cc (id-same s s′ a x (few x high), id-same s s′ a y (few y h)))
+
+    entry-same : (i : ℕ) → entryWhole s′ t′ x i ≡ entryWhole s t x i
+    unfolding entryWhole
+    entry-same i =
+        fun-ext (λ j. cc (depth-same s s′ a, table-same s t s′ t′ L x low (few x high), how-many-same i j))
+
+    level-same : levelWhole s′ t′ x ≡ levelWhole s t x
+    unfolding levelWhole
+    level-same = fun-ext (λ i. cc (base-same s s′ a, entry-same i))
+
+    whole-same : nodeWhole s′ t′ x ≡ nodeWhole s t x
+    unfolding nodeWhole
+    whole-same = cc (digits-same s s′ a, level-same)
+
+  consistent-same : consistent s′ t′ ≡ consistent s t
+  unfolding consistent
+  consistent-same = nodes-same allBelow all-same (nodeCount s) (nodeCount s′) count (nodeWhole s t) (nodeWhole s′ t′) whole-same
+
+  -- the level and the digit of the first short entry of a node x
+  at-same : (x : ℕ) → 1 ≤ x → x ≤ nodeCount s → shortAt s′ t′ x ≡ shortAt s t x
+  unfolding shortAt
+  at-same x low high = cc (base-same s s′ a, digits-same s s′ a, levels, digs (firstBelow (digits s) (levelShort s t x)))
+    where
+      levels : levelShort s′ t′ x ≡ levelShort s t x
+      levels = fun-ext (λ i. ap (λ (f : ℕ → Bool). not (f i)) (level-same x low high))
+
+      digs : (i : ℕ) → entryShort s′ t′ x i ≡ entryShort s t x i
+      digs i = fun-ext (λ j. ap (λ (f : ℕ → Bool). not (f j)) (entry-same x low high i))
+
+  first-short-same : consistent s t ≡ false → firstShort s′ t′ ≡ firstShort s t
+  unfolding firstShort consistent shortAt
+  first-short-same e =
+      let l : firstBelow (nodeCount s) (node (nodeShort s t)) < nodeCount s = first-fails (nodeCount s) (node (nodeWhole s t)) e in
+      ap (λ (k : ℕ). shortAt s′ t′ (k + 1))
+      (nodes-same firstBelow first-same (nodeCount s) (nodeCount s′) count (nodeShort s t) (nodeShort s′ t′)
+      (λ x low high. ap not (whole-same x low high)))
+      ∙ at-same (firstBelow (nodeCount s) (node (nodeShort s t)) + 1) (omega arith) (omega arith)
+
+  pub verdict-same : verdict s′ t′ ≡ verdict s t
+  unfolding verdict
+  verdict-same = go (consistent s t) refl
+    where
+      go : (b : Bool) → consistent s t ≡ b → verdict s′ t′ ≡ verdict s t
+      go true e = cc (consistent-same)
+      go false e = cc (consistent-same, first-short-same e)
+
+  -- ---- the image
+
+  records-same : (x : ℕ) → 1 ≤ x → x ≤ nodeCount s → nodeRecords s′ t′ x ≡ nodeRecords s t x
+  unfolding nodeRecords levelRecords entryRecords
+  records-same x low high =
+      cc (digits-same s s′ a, table-same s t s′ t′ L x low (few x high), levels)
+    where
+      entries : (i : ℕ) → entryRecords s′ (tableOf t x) x i ≡ entryRecords s (tableOf t x) x i
+      entries i = fun-ext (λ j. cc (depth-same s s′ a))
+
+      levels : levelRecords s′ (tableOf t x) x ≡ levelRecords s (tableOf t x) x
+      levels = fun-ext (λ i. cc (base-same s s′ a, entries i))
+
+  pub image-same : imageOf s′ t′ ≡ imageOf s t
+  unfolding imageOf allRecords
+  image-same =
+      cc (
+        base-same s s′ a,
+        digits-same s s′ a,
+        depth-same s s′ a,
+        count,
+        nodes-same joinBelow join-same (nodeCount s) (nodeCount s′) count (idBytes s) (idBytes s′) (λ x l h. cc (id-same s s′ a x (few x h))),
+        nodes-same joinBelow join-same (nodeCount s) (nodeCount s′) count (nodeRecords s t) (nodeRecords s′ t′) records-same,
+      )

@@ -1,0 +1,151 @@
+-- On memories alike in the fixed lengths each call is refused alike. Assumes nothing.
+use Prim.Native.Nat.{ℕ, _+_, _≤_}
+use mathlib.Core.Path.{_≡_, refl, ap, _∙_}
+use mathlib.Core.Bool.{Bool, true, false, cond, not}
+use mathlib.Core.List.{List, [], _∷_, _++_}
+use native.Mathlib.Omega.{arith}
+use lib.Dec.{eqb}
+use borrow.Author.Tests.{not-false}
+use Rattle.model.specs.Loops.{allBelow, anyBelow}
+use Rattle.model.specs.Memory.{Memory, nodeCount, isInSystem}
+use Rattle.model.specs.Nodes.{isNode}
+use Rattle.model.specs.Sound.{sound}
+use Rattle.model.specs.Join.{outstanding}
+use Rattle.model.specs.Refusals.{Sentence, firstTrue, memoryShort, unsound, hasId, areNodes, someNotInSystem, stateSentences, beginSentences, deliverSentences, lookupSentences, verdictSentences, writeSentences, foundRefusal, readRefusal, stateRefusal, beginRefusal, deliverRefusal, lookupRefusal, verdictRefusal, writeRefusal}
+use Rattle.model.proofs.Bools.{and-left, and-right}
+use Rattle.model.proofs.Loops.{all-same, any-same}
+use Rattle.model.proofs.Memory.{same-status, same-target, same-pending}
+use Rattle.model.proofs.Status.{IsNode, is-node, in-system-same}
+use Rattle.model.proofs.Sound.{Sound, sound-ok}
+use Rattle.model.proofs.Taken.{long-of}
+use Rattle.model.proofs.Alike.{Alike, LongAlike, base-same, digits-same, count-same, id-same, record-same, short-same, sound-same}
+use Rattle.model.proofs.AlikeLooking.{nodes-same, image-same}
+
+-- lists of sentences are judged alike where each test is the same, if no test before it was true
+sentence-same : (test test′ : Bool) (n : ℕ) (later later′ : List Sentence) → test′ ≡ test
+    → (test ≡ false → firstTrue later′ ≡ firstTrue later) → firstTrue ((test′, n) ∷ later′) ≡ firstTrue ((test, n) ∷ later)
+unfolding firstTrue
+sentence-same test test′ n later later′ e h = ap (λ (b : Bool). cond b n (firstTrue later′)) e ∙ go test h
+  where
+    go : (b : Bool) → (b ≡ false → firstTrue later′ ≡ firstTrue later) → cond b n (firstTrue later′) ≡ cond b n (firstTrue later)
+    go true h = refl
+    go false h = h refl
+
+module _ (m m′ : Memory) (a : Alike (m .state) (m .tables) (m′ .state) (m′ .tables)) where
+  abbrev s : List ℕ
+  s = m .state
+
+  abbrev s′ : List ℕ
+  s′ = m′ .state
+
+  -- ---- 1 and 2 come first
+
+  pub long-alike : memoryShort m ≡ false → LongAlike (m .state) (m .tables) (m′ .state) (m′ .tables)
+  long-alike e = record { alike = a; long = long-of m e; long′ = long-of m′ (short-same m m′ a ∙ e) }
+
+  past-short : (later : List Sentence) → firstTrue ((memoryShort m′, 1) ∷ later) ≡ firstTrue ((memoryShort m, 1) ∷ later)
+  past-short later = sentence-same (memoryShort m) (memoryShort m′) 1 later later (short-same m m′ a) (λ e. refl)
+
+  past-sound : (later later′ : List Sentence)
+      → (LongAlike (m .state) (m .tables) (m′ .state) (m′ .tables) → Sound (m .state) (m .tables) → firstTrue later′ ≡ firstTrue later)
+      → firstTrue (stateSentences m′ ++ later′) ≡ firstTrue (stateSentences m ++ later)
+  past-sound later later′ h =
+      sentence-same (memoryShort m) (memoryShort m′) 1 _ _ (short-same m m′ a)
+      (λ e.
+      let L = long-alike e in
+      sentence-same (unsound m) (unsound m′) 2 later later′ (ap not (sound-same s (m .tables) s′ (m′ .tables) L))
+      (λ q. h L (sound-ok s (m .tables) (L .long) (not-false (sound s (m .tables)) q))))
+
+  -- ---- the calls
+
+  pub found-same : (b d K id : ℕ) → foundRefusal m′ b d K id ≡ foundRefusal m b d K id
+  unfolding foundRefusal
+  found-same b d K id = past-short _
+
+  pub read-same : (im : List ℕ) → readRefusal m′ im ≡ readRefusal m im
+  unfolding readRefusal
+  read-same im = past-short _
+
+  pub state-same : stateRefusal m′ ≡ stateRefusal m
+  unfolding stateRefusal
+  state-same = past-sound [] [] (λ L S. refl)
+
+  module _ (S : Sound (m .state) (m .tables)) where
+    node-few : (x : ℕ) → IsNode s x → x ≤ 64
+    node-few x n = omega (arith, n .high, S .few)
+
+    is-node-same : (x : ℕ) → isNode s′ x ≡ isNode s x
+    is-node-same x = cc (count-same s s′ (a .state))
+
+    node-there : (x : ℕ) → not (isNode s x) ≡ false → x ≤ 64
+    node-there x e = node-few x (is-node s x (not-false (isNode s x) e))
+
+    in-system-there : (x : ℕ) → x ≤ 64 → isInSystem s′ x ≡ isInSystem s x
+    in-system-there x h = in-system-same s s′ x (record-same s s′ (a .state) x h)
+
+    nodes-there : (x y : ℕ) → not (areNodes s x y) ≡ false → (x ≤ 64) × (y ≤ 64)
+    nodes-there x y e =
+        let q = not-false (areNodes s x y) e in (
+          node-few x (is-node s x (and-left (isNode s x) (isNode s y) q)),
+          node-few y (is-node s y (and-right (isNode s x) (isNode s y) q)),
+        )
+
+    are-nodes-same : (x y : ℕ) → not (areNodes s′ x y) ≡ not (areNodes s x y)
+    are-nodes-same x y = cc (is-node-same x, is-node-same y)
+
+    taken-same : (id : ℕ) → anyBelow (nodeCount s′) (λ k. hasId s′ id (k + 1)) ≡ anyBelow (nodeCount s) (λ k. hasId s id (k + 1))
+    taken-same id =
+        nodes-same anyBelow any-same (nodeCount s) (nodeCount s′) (count-same s s′ (a .state)) (hasId s id) (hasId s′ id)
+        (λ x low high. ap (λ (n : ℕ). eqb n id) (id-same s s′ (a .state) x (omega (arith, high, S .few))))
+
+    not-in-system-same : someNotInSystem s′ ≡ someNotInSystem s
+    not-in-system-same =
+        ap not
+        (nodes-same allBelow all-same (nodeCount s) (nodeCount s′) (count-same s s′ (a .state)) (isInSystem s) (isInSystem s′)
+        (λ x low high. in-system-there x (omega (arith, high, S .few))))
+
+  pub begin-same : (id gateway : ℕ) → beginRefusal m′ id gateway ≡ beginRefusal m id gateway
+  unfolding beginRefusal
+  begin-same id gateway =
+      past-sound (beginSentences s id gateway) (beginSentences s′ id gateway)
+      (λ L S.
+      sentence-same _ _ 7 _ _ (cc (base-same s s′ (a .state), digits-same s s′ (a .state)))
+      (λ e₇.
+      sentence-same _ _ 8 _ _ (taken-same S id)
+      (λ e₈.
+      sentence-same _ _ 9 _ _ (ap not (is-node-same S gateway))
+      (λ e₉.
+      sentence-same _ _ 11 _ _ (cc (count-same s s′ (a .state)))
+      (λ e₁₁. sentence-same _ _ 12 [] [] (ap not (in-system-there S gateway (node-there S gateway e₉))) (λ e₁₂. refl))))))
+
+  pub deliver-same : (x y : ℕ) → deliverRefusal m′ x y ≡ deliverRefusal m x y
+  unfolding deliverRefusal outstanding
+  deliver-same x y =
+      past-sound (deliverSentences s x y) (deliverSentences s′ x y)
+      (λ L S.
+      sentence-same _ _ 9 _ _ (are-nodes-same S x y)
+      (λ e₉.
+      let n = nodes-there S x y e₉ in
+      let r = record-same s s′ (a .state) x (n .0) in
+      sentence-same _ _ 13 _ _ (cc (same-status r, same-target r, same-pending r))
+      (λ e₁₃. sentence-same _ _ 14 [] [] (cc (same-status r, in-system-there S y (n .1))) (λ e₁₄. refl))))
+
+  pub lookup-same : (u z : ℕ) → lookupRefusal m′ u z ≡ lookupRefusal m u z
+  unfolding lookupRefusal
+  lookup-same u z =
+      past-sound (lookupSentences s u z) (lookupSentences s′ u z)
+      (λ L S. sentence-same _ _ 9 [] [] (are-nodes-same S u z) (λ e. refl))
+
+  pub verdict-same : verdictRefusal m′ ≡ verdictRefusal m
+  unfolding verdictRefusal
+  verdict-same =
+      past-sound (verdictSentences s) (verdictSentences s′)
+      (λ L S. sentence-same _ _ 15 [] [] (not-in-system-same S) (λ e. refl))
+
+  pub write-same : (out : List ℕ) → writeRefusal m′ out ≡ writeRefusal m out
+  unfolding writeRefusal
+  write-same out =
+      past-sound (writeSentences m out) (writeSentences m′ out)
+      (λ L S.
+      sentence-same _ _ 15 _ _ (not-in-system-same S)
+      (λ e₁₅. sentence-same _ _ 16 [] [] (cc (image-same s (m .tables) s′ (m′ .tables) L S)) (λ e₁₆. refl)))

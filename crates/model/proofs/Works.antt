@@ -1,0 +1,96 @@
+-- What a call that is taken does to the memory lies within the fixed lengths. Assumes nothing.
+use Prim.Native.Nat.{ℕ, _+_, _*_, _≤_}
+use mathlib.Core.Path.{_≡_, ap, _∙_}
+use mathlib.Core.List.{List}
+use native.Mathlib.Omega.{arith}
+use lib.ListN.{length, set}
+use Rattle.model.specs.Memory.{Node, stateLength, tablesLength, zeroed, withNode, tableOf, withTable}
+use Rattle.model.specs.Tables.{append, ownTable}
+use Rattle.model.specs.Join.{Delivery, founded, delivery}
+use Rattle.model.specs.Image.{imBase, imDigits, imDepth, imNodes, imId, imRecords, recNode, recLevel, recDigit, recNeighbor, loadId, loadRecord, loaded}
+use Rattle.model.proofs.Tables.{append-length}
+use Rattle.model.proofs.OwnTable.{own-long}
+use Rattle.model.proofs.Memory.{table-length}
+use Rattle.model.proofs.Learning.{learn-grows, learn-table-grows}
+use Rattle.model.proofs.Sound.{Sound, table-fits}
+use Rattle.model.proofs.LoadingIsSound.{GoodImage}
+use Rattle.model.proofs.Sender.{CanDeliver}
+use Rattle.model.proofs.DeliveryDid.{Tells, Did, did-ask, did-attach, did-notify, delivery-did}
+use Rattle.model.proofs.Within.{Within, within-then, within-each, within-set, within-zeroed, then-set, within-node, within-table}
+
+-- f is done to the state and g to the table memory, both within the fixed lengths
+pub record Works (f g : List ℕ → List ℕ) : Type 0 where
+  pub state : Within stateLength f
+  pub tables : Within tablesLength g
+
+-- ---- founding and reading
+
+zeroed-settings : (b d K n : ℕ) → Within stateLength (λ s. set (set (set (set (zeroed stateLength s) 0 b) 1 d) 2 K) 3 n)
+zeroed-settings b d K n =
+    then-set 3 n (omega arith) (then-set 2 K (omega arith) (then-set 1 d (omega arith) (then-set 0 b (omega arith) (within-zeroed stateLength))))
+
+pub found-works : (s t : List ℕ) (b d K id : ℕ) → d ≤ 8 → Works (λ s. founded s t b d K id .state) (λ t. founded s t b d K id .tables)
+unfolding founded
+found-works s t b d K id h = record {
+  state = within-then stateLength _ _ (zeroed-settings b d K 1) (within-node 1 _ (omega arith));
+  tables = within-then tablesLength _ _ (within-zeroed tablesLength) (within-table 1 (omega arith) (omega arith) (λ T. ownTable d id 1) (λ T e. own-long d id 1 h));
+}
+
+pub read-works : (s t im : List ℕ) → GoodImage im → Works (λ s. loaded s t im .state) (λ t. loaded s t im .tables)
+unfolding loaded loadRecord
+read-works s t im R = record {
+  state = within-then stateLength _ _ (zeroed-settings (imBase im) (imDigits im) (imDepth im) (imNodes im))
+      (within-each stateLength (imNodes im) (loadId im) (λ k l. within-set stateLength (8 * (k + 1)) (imId im (k + 1)) (omega (arith, R .few))));
+  tables = within-then tablesLength _ _ (within-zeroed tablesLength)
+      (within-each tablesLength (imRecords im) (loadRecord im) (λ r l.
+      let n = R .owners r l in
+      within-table (recNode im r) (n .0) (omega (arith, n .1, R .few))
+      (λ T. append (imDepth im) T (recLevel im r) (recDigit im r) (recNeighbor im r))
+      (λ T e. append-length (imDepth im) T (recLevel im r) (recDigit im r) (recNeighbor im r) ∙ e)));
+}
+
+-- ---- beginning: a record and a table for node x, and word 3
+
+pub begin-works : (x : ℕ) (r : Node) (T : List ℕ) → 1 ≤ x → x ≤ 64 → length T ≡ 512
+    → Works (λ s. withNode (set s 3 x) x r) (λ t. withTable t x T)
+begin-works x r T low high e = record {
+  state = within-then stateLength _ _ (within-set stateLength 3 x (omega arith)) (within-node x r high);
+  tables = within-table x low high (λ U. T) (λ U q. e);
+}
+
+-- ---- a delivery
+
+module _ (s t : List ℕ) (S : Sound s t) (x y : ℕ) (c : CanDeliver s x y) where
+  abbrev d : Delivery
+  d = delivery s t x y
+
+  tables-long : (length (delivery s t x y .senderTable) ≡ 512) × (length (delivery s t x y .receiverTable) ≡ 512)
+  tables-long = go (delivery-did s t S x y c)
+    where
+      own : length (tableOf t x) ≡ 512
+      own = table-length t x (table-fits s t S x (c .sender))
+
+      their : length (tableOf t y) ≡ 512
+      their = table-length t y (table-fits s t S y (c .receiver))
+
+      tells : {s′ seen : List ℕ} {level pending notified : ℕ} → Tells s t x y d s′ seen level pending notified
+          → (length (d .senderTable) ≡ 512) × (length (d .receiverTable) ≡ 512)
+      tells {s′} {seen} w = (
+        ap length (w .own) ∙ learn-table-grows s′ x seen (tableOf t x) .long ∙ own,
+        ap length (w .theirs) ∙ learn-grows s′ y x (tableOf t y) .long ∙ their,
+      )
+
+      go : Did s t x y d → (length (d .senderTable) ≡ 512) × (length (d .receiverTable) ≡ 512)
+      go (did-ask w) =
+          (ap length (w .own) ∙ learn-table-grows s x (tableOf t y) (tableOf t x) .long ∙ own, ap length (w .theirs) ∙ their)
+      go (did-attach w) = tells (w .tells)
+      go (did-notify w) = tells (w .tells)
+
+  pub deliver-works : Works (λ s₁. withNode s₁ x (delivery s t x y .sender))
+      (λ t₁. withTable (withTable t₁ y (delivery s t x y .receiverTable)) x (delivery s t x y .senderTable))
+  deliver-works = record {
+    state = within-node x (d .sender) (omega (arith, c .sender .high, S .few));
+    tables = within-then tablesLength _ _
+        (within-table y (c .receiver .low) (omega (arith, c .receiver .high, S .few)) (λ U. d .receiverTable) (λ U q. tables-long .1))
+        (within-table x (c .sender .low) (omega (arith, c .sender .high, S .few)) (λ U. d .senderTable) (λ U q. tables-long .0));
+  }
