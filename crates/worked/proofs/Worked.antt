@@ -6,7 +6,7 @@ use Rattle.model.specs.Memory.{withNode, hasNode, tableOf, withTable}
 use Rattle.model.specs.Tables.{qualified, entrySize, append, ownTable}
 use Rattle.model.specs.Sound.{hasNewId, slotSound, entrySound, levelSound, inSystemSound, joiningSound, copyingSound, waitingSound, pendingSound, notifiedSound, notifyingSound, statusSound, allZero, stateRestZero, tablesRestZero, tableSound, unusedZero, sound}
 use Rattle.model.specs.Join.{founded}
-use Rattle.model.specs.Lookup.{nextHop, lookupWithin}
+use Rattle.model.specs.Lookup.{nextHop, veryHopsWithin, lastOf, answerOf, lookup}
 use Rattle.model.specs.Consistency.{howMany, entryWhole, levelWhole, nodeWhole, consistent, firstShort, verdict}
 use Rattle.model.specs.Image.{imId, lengthRight, sameEntry, risesFrom, recOrdered, recAllowed, recOwnerFirst, ownHasRecord, ownHaveRecords, recordsGood, loadRecord, loaded}
 use Rattle.model.specs.Refusals.{firstTrue, foundRefusal, readRefusal, lookupRefusal, verdictRefusal}
@@ -14,8 +14,8 @@ use Rattle.model.specs.Calls.{refusedAt, taken, unlessRefused, foundCall, readC
 use Rattle.worked.specs.Examples.{dirty, founding, reading, verdictOn, lookupOn, headOfE1, rec, E1, E1Short, Worked}
 
 -- what the examples compute with
-computing : Unit {0}
-unfolding allBelow anyBelow countBelow firstBelow eachBelow joinBelow settingsInRange digitOf validId commonSuffix lowDigits withNode hasNode tableOf withTable qualified entrySize append ownTable hasNewId slotSound entrySound levelSound inSystemSound joiningSound copyingSound waitingSound pendingSound notifiedSound notifyingSound statusSound allZero stateRestZero tablesRestZero tableSound unusedZero sound founded nextHop lookupWithin howMany entryWhole levelWhole nodeWhole consistent firstShort verdict imId lengthRight sameEntry risesFrom recOrdered recAllowed recOwnerFirst ownHasRecord ownHaveRecords recordsGood loadRecord loaded firstTrue foundRefusal readRefusal lookupRefusal verdictRefusal refusedAt taken unlessRefused foundCall readCall lookupCall verdictCall dirty founding reading verdictOn lookupOn headOfE1 rec E1 E1Short
+unfoldable pub computing : Unit {0}
+unfolding allBelow anyBelow countBelow firstBelow eachBelow joinBelow settingsInRange digitOf validId commonSuffix lowDigits withNode hasNode tableOf withTable qualified entrySize append ownTable hasNewId slotSound entrySound levelSound inSystemSound joiningSound copyingSound waitingSound pendingSound notifiedSound notifyingSound statusSound allZero stateRestZero tablesRestZero tableSound unusedZero sound founded nextHop veryHopsWithin lastOf answerOf lookup howMany entryWhole levelWhole nodeWhole consistent firstShort verdict imId lengthRight sameEntry risesFrom recOrdered recAllowed recOwnerFirst ownHasRecord ownHaveRecords recordsGood loadRecord loaded firstTrue foundRefusal readRefusal lookupRefusal verdictRefusal refusedAt taken unlessRefused foundCall readCall lookupCall verdictCall dirty founding reading verdictOn lookupOn headOfE1 rec E1 E1Short
 computing = tt
 
 pub worked : Worked

@@ -39,14 +39,14 @@ unfoldable pub E1 : List ℕ
 unfolding headOfE1 rec
 E1 = headOfE1 6 (rec 1 0 0 1 (rec 1 0 1 2 (rec 1 1 0 1 (rec 2 0 0 1 (rec 2 0 1 2 (rec 2 1 0 2 []))))))
 
--- "E1 without record 1 0 1 2 and with count 5"
+-- E1 with its second record left out, and so with a record count of 5
 unfoldable pub E1Short : List ℕ
 unfolding headOfE1 rec
 E1Short = headOfE1 5 (rec 1 0 0 1 (rec 1 1 0 1 (rec 2 0 0 1 (rec 2 0 1 2 (rec 2 1 0 2 [])))))
 
 -- The list. An answer is the refusal and then the call's fields.
 pub record Worked : Type 0 where
-  -- b 8, d 5: the match of 10261 with five ids. Excluded: counting digits from the left (P1 would be 1, P4 2); counting every equal
+  -- b 8, d 5: the common suffix of 10261 and five ids. Excluded: counting digits from the left (P1 would be 1, P4 2); counting every equal
   -- digit, also past one that differs (P1 would be 4, P4 2); no cap at d (P5 would be 8).
   pub p1 : commonSuffix 5 0x10261 0x11261 ≡ 3
   pub p2 : commonSuffix 5 0x10261 0x13061 ≡ 2
