@@ -1,5 +1,5 @@
--- "The verdict program takes an image of at most 65,535 bytes; a longer one meets 6 if nothing earlier": a program over images keeps the first
--- 65,536 bytes of its input, and reading gives for them what it gives for the whole input. Assumes nothing.
+-- An image of more than 65,535 bytes is refused by 6 where no sentence before it holds (document 01, "The image"). So a program over images may keep
+-- the first 65,536 bytes of its input: reading gives for them what it gives for the whole input. Assumes nothing.
 use Prim.Native.Nat.{ℕ, _+_, _*_, _≤_, _<_}
 use mathlib.Core.Path.{_≡_, refl, sym, ap, ap₂, _∙_}
 use mathlib.Core.Bool.{Bool, true, false, cond, not, _&&_}

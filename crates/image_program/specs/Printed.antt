@@ -1,19 +1,16 @@
--- What every program over images prints: document 01, "Line one is `refusal` and the number, 0 if none; only then line two". Text is a
--- list of ASCII codes.
+-- What every program over images prints (document 01, "The image", the second paragraph): `refusal` with its
+-- number, and on 0 the lines of the program.
 use Prim.Native.Nat.{ℕ}
 use mathlib.Core.Bool.{cond}
-use mathlib.Core.List.{List, [], _∷_}
+use mathlib.Core.List.{List}
 use lib.Dec.{eqb}
 use lib.ListN.{getD}
 use Rattle.model.specs.Calls.{Outcome}
-use Rattle.text.specs.Numbers.{line}
-
--- "refusal "
-abbrev pub refusalWord : List ℕ
-refusalWord = 114 ∷ 101 ∷ 102 ∷ 117 ∷ 115 ∷ 97 ∷ 108 ∷ 32 ∷ []
+use Rattle.text.specs.Ascii.{ascii}
+use Rattle.text.specs.Lines.{line}
 
 unfoldable pub lineOne : ℕ → List ℕ
-lineOne number = line refusalWord number
+lineOne number = line (ascii "refusal ") number
 
 -- after reading: line one alone where it refuses the image, else these lines
 unfoldable pub printed : Outcome → List ℕ → List ℕ

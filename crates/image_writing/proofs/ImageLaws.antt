@@ -9,8 +9,8 @@ use Rattle.model.specs.Memory.{base, digits, depth, nodeCount}
 use Rattle.model.specs.Image.{twoBytes, idBytes, recordsBytes, allRecords, imageOf}
 use Rattle.model.proofs.Sections.{ids-length, image-length}
 use Rattle.model.specs.Nodes.{joinNodes}
-use Rattle.image_writing_parts.specs.Put.{put, Put}
-use Rattle.image_writing_parts.proofs.Putting.{put-same-length, put-then, put-before}
+use Rattle.putting.specs.Put.{put, Put}
+use Rattle.putting.proofs.Putting.{put-same-length, put-then, put-before}
 
 -- the sections: the header, the ids, the records
 abbrev header : List ℕ → List ℕ

@@ -1,4 +1,4 @@
-// The image of a sound state in lent memory: document 01, "Sections in a fixed order, each after its count." How long it is, and its bytes.
+// The image of a sound state in lent memory: document 01, "The image". How long it is, and its bytes.
 mod measure;
 
 ghost use mathlib.Core.Path.{_≡_};
@@ -8,7 +8,6 @@ ghost use lib.ListN.{length, drop};
 ghost use Rattle.model.specs.Image.{imageOf};
 ghost use Rattle.model.proofs.Sound.{Sound};
 use image_writing_parts::ids;
-use image_writing_parts::put;
 use image_writing_parts::slots;
 use state::settings;
 
@@ -20,8 +19,8 @@ pub fn image_length(state: &[u64], tables: &[u8]) -> usize
     8 + 4 * settings::load(state).nodes + measure::records(state, tables)
 }
 
-// Writes it from the start of out, and answers its length. "Writing leaves bytes past the image alone." The count stands before the
-// records, and is known when they are written.
+// Writes it from the start of out, and answers its length. What lies past it stays. The count stands before the records, and is known when they
+// are written.
 pub fn write(state: &[u64], tables: &[u8], out: &mut [u8]) -> usize
     requires { ⌜ Sound (now state) (now tables) ⌝ }
     requires { ⌜ length (imageOf (now state) (now tables)) ≤ length (now out) ⌝ }
@@ -31,6 +30,6 @@ pub fn write(state: &[u64], tables: &[u8], out: &mut [u8]) -> usize
     let at = ids::all(state, tables, out, start);
     let end = slots::all(state, tables, out, at + 2);
     let count = (end - (at + 2)) / 4;
-    put::two(out, at, (count % 256) as u8, (count / 256 % 256) as u8);
+    putting::two(out, at, (count % 256) as u8, (count / 256 % 256) as u8);
     end
 }

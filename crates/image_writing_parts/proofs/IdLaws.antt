@@ -9,8 +9,8 @@ use Rattle.model.specs.Memory.{base, digits, depth, nodeCount, idOf}
 use Rattle.model.specs.Image.{fourBytes, idBytes}
 use Rattle.model.proofs.Sections.{ids-length}
 use Rattle.model.specs.Nodes.{joinNodes}
-use Rattle.image_writing_parts.specs.Put.{Put}
-use Rattle.image_writing_parts.proofs.Putting.{put-then, pieces-none, pieces-room, pieces-goes, pieces-ends}
+use Rattle.putting.specs.Put.{Put}
+use Rattle.putting.proofs.Putting.{put-then, pieces-none, pieces-room, pieces-goes, pieces-ends}
 
 pub header-put : (s o p q : List ℕ) (b d K n e g : ℕ) → b ≡ base s → d ≡ digits s → K ≡ depth s → n ≡ nodeCount s
     → Put o 0 (4 ∷ 1 ∷ b ∷ d ∷ []) p e → Put p e (K ∷ n ∷ []) q g

@@ -1,5 +1,4 @@
 -- Laws of putting bytes and of counting them, for the functions that write.
-pub mod Putting
 pub mod Measuring
 pub mod SlotLaws
 pub mod IdLaws

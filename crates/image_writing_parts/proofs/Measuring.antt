@@ -11,7 +11,7 @@ use Rattle.model.specs.Loops.{joinBelow}
 use Rattle.model.specs.Tables.{slotAt}
 use Rattle.model.specs.Image.{slotRecord}
 use Rattle.image_writing_parts.specs.Records.{entryOf, recordsOfLevel, tableRecords}
-use Rattle.image_writing_parts.proofs.Putting.{join-more}
+use Rattle.putting.proofs.Putting.{join-more}
 
 module _ (f : ℕ → List ℕ) where
   pub total-none : 0 ≡ length (joinBelow 0 f)

@@ -12,9 +12,9 @@ use Rattle.model.specs.Tables.{slotAt, slotIs}
 use Rattle.model.specs.Memory.{base, digits, depth, nodeCount, tableOf}
 use Rattle.model.specs.Image.{slotRecord, entryRecords, levelRecords, nodeRecords, allRecords}
 use Rattle.model.proofs.Loops.{all-at}
-use Rattle.image_writing_parts.specs.Put.{Put}
+use Rattle.putting.specs.Put.{Put}
 use Rattle.image_writing_parts.specs.Records.{slotOf, entryOf, recordsOfLevel, tableRecords}
-use Rattle.image_writing_parts.proofs.Putting.{put-none, pieces-none, pieces-room, pieces-goes, pieces-ends}
+use Rattle.putting.proofs.Putting.{put-none, pieces-none, pieces-room, pieces-goes, pieces-ends}
 use Rattle.image_writing_parts.proofs.Measuring.{records-length, total-goes, total-ends}
 
 module _ (x i j u : ℕ) where

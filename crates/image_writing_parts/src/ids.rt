@@ -6,28 +6,27 @@ ghost use Rattle.model.specs.Memory.{base, digits, depth, nodeCount};
 ghost use Rattle.model.specs.Image.{fourBytes, idBytes};
 ghost use Rattle.model.proofs.Sound.{Sound};
 ghost use Rattle.model.specs.Nodes.{joinNodes};
-ghost use Rattle.image_writing_parts.specs.Put.{Put};
-use crate::put;
+ghost use Rattle.putting.specs.Put.{Put};
 use state::record;
 use state::settings;
 
-// "Settings: count byte 4, then version 1, b, d, K. Members: count byte, .."
+// The settings after their count, 4: the version, 1, and base, digits and depth. Then the number of nodes.
 pub fn header(state: &[u64], tables: &[u8], out: &mut [u8]) -> usize
     requires { ⌜ Sound (now state) (now tables) ⌝ }
     requires { ⌜ 6 ≤ length (now out) ⌝ }
     ensures { λ r. ⌜ Put (now (out .entry)) 0 (4 ∷ 1 ∷ base (now (state .entry)) ∷ digits (now (state .entry)) ∷ depth (now (state .entry)) ∷ nodeCount (now (state .entry)) ∷ []) (now (out .exit)) r ⌝ }
 {
     let s = settings::load(state);
-    let at = put::four(out, 0, 4, 1, s.base as u8, s.digits as u8);
-    put::two(out, at, s.depth as u8, s.nodes as u8)
+    let at = putting::four(out, 0, 4, 1, s.base as u8, s.digits as u8);
+    putting::two(out, at, s.depth as u8, s.nodes as u8)
 }
 
-// "each id in four bytes, low byte first"
+// An id in four bytes, the low byte first.
 fn id(id: u64, out: &mut [u8], at: usize) -> usize
     requires { ⌜ at + 4 ≤ length (now out) ⌝ }
     ensures { λ r. ⌜ Put (now (out .entry)) at (fourBytes id) (now (out .exit)) r ⌝ }
 {
-    put::four(
+    putting::four(
         out,
         at,
         (id % 256) as u8,

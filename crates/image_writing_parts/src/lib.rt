@@ -1,4 +1,3 @@
 // The parts of an image written to lent memory: its head and ids, and its records.
 pub mod ids;
-pub mod put;
 pub mod slots;

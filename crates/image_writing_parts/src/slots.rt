@@ -4,14 +4,13 @@ ghost use lib.ListN.{length};
 ghost use Rattle.model.specs.Image.{allRecords};
 ghost use Rattle.model.proofs.Sound.{Sound};
 ghost use Rattle.tables.specs.Places.{Entry};
-ghost use Rattle.image_writing_parts.specs.Put.{Put};
+ghost use Rattle.putting.specs.Put.{Put};
 ghost use Rattle.image_writing_parts.specs.Records.{slotOf, entryOf, recordsOfLevel, tableRecords, Shape};
-use crate::put;
 use state::settings;
 use tables::entry;
 use tables::part;
 
-// "four bytes each: member, level, digit, neighbour"; nothing for an empty slot.
+// The record of a slot, four bytes: node, level, digit, and the node in the slot; nothing for an empty slot.
 fn slot(x: usize, i: usize, j: usize, u: u8, out: &mut [u8], at: usize) -> usize
     requires { ⌜ x < 256 ⌝ }
     requires { ⌜ i < 256 ⌝ }
@@ -22,10 +21,10 @@ fn slot(x: usize, i: usize, j: usize, u: u8, out: &mut [u8], at: usize) -> usize
     if u == 0 {
         return at;
     }
-    put::four(out, at, x as u8, i as u8, j as u8, u)
+    putting::four(out, at, x as u8, i as u8, j as u8, u)
 }
 
-// "within an entry stand in slot order"; most entries are empty.
+// The records of an entry, slot by slot; most entries are empty.
 fn filled(
     table: &[u8],
     depth: usize,
@@ -97,7 +96,7 @@ fn node(
     end
 }
 
-// "Records rise by member, level, digit"
+// The records of all nodes.
 pub fn all(state: &[u64], tables: &[u8], out: &mut [u8], at: usize) -> usize
     requires { ⌜ Sound (now state) (now tables) ⌝ }
     requires { ⌜ at + length (allRecords (now state) (now tables)) ≤ length (now out) ⌝ }

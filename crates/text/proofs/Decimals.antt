@@ -1,13 +1,14 @@
 -- The digits that the library spells are the number in decimal. Assumes nothing.
-use Prim.Native.Nat.{ℕ, zero, suc, _+_, _-_, _*_, _/_, _%_, _^_, _≤_, _<_}
-use mathlib.Core.Path.{_≡_, sym, ap, ap₂, subst, _∙_}
+use Prim.Native.Nat.{ℕ, zero, suc, _+_, _-_, _*_, _/_, _%_, _^_, _≤_, _<_, min, max}
+use mathlib.Core.Path.{_≡_, refl, sym, ap, ap₂, subst, _∙_}
 use mathlib.Core.List.{List, [], _∷_, _++_}
 use native.Mathlib.Nat.{pow-suc, pow-le-pow-right, one-le-pow, zero-lt-suc, lt-suc-self}
 use native.Mathlib.Decide.{decLt}
 use native.Mathlib.Omega.{arith}
 use borrow.Author.Tests.{lt-ltb, le-ltb}
 use Rattle.io.specs.Digits.{digits, Fewest, glyph}
-use Rattle.text.specs.Numbers.{decimalWithin, decimal}
+use Rattle.putting.specs.Put.{Put}
+use Rattle.text.specs.Numbers.{decimalWithin, decimal, hexadecimal}
 
 glyph-is : (d : ℕ) → d < 10 → 48 + d ≡ glyph d
 glyph-is d h = rw (lt-ltb d 10 h)
@@ -36,9 +37,9 @@ decimal-is (suc k) n (some, below, least) = sym (spelled k (suc n) n below (λ z
     e : suc k - 1 ≡ k
     e = omega arith
 
--- put behind what stands before it
-pub number-is : (n k : ℕ) (o a ds : List ℕ) → a ≡ o ++ ds → Fewest 10 1 n k → ds ≡ digits 10 k n → a ≡ o ++ decimal n
-number-is n k o a ds e few d = e ∙ ap (λ (l : List ℕ). o ++ l) (d ∙ decimal-is k n few)
+-- put at its place
+pub number-put : (n k : ℕ) (o : List ℕ) (a : ℕ) (ds p : List ℕ) (e : ℕ) → Put o a ds p e → Fewest 10 1 n k → ds ≡ digits 10 k n → Put o a (decimal n) p e
+number-put n k o a ds p e P few d = subst (λ (l : List ℕ). Put o a l p e) (d ∙ decimal-is k n few) P
 
 -- a number of 64 bits has at most 20
 pub number-short : (n k : ℕ) → Fewest 10 1 n k → n < 18446744073709551616 → k ≤ 20
@@ -51,3 +52,29 @@ number-short n k few h = go (decLt 20 k)
         let m : 20 ≤ k - 1 = omega arith in
         let q : 100000000000000000000 ≤ 10 ^ (k - 1) = pow-le-pow-right (zero-lt-suc 9) m in
         absurd (omega arith)
+
+-- ---- hexadecimal
+
+-- a number that fits its width has as many digits
+pub hex-width : (n k w : ℕ) → Fewest 16 (min (max w 1) 16) n k → 1 ≤ w → w ≤ 16 → n < 16 ^ w → k ≡ w
+hex-width n k w (some, below, least) l h f = go (decLt w k)
+  where
+    is : min (max w 1) 16 ≡ w
+    is = omega arith
+
+    go : Dec (w < k) → k ≡ w
+    go (no g) = omega (arith, some, is)
+    go (yes g) =
+        let p : 16 ^ (k - 1) ≤ n = least (omega (arith, is)) in
+        let q : 16 ^ w ≤ 16 ^ (k - 1) = pow-le-pow-right (zero-lt-suc 15) (omega arith) in
+        absurd (omega arith)
+
+hex-is : (k n : ℕ) → digits 16 k n ≡ hexadecimal k n
+unfolding hexadecimal
+hex-is zero n = refl
+hex-is (suc k) n = ap (λ (front : List ℕ). front ++ (glyph (n % 16) ∷ [])) (hex-is k (n / 16))
+
+pub hex-put : (n k w : ℕ) (o : List ℕ) (a : ℕ) (ds p : List ℕ) (e : ℕ) → Put o a ds p e → Fewest 16 (min (max w 1) 16) n k → ds ≡ digits 16 k n
+    → 1 ≤ w → w ≤ 16 → n < 16 ^ w → Put o a (hexadecimal w n) p e
+hex-put n k w o a ds p e P few d l h f =
+    subst (λ (l : List ℕ). Put o a l p e) (d ∙ ap (λ (k : ℕ). digits 16 k n) (hex-width n k w few l h f) ∙ hex-is w n) P

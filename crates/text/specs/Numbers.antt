@@ -1,4 +1,4 @@
--- Numbers and lines as text, in ASCII.
+-- Numbers as text, in ASCII.
 use Prim.Native.Nat.{ℕ, zero, suc, _+_, _/_, _%_}
 use mathlib.Core.Bool.{cond}
 use mathlib.Core.List.{List, [], _∷_, _++_}
@@ -13,12 +13,11 @@ decimalWithin (suc k) n = let front = decimalWithin k (n / 10) in cond (ltb n 10
 unfoldable pub decimal : ℕ → List ℕ
 decimal n = decimalWithin (suc n) n
 
-abbrev pub space : List ℕ
-space = 32 ∷ []
+-- the code of a hexadecimal digit: `0` to `9`, then `a` to `f`
+abbrev pub hexDigit : ℕ → ℕ
+hexDigit d = cond (ltb d 10) (48 + d) (87 + d)
 
-abbrev pub newline : List ℕ
-newline = 10 ∷ []
-
--- a label, a number and the end of the line
-unfoldable pub line : List ℕ → ℕ → List ℕ
-line label n = label ++ (decimal n ++ newline)
+-- the last k hexadecimal digits of a number, the most significant first
+unfoldable pub hexadecimal : ℕ → ℕ → List ℕ
+hexadecimal zero n = []
+hexadecimal (suc k) n = hexadecimal k (n / 16) ++ (hexDigit (n % 16) ∷ [])

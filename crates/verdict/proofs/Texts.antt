@@ -1,75 +1,66 @@
 -- Lines put together piece by piece, and the answers they show. Assumes nothing.
 use Prim.Native.Nat.{ℕ, _≤_}
-use mathlib.Core.Path.{_≡_, sym, ap, _∙_}
-use mathlib.Core.Bool.{Bool, true, false, cond}
-use mathlib.Core.List.{List, [], _∷_, _++_, append-assoc}
+use mathlib.Core.Path.{_≡_, sym, ap, subst, _∙_}
+use mathlib.Core.Bool.{Bool, cond}
+use mathlib.Core.List.{List, [], _∷_, _++_}
 use lib.ListN.{length, getD, take}
 use borrow.Author.Tests.{eq-eqb, ne-eqb}
+use Rattle.model.specs.Memory.{Memory}
 use Rattle.model.specs.Calls.{Outcome, readCall, verdictCall}
-use Rattle.text.specs.Numbers.{decimalWithin, decimal, space, newline}
+use Rattle.putting.specs.Put.{Put}
+use Rattle.putting.proofs.Putting.{put-then, four-pieces}
+use Rattle.text.specs.Ascii.{ascii}
+use Rattle.text.specs.Lines.{labelled, line}
 use Rattle.image_program.specs.Printed.{lineOne, printed}
 use Rattle.image_program.proofs.Printing.{printed-refused, printed-taken}
 use Rattle.image_program.proofs.Overlong.{overlong}
 use Rattle.state.specs.Lent.{memory}
 use Rattle.engine.specs.Outcomes.{leaves}
 use Rattle.answers.specs.declared.VerdictAnswer.{VerdictAnswer}
-use Rattle.verdict.specs.Lines.{consistentWord, atWord, judgement, place, lineTwo, verdictAnswerFields, verdictText, verdictLines}
+use Rattle.verdict.specs.Lines.{lineTwo, verdictAnswerFields, verdictText, verdictLines}
 
 -- ---- the lines, each piece behind the one before it
 
--- "consistent 1 at " and "consistent 0 at "
-pub start-yes : (b : Bool) (o a : List ℕ) → b ≡ true → a ≡ o ++ (consistentWord ++ (49 ∷ atWord)) → a ≡ o ++ judgement (cond b 1 0)
-unfolding judgement decimal decimalWithin
-start-yes b o a h e = rw h e
-
-pub start-no : (b : Bool) (o a : List ℕ) → b ≡ false → a ≡ o ++ (consistentWord ++ (48 ∷ atWord)) → a ≡ o ++ judgement (cond b 1 0)
-unfolding judgement decimal decimalWithin
-start-no b o a h e = rw h e
-
-pub place-is : (x i j : ℕ) (o a b c : List ℕ) → a ≡ o ++ (decimal x ++ space) → b ≡ a ++ (decimal i ++ space) → c ≡ b ++ (decimal j ++ newline)
-    → c ≡ o ++ place x i j
-unfolding place
-place-is x i j o a b c e f g =
-    let X : List ℕ = decimal x ++ space in
-    let I : List ℕ = decimal i ++ space in
-    let J : List ℕ = decimal j ++ newline in
-    g
-    ∙ ap (λ (l : List ℕ). l ++ (decimal j ++ newline)) (f ∙ ap (λ (l : List ℕ). l ++ (decimal i ++ space)) e)
-    ∙ append-assoc (o ++ X) I J
-    ∙ append-assoc o X (I ++ J)
-
-pub line-two-is : (k x i j : ℕ) (o a b : List ℕ) → a ≡ o ++ judgement k → b ≡ a ++ place x i j → b ≡ o ++ lineTwo k x i j
+pub line-two-put : (b : Bool) (c x i j : ℕ) (o : List ℕ) (a : ℕ) (p : List ℕ) (e : ℕ) (q : List ℕ) (g : ℕ) (r : List ℕ) (h : ℕ) (w : List ℕ) (k : ℕ)
+    → c ≡ cond b 1 0 → Put o a (labelled (ascii "consistent ") c) p e → Put p e (labelled (ascii " at ") x) q g
+    → Put q g (labelled (ascii " ") i) r h → Put r h (line (ascii " ") j) w k → Put o a (lineTwo (cond b 1 0) x i j) w k
 unfolding lineTwo
-line-two-is k x i j o a b e f = f ∙ ap (λ (l : List ℕ). l ++ place x i j) e ∙ append-assoc o (judgement k) (place x i j)
+line-two-put b c x i j o a p e q g r h w k is P Q R W =
+    subst
+    (λ (c : ℕ). Put o a (labelled (ascii "consistent ") c ++ (labelled (ascii " at ") x ++ (labelled (ascii " ") i ++ line (ascii " ") j))) w k) is
+    (four-pieces o a _ p e _ q g P Q _ r h _ w k R W)
 
 -- ---- what they show
 
-pub judged-refused : (j : VerdictAnswer) (a : List ℕ) → (j .refusal ≡ 0 → ⊥) → a ≡ lineOne (j .refusal) → a ≡ verdictText (verdictAnswerFields j)
-unfolding verdictText
-judged-refused j a h e = rw (ne-eqb (j .refusal) 0 h) e
+module _ (v : VerdictAnswer) (o p : List ℕ) (e : ℕ) where
+  pub judged-refused : (v .refusal ≡ 0 → ⊥) → Put o 0 (lineOne (v .refusal)) p e → Put o 0 (verdictText (verdictAnswerFields v)) p e
+  unfolding verdictText
+  judged-refused h P = rw (ne-eqb (v .refusal) 0 h) P
 
-pub judged-taken : (j : VerdictAnswer) (a b : List ℕ) → j .refusal ≡ 0 → a ≡ lineOne 0
-    → b ≡ a ++ lineTwo (cond (j .consistent) 1 0) (j .node) (j .level) (j .digit) → b ≡ verdictText (verdictAnswerFields j)
-unfolding verdictText
-judged-taken j a b h e f =
-    rw (eq-eqb (j .refusal) 0 h) (f ∙ ap (λ (l : List ℕ). l ++ lineTwo (cond (j .consistent) 1 0) (j .node) (j .level) (j .digit)) e)
+  pub judged-taken : v .refusal ≡ 0 → (q : List ℕ) (g : ℕ) → Put o 0 (lineOne 0) p e
+      → Put p e (lineTwo (cond (v .consistent) 1 0) (v .node) (v .level) (v .digit)) q g → Put o 0 (verdictText (verdictAnswerFields v)) q g
+  unfolding verdictText
+  judged-taken h q g P Q = rw (eq-eqb (v .refusal) 0 h) (put-then o 0 _ p e _ q g P Q)
 
 module _ (s t im s₁ t₁ : List ℕ) (r : ℕ) (e : leaves (memory s₁ t₁) (r ∷ []) ≡ readCall (memory s t) im) where
   number : getD (readCall (memory s t) im .answer) 0 0 ≡ r
   number = ap (λ (o : Outcome). getD (o .answer) 0 0) (sym e)
 
-  pub lines-refused : (a : List ℕ) → (r ≡ 0 → ⊥) → a ≡ lineOne r → a ≡ verdictLines s t im
-  unfolding verdictLines
-  lines-refused a = printed-refused _ _ r number a
+  pub memory-read : memory s₁ t₁ ≡ readCall (memory s t) im .memory
+  memory-read = ap (λ (o : Outcome). o .memory) e
 
-  pub lines-judged : r ≡ 0 → (j : VerdictAnswer) → leaves (memory s₁ t₁) (verdictAnswerFields j) ≡ verdictCall (memory s₁ t₁) → (a : List ℕ) → a ≡ verdictText (verdictAnswerFields j)
-      → a ≡ verdictLines s t im
-  unfolding verdictLines
-  lines-judged z j f a g =
-      printed-taken _ _ r number a z
-      (g
-      ∙ ap (λ (o : Outcome). verdictText (o .answer)) f
-      ∙ ap (λ (o : Outcome). verdictText (verdictCall (o .memory) .answer)) e)
+  module _ (o p : List ℕ) (end : ℕ) where
+    pub lines-refused : (r ≡ 0 → ⊥) → Put o 0 (lineOne r) p end → Put o 0 (verdictLines s t im) p end
+    unfolding verdictLines
+    lines-refused = printed-refused _ _ r number o p end
+
+    pub lines-judged : r ≡ 0 → (v : VerdictAnswer) → leaves (memory s₁ t₁) (verdictAnswerFields v) ≡ verdictCall (memory s₁ t₁)
+        → Put o 0 (verdictText (verdictAnswerFields v)) p end → Put o 0 (verdictLines s t im) p end
+    unfolding verdictLines
+    lines-judged z v f P =
+        printed-taken _ _ r number o p end z
+        (subst (λ (l : List ℕ). Put o 0 l p end)
+        (ap (λ (o : Outcome). verdictText (o .answer)) f ∙ ap (λ (m : Memory). verdictText (verdictCall m .answer)) memory-read) P)
 
 -- the program prints for an overlong input what the whole of it deserves
 pub overlong-lines : (im s t : List ℕ) → 65536 ≤ length im → verdictLines s t (take 65536 im) ≡ verdictLines s t im

@@ -1,5 +1,4 @@
--- The verdict program's output for an image: document 01, "Line one is `refusal` and the number, 0 if none; only then line two,
--- `consistent`, 1 or 0, `at`, member, level, digit (zeros on yes)." Text is a list of ASCII codes.
+-- The verdict program's output for an image (document 01, "The image", the second paragraph).
 use Prim.Native.Nat.{ℕ}
 use mathlib.Core.Bool.{cond}
 use mathlib.Core.List.{List, [], _∷_, _++_}
@@ -8,27 +7,14 @@ use lib.ListN.{getD}
 use Rattle.model.specs.Calls.{readCall, verdictCall}
 use Rattle.state.specs.Lent.{memory}
 use Rattle.answers.specs.declared.VerdictAnswer.{VerdictAnswer}
-use Rattle.text.specs.Numbers.{decimal, space, newline}
+use Rattle.text.specs.Ascii.{ascii}
+use Rattle.text.specs.Lines.{labelled, line}
 use Rattle.image_program.specs.Printed.{lineOne, printed}
 
--- "consistent "
-abbrev pub consistentWord : List ℕ
-consistentWord = 99 ∷ 111 ∷ 110 ∷ 115 ∷ 105 ∷ 115 ∷ 116 ∷ 101 ∷ 110 ∷ 116 ∷ 32 ∷ []
-
--- " at "
-abbrev pub atWord : List ℕ
-atWord = 32 ∷ 97 ∷ 116 ∷ 32 ∷ []
-
--- `consistent`, 1 or 0, `at`
-unfoldable pub judgement : ℕ → List ℕ
-judgement consistent = consistentWord ++ (decimal consistent ++ atWord)
-
--- the place of an entry: node, level, digit
-unfoldable pub place : ℕ → ℕ → ℕ → List ℕ
-place x i j = (decimal x ++ space) ++ ((decimal i ++ space) ++ (decimal j ++ newline))
-
+-- `consistent`, 1 or 0, `at`, and the node, level and digit of the first short entry, zeros on a yes
 unfoldable pub lineTwo : ℕ → ℕ → ℕ → ℕ → List ℕ
-lineTwo consistent x i j = judgement consistent ++ place x i j
+lineTwo consistent x i j =
+    labelled (ascii "consistent ") consistent ++ (labelled (ascii " at ") x ++ (labelled (ascii " ") i ++ line (ascii " ") j))
 
 -- the fields of a verdict's answer as the code holds it
 abbrev pub verdictAnswerFields : VerdictAnswer → List ℕ

@@ -1,50 +1,32 @@
-// The program's lines: "Line one is `refusal` and the number, 0 if none; only then line two, `consistent`, 1 or 0, `at`, member, level,
-// digit (zeros on yes)."
+// The program's lines: the refusal; where it is 0, the verdict and the entry that falls short.
 ghost use mathlib.Core.Path.{_≡_};
 ghost use mathlib.Core.Bool.{cond};
-ghost use mathlib.Core.List.{_++_};
 ghost use Prim.Native.Nat.{_+_, _≤_};
-ghost use lib.ListN.{length, take};
-ghost use Rattle.verdict.specs.Lines.{judgement, place, lineTwo, verdictAnswerFields, verdictText, verdictLines};
+ghost use lib.ListN.{length};
+ghost use Rattle.model.specs.Calls.{readCall};
+ghost use Rattle.state.specs.Lent.{memory};
+ghost use Rattle.putting.specs.Put.{Put};
+ghost use Rattle.verdict.specs.Lines.{lineTwo, verdictAnswerFields, verdictText, verdictLines};
 use answers::VerdictAnswer;
 use engine::reading;
 use image_program::line_one;
-
-fn line_start(out: &mut [u8], at: usize, consistent: bool) -> usize
-    requires { ⌜ at + 16 ≤ length (now out) ⌝ }
-    ensures { λ r. ⌜ take r (now (out .exit)) ≡ take at (now (out .entry)) ++ judgement (cond consistent 1 0) ⌝ }
-    ensures { λ r. ⌜ r ≡ at + 16 ⌝ }
-{
-    if consistent {
-        return text::put(out, at, b"consistent 1 at ");
-    }
-    text::put(out, at, b"consistent 0 at ")
-}
-
-// Node, level and digit.
-fn line_end(out: &mut [u8], at: usize, x: u64, i: u64, j: u64) -> usize
-    requires { ⌜ at + 63 ≤ length (now out) ⌝ }
-    ensures { λ r. ⌜ take r (now (out .exit)) ≡ take at (now (out .entry)) ++ place x i j ⌝ }
-    ensures { λ r. ⌜ r ≤ at + 63 ⌝ }
-{
-    let second = text::number_then(out, at, x, b" ");
-    let third = text::number_then(out, second, i, b" ");
-    text::number_then(out, third, j, b"\n")
-}
+use packing::pack::bit;
 
 fn line_two(out: &mut [u8], at: usize, j: VerdictAnswer) -> usize
-    requires { ⌜ at + 79 ≤ length (now out) ⌝ }
-    ensures { λ r. ⌜ take r (now (out .exit)) ≡ take at (now (out .entry)) ++ lineTwo (cond (j .consistent) 1 0) (j .node) (j .level) (j .digit) ⌝ }
-    ensures { λ r. ⌜ r ≤ at + 79 ⌝ }
+    requires { ⌜ at + 98 ≤ length (now out) ⌝ }
+    ensures { λ r. ⌜ Put (now (out .entry)) at (lineTwo (cond (j .consistent) 1 0) (j .node) (j .level) (j .digit)) (now (out .exit)) r ⌝ }
+    ensures { λ r. ⌜ r ≤ at + 98 ⌝ }
 {
-    let end = line_start(out, at, j.consistent);
-    line_end(out, end, j.node, j.level, j.digit)
+    let second = text::labelled(out, at, b"consistent ", bit(j.consistent));
+    let third = text::labelled(out, second, b" at ", j.node);
+    let fourth = text::labelled(out, third, b" ", j.level);
+    text::line(out, fourth, b" ", j.digit)
 }
 
 fn judged(out: &mut [u8], j: VerdictAnswer) -> usize
-    requires { ⌜ 108 ≤ length (now out) ⌝ }
-    ensures { λ r. ⌜ take r (now (out .exit)) ≡ verdictText (verdictAnswerFields j) ⌝ }
-    ensures { λ r. ⌜ r ≤ 108 ⌝ }
+    requires { ⌜ 127 ≤ length (now out) ⌝ }
+    ensures { λ r. ⌜ Put (now (out .entry)) 0 (verdictText (verdictAnswerFields j)) (now (out .exit)) r ⌝ }
+    ensures { λ r. ⌜ r ≤ 127 ⌝ }
 {
     if j.refusal != 0 {
         return line_one(out, j.refusal);
@@ -55,9 +37,10 @@ fn judged(out: &mut [u8], j: VerdictAnswer) -> usize
 
 // Reads the image into the lent memory, judges it, and puts the lines at the start of out; answers how many bytes they are.
 pub fn lines(state: &mut [u64], tables: &mut [u8], image: &[u8], out: &mut [u8]) -> usize
-    requires { ⌜ 108 ≤ length (now out) ⌝ }
-    ensures { λ r. ⌜ take r (now (out .exit)) ≡ verdictLines (now (state .entry)) (now (tables .entry)) (now (image .entry)) ⌝ }
-    ensures { λ r. ⌜ r ≤ 108 ⌝ }
+    requires { ⌜ 127 ≤ length (now out) ⌝ }
+    ensures { λ r. ⌜ Put (now (out .entry)) 0 (verdictLines (now (state .entry)) (now (tables .entry)) (now (image .entry))) (now (out .exit)) r ⌝ }
+    ensures { λ r. ⌜ memory (now (state .exit)) (now (tables .exit)) ≡ readCall (memory (now (state .entry)) (now (tables .entry))) (now (image .entry)) .memory ⌝ }
+    ensures { λ r. ⌜ r ≤ 127 ⌝ }
 {
     let r = reading::read(state, tables, image);
     if r != 0 {

@@ -6,7 +6,7 @@ use lib.ListN.{length}
 use borrow.Author.Needs.{needs}
 use Rattle.model.specs.Loops.{joinBelow, node}
 use Rattle.model.specs.Image.{idBytes}
-use Rattle.image_writing_parts.specs.Put.{Put}
+use Rattle.putting.specs.Put.{Put}
 use Rattle.image_writing_parts.proofs.IdLaws.{ids-none, ids-room, ids-goes, ids-ends}
 use Rattle.image_writing_parts.proofs.ids.all.Statement.{statement}
 use Rattle.image_writing_parts.proofs.ids.all.Tie as tie

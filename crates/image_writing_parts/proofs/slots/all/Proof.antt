@@ -6,7 +6,7 @@ use lib.ListN.{length}
 use borrow.Author.Needs.{needs}
 use Rattle.model.specs.Loops.{joinBelow, node}
 use Rattle.model.specs.Image.{nodeRecords}
-use Rattle.image_writing_parts.specs.Put.{Put}
+use Rattle.putting.specs.Put.{Put}
 use Rattle.image_writing_parts.proofs.SlotLaws.{nodes-none, nodes-room, nodes-goes, nodes-ends}
 use Rattle.image_writing_parts.proofs.slots.all.Statement.{statement}
 use Rattle.image_writing_parts.proofs.slots.all.Tie as tie

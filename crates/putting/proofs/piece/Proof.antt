@@ -1,9 +1,8 @@
--- `put`: the piece, copied over the part of the output that it is as long as. Assumes nothing.
-use mathlib.Core.Path.{refl}
-use Rattle.text.proofs.Pieces.{put-is}
+-- `piece`: the piece, copied over the part of the output that it is as long as. Assumes nothing.
+use Rattle.putting.proofs.Putting.{copied-is}
 use borrow.Author.Needs.{needs}
-use Rattle.text.proofs.put.Statement.{statement}
-use Rattle.text.proofs.put.Tie as tie
+use Rattle.putting.proofs.piece.Statement.{statement}
+use Rattle.putting.proofs.piece.Tie as tie
 
 add-end : tie.Need-add-end
 add-end c = search needs
@@ -26,9 +25,9 @@ same-length c = search needs
 returns : tie.Need-returns
 returns c =
     let start = c .before .before .before .before .before .before .args in
-    (put-is (start .at) (start .out .now) (start .piece .now) (c .before .before .copy .last .1 .0) (search needs) (c .before .before .copy .ensures .1), refl)
+    copied-is (start .out .now) (start .at) (start .piece .now) (c .before .before .copy .last .1 .0) (search needs) (c .before .before .copy .ensures .1)
 
-pub put-spec : {M : Type 1} → statement M
-put-spec =
+pub piece-spec : {M : Type 1} → statement M
+piece-spec =
     tie.close
     (tie.spec add-end sub-copy part-copy-start part-copy-end copy-requires same-length returns)

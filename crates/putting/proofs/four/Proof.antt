@@ -1,10 +1,10 @@
--- `put::four`: the four stores are the bytes put. Assumes nothing.
+-- `four`: the four stores are the bytes put. Assumes nothing.
 use native.Mathlib.Omega.{arith}
 use lib.ListN.{length-set}
 use borrow.Author.Needs.{needs}
-use Rattle.image_writing_parts.proofs.Putting.{put-four}
-use Rattle.image_writing_parts.proofs.put.four.Statement.{statement}
-use Rattle.image_writing_parts.proofs.put.four.Tie as tie
+use Rattle.putting.proofs.Putting.{put-four}
+use Rattle.putting.proofs.four.Statement.{statement}
+use Rattle.putting.proofs.four.Tie as tie
 
 slice-write-out : tie.Need-slice-write-out
 slice-write-out c = search needs

@@ -1,8 +1,8 @@
-// Bytes put at a place of the lent output; the answer is the place behind them.
+// Pieces put at a place of lent memory. The answer is the place behind them, and the rest of the memory stays as it was.
 ghost use Prim.Native.Nat.{_+_, _≤_};
 ghost use mathlib.Core.List.{[], _∷_};
 ghost use lib.ListN.{length};
-ghost use Rattle.image_writing_parts.specs.Put.{Put};
+ghost use Rattle.putting.specs.Put.{Put};
 
 pub fn two(out: &mut [u8], at: usize, a: u8, b: u8) -> usize
     requires { ⌜ at + 2 ≤ length (now out) ⌝ }
@@ -22,4 +22,13 @@ pub fn four(out: &mut [u8], at: usize, a: u8, b: u8, c: u8, d: u8) -> usize
     out[at + 2] = c;
     out[at + 3] = d;
     at + 4
+}
+
+pub fn piece(out: &mut [u8], at: usize, piece: &[u8]) -> usize
+    requires { ⌜ at + length (now piece) ≤ length (now out) ⌝ }
+    ensures { λ r. ⌜ Put (now (out .entry)) at (now (piece .entry)) (now (out .exit)) r ⌝ }
+{
+    let end = at + piece.len();
+    bytes::copy(piece, &mut out[at..end]);
+    end
 }

@@ -1,4 +1,4 @@
--- Bytes put at a place of the lent output.
+-- What was put where in lent memory; the rest of the memory stays as it was. Said of bytes, and of words alike.
 use Prim.Native.Nat.{ℕ, _+_, _≤_}
 use mathlib.Core.Path.{_≡_}
 use mathlib.Core.List.{List, _++_}

@@ -1,16 +1,16 @@
 -- Laws of putting bytes one piece behind another, and of the loops that put a list of pieces. Assumes nothing.
-use Prim.Native.Nat.{ℕ, _+_, _≤_, _<_}
+use Prim.Native.Nat.{ℕ, _+_, _-_, _≤_, _<_}
 use mathlib.Core.Path.{_≡_, refl, sym, ap, ap₂, subst, _∙_}
-use mathlib.Core.List.{List, [], _∷_, _++_, append-assoc}
-use native.Mathlib.Nat.{add-zero, le-antisymm}
+use mathlib.Core.List.{List, [], _∷_, _++_, append-assoc, append-nil}
+use native.Mathlib.Nat.{add-zero, add-sub-cancel-left, le-antisymm, le-of-eq}
 use native.Mathlib.Numerals.{towards-suc}
 use native.Mathlib.Omega.{arith}
-use lib.ListN.{length, set, take, drop, length-append, length-drop, take-append-drop}
-use lib.Seq.{sets, sets-eq, length-take-le, take-at, drop-at, take-append-le, take-take, drop-drop}
+use lib.ListN.{length, set, take, drop, length-append, length-drop, drop-of-length-le, take-append-drop}
+use lib.Seq.{sets, sets-eq, length-take-le, take-at, drop-at, take-append-le, take-take, take-length, drop-drop}
 use Rattle.model.specs.Loops.{joinBelow}
 use Rattle.model.proofs.Loops.{join-step}
 use Rattle.model.proofs.Counting.{join-grows}
-use Rattle.image_writing_parts.specs.Put.{put, Put}
+use Rattle.putting.specs.Put.{put, Put}
 
 -- ---- one piece
 
@@ -55,6 +55,28 @@ module _ (o : List ℕ) (a : ℕ) (bs : List ℕ) (f : a + length bs ≤ length 
       ∙ append-assoc (take a o) bs (cs ++ drop (a + length (bs ++ cs)) o)
       ∙ ap (λ (l : List ℕ). take a o ++ l) (sym (append-assoc bs cs (drop (a + length (bs ++ cs)) o)))
 
+-- a piece copied over the part of `o` that it is as long as
+pub copied-is : (o : List ℕ) (a : ℕ) (bs r : List ℕ) → a + length bs ≤ length o
+    → r ≡ take (length bs) bs ++ drop (length bs) (take (a + length bs - a) (drop a o))
+    → Put o a bs (take a o ++ (r ++ drop (a + length bs - a) (drop a o))) (a + length bs)
+unfolding put
+copied-is o a bs r f e = record {
+  fits = f;
+  is = ap₂ (λ (r end : List ℕ). take a o ++ (r ++ end)) (e ∙ copied) behind;
+  ends = refl;
+}
+  where
+    part : length (take (a + length bs - a) (drop a o)) ≡ length bs
+    part =
+        ap (λ (n : ℕ). length (take n (drop a o))) (add-sub-cancel-left a (length bs))
+        ∙ length-take-le (length bs) (drop a o) (simp length-drop (omega arith))
+
+    copied : take (length bs) bs ++ drop (length bs) (take (a + length bs - a) (drop a o)) ≡ bs
+    copied = ap₂ _++_ (take-length bs) (drop-of-length-le _ (le-of-eq part)) ∙ append-nil bs
+
+    behind : drop (a + length bs - a) (drop a o) ≡ drop (a + length bs) o
+    behind = ap (λ (n : ℕ). drop n (drop a o)) (add-sub-cancel-left a (length bs)) ∙ drop-drop (length bs) a o
+
 -- nothing put
 pub put-none : (o : List ℕ) (a : ℕ) → a ≤ length o → Put o a [] o a
 unfolding put
@@ -75,6 +97,13 @@ put-then o a bs p e cs q g P Q = record {
   is = Q .is ∙ ap₂ (λ (l : List ℕ) (n : ℕ). put l n cs) (P .is) (P .ends) ∙ put-put o a bs (P .fits) cs;
   ends = omega (arith, length-append bs cs, P .ends, Q .ends);
 }
+
+module _ (o : List ℕ) (a : ℕ) (bs p : List ℕ) (e : ℕ) (cs q : List ℕ) (g : ℕ) (P : Put o a bs p e) (Q : Put p e cs q g) where
+  pub three-pieces : (ds r : List ℕ) (h : ℕ) → Put q g ds r h → Put o a (bs ++ (cs ++ ds)) r h
+  three-pieces ds r h R = put-then o a bs p e (cs ++ ds) r h P (put-then p e cs q g ds r h Q R)
+
+  pub four-pieces : (ds r : List ℕ) (h : ℕ) (es v : List ℕ) (k : ℕ) → Put q g ds r h → Put r h es v k → Put o a (bs ++ (cs ++ (ds ++ es))) v k
+  four-pieces ds r h es v k R W = three-pieces (ds ++ es) v k (put-then q g ds r h es v k R W)
 
 -- one piece before another
 module _ (o : List ℕ) (a : ℕ) (bs cs : List ℕ) where

@@ -1,10 +1,10 @@
--- `put::two`: the two stores are the bytes put. Assumes nothing.
+-- `two`: the two stores are the bytes put. Assumes nothing.
 use native.Mathlib.Omega.{arith}
 use lib.ListN.{length-set}
 use borrow.Author.Needs.{needs}
-use Rattle.image_writing_parts.proofs.Putting.{put-two}
-use Rattle.image_writing_parts.proofs.put.two.Statement.{statement}
-use Rattle.image_writing_parts.proofs.put.two.Tie as tie
+use Rattle.putting.proofs.Putting.{put-two}
+use Rattle.putting.proofs.two.Statement.{statement}
+use Rattle.putting.proofs.two.Tie as tie
 
 slice-write-out : tie.Need-slice-write-out
 slice-write-out c = search needs

@@ -1,0 +1,2 @@
+-- The laws of putting pieces one behind another.
+pub mod Putting

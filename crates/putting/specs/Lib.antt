@@ -1,0 +1,2 @@
+-- What the contracts of putting cite.
+pub mod Put
