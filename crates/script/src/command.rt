@@ -1,165 +1,149 @@
 // A line of the script as a command.
-use crate::words;
-use crate::words::Id;
-use crate::words::Number;
-use crate::words::word;
-use check::same;
+ghost use mathlib.Core.Path.{_≡_};
+ghost use Rattle.script.specs.Commands.{endsWith, ofFile, found, begin, deliver, lookup, table, fileOrTable, commandOf};
+use crate::numbers::Id;
+use crate::numbers::Number;
+use crate::numbers::decimal;
+use crate::numbers::hexadecimal;
+use crate::words::ends;
+use crate::words::named;
+use calls::Call;
 
 pub enum Command {
+    // an empty line or a comment
     Nothing,
+    // not understood
     Unknown,
-    // base, digits, depth, id
-    Found(u64, u64, u64, u32),
-    // id, gateway
-    Begin(u32, u64),
-    // sender, receiver
-    Deliver(u64, u64),
-    // from, to
-    Lookup(u64, u64),
-    Verdict,
+    Call(Call),
     // the file is the line's word 1
     Save,
     Load,
     Table(u64),
 }
 
-enum Pair {
-    Is(u64, u64),
-    Not,
-}
-
-// Words 1 and 2, where they are numbers and the line's last.
-fn two_numbers(line: &[u8]) -> Pair {
-    let Number::Is(first) = words::decimal(line, 1) else {
-        return Pair::Not;
-    };
-    let Number::Is(second) = words::decimal(line, 2) else {
-        return Pair::Not;
-    };
-    if !words::ends(line, 3) {
-        return Pair::Not;
-    }
-    Pair::Is(first, second)
-}
-
-fn found(line: &[u8]) -> Command {
-    let Number::Is(base) = words::decimal(line, 1) else {
-        return Command::Unknown;
-    };
-    let Number::Is(digits) = words::decimal(line, 2) else {
-        return Command::Unknown;
-    };
-    let Number::Is(depth) = words::decimal(line, 3) else {
-        return Command::Unknown;
-    };
-    let Id::Is(id) = words::hexadecimal(line, 4) else {
-        return Command::Unknown;
-    };
-    if !words::ends(line, 5) {
-        return Command::Unknown;
-    }
-    Command::Found(base, digits, depth, id)
-}
-
-fn begin(line: &[u8]) -> Command {
-    let Id::Is(id) = words::hexadecimal(line, 1) else {
-        return Command::Unknown;
-    };
-    let Number::Is(gateway) = words::decimal(line, 2) else {
-        return Command::Unknown;
-    };
-    if !words::ends(line, 3) {
-        return Command::Unknown;
-    }
-    Command::Begin(id, gateway)
-}
-
-fn deliver(line: &[u8]) -> Command {
-    let Pair::Is(sender, receiver) = two_numbers(line) else {
-        return Command::Unknown;
-    };
-    Command::Deliver(sender, receiver)
-}
-
-fn lookup(line: &[u8]) -> Command {
-    let Pair::Is(from, to) = two_numbers(line) else {
-        return Command::Unknown;
-    };
-    Command::Lookup(from, to)
-}
-
-fn verdict(line: &[u8]) -> Command {
-    if words::ends(line, 1) {
-        return Command::Verdict;
+// The command, where the line has k words at most.
+fn ends_with(line: &[u8], k: u64, command: Command) -> Command
+    ensures { λ r. ⌜ r ≡ endsWith k (now (line .entry)) command ⌝ }
+{
+    if ends(line, k) {
+        return command;
     }
     Command::Unknown
 }
 
-fn table(line: &[u8]) -> Command {
-    let Number::Is(x) = words::decimal(line, 1) else {
+fn found(line: &[u8]) -> Command
+    ensures { λ r. ⌜ r ≡ found (now (line .entry)) ⌝ }
+{
+    let Number::Is(base) = decimal(line, 1) else {
         return Command::Unknown;
     };
-    if !words::ends(line, 2) {
+    let Number::Is(digits) = decimal(line, 2) else {
+        return Command::Unknown;
+    };
+    let Number::Is(depth) = decimal(line, 3) else {
+        return Command::Unknown;
+    };
+    let Id::Is(id) = hexadecimal(line, 4) else {
+        return Command::Unknown;
+    };
+    ends_with(line, 5, Command::Call(Call::Found(base, digits, depth, id)))
+}
+
+fn begin(line: &[u8]) -> Command
+    ensures { λ r. ⌜ r ≡ begin (now (line .entry)) ⌝ }
+{
+    let Id::Is(id) = hexadecimal(line, 1) else {
+        return Command::Unknown;
+    };
+    let Number::Is(gateway) = decimal(line, 2) else {
+        return Command::Unknown;
+    };
+    ends_with(line, 3, Command::Call(Call::Begin(id, gateway)))
+}
+
+fn deliver(line: &[u8]) -> Command
+    ensures { λ r. ⌜ r ≡ deliver (now (line .entry)) ⌝ }
+{
+    let Number::Is(sender) = decimal(line, 1) else {
+        return Command::Unknown;
+    };
+    let Number::Is(receiver) = decimal(line, 2) else {
+        return Command::Unknown;
+    };
+    ends_with(line, 3, Command::Call(Call::Deliver(sender, receiver)))
+}
+
+fn lookup(line: &[u8]) -> Command
+    ensures { λ r. ⌜ r ≡ lookup (now (line .entry)) ⌝ }
+{
+    let Number::Is(from) = decimal(line, 1) else {
+        return Command::Unknown;
+    };
+    let Number::Is(to) = decimal(line, 2) else {
+        return Command::Unknown;
+    };
+    ends_with(line, 3, Command::Call(Call::Lookup(from, to)))
+}
+
+fn table(line: &[u8]) -> Command
+    ensures { λ r. ⌜ r ≡ table (now (line .entry)) ⌝ }
+{
+    let Number::Is(x) = decimal(line, 1) else {
+        return Command::Unknown;
+    };
+    ends_with(line, 2, Command::Table(x))
+}
+
+// The command, where word 1 is there and the last: the file's name.
+fn of_file(line: &[u8], command: Command) -> Command
+    ensures { λ r. ⌜ r ≡ ofFile (now (line .entry)) command ⌝ }
+{
+    if ends(line, 1) {
         return Command::Unknown;
     }
-    Command::Table(x)
+    ends_with(line, 2, command)
 }
 
-// Word 1 is there and the last: the file's name.
-fn names_file(line: &[u8]) -> bool {
-    if words::ends(line, 1) {
-        return false;
+// The commands that need a file, and `table`.
+fn file_or_table(line: &[u8]) -> Command
+    ensures { λ r. ⌜ r ≡ fileOrTable (now (line .entry)) ⌝ }
+{
+    if named(line, b"save") {
+        return of_file(line, Command::Save);
     }
-    words::ends(line, 2)
-}
-
-fn save(line: &[u8]) -> Command {
-    if names_file(line) {
-        return Command::Save;
+    if named(line, b"load") {
+        return of_file(line, Command::Load);
     }
-    Command::Unknown
-}
-
-fn load(line: &[u8]) -> Command {
-    if names_file(line) {
-        return Command::Load;
-    }
-    Command::Unknown
-}
-
-fn other(line: &[u8]) -> Command {
-    let name = word(line, 0);
-    if same(name, b"save") {
-        return save(line);
-    }
-    if same(name, b"load") {
-        return load(line);
-    }
-    if same(name, b"table") {
+    if named(line, b"table") {
         return table(line);
     }
     Command::Unknown
 }
 
-pub fn parsed(line: &[u8]) -> Command {
-    let name = word(line, 0);
-    if name.len() == 0 {
+// By the line's first word.
+pub fn parsed(line: &[u8]) -> Command
+    ensures { λ r. ⌜ r ≡ commandOf (now (line .entry)) ⌝ }
+{
+    if ends(line, 0) {
         return Command::Nothing;
     }
-    if same(name, b"found") {
+    if named(line, b"found") {
         return found(line);
     }
-    if same(name, b"begin") {
+    if named(line, b"begin") {
         return begin(line);
     }
-    if same(name, b"deliver") {
+    if named(line, b"deliver") {
         return deliver(line);
     }
-    if same(name, b"lookup") {
+    if named(line, b"lookup") {
         return lookup(line);
     }
-    if same(name, b"verdict") {
-        return verdict(line);
+    if named(line, b"verdict") {
+        return ends_with(line, 1, Command::Call(Call::Verdict));
     }
-    other(line)
+    if named(line, b"sound") {
+        return ends_with(line, 1, Command::Call(Call::Sound));
+    }
+    file_or_table(line)
 }

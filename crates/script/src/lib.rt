@@ -1,3 +1,4 @@
-// A script of calls: its lines, their words, and the command of each.
+// A script of calls: the words of its lines, the numbers that they are, and the command of each line.
 pub mod command;
+pub mod numbers;
 pub mod words;

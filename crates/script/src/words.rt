@@ -1,11 +1,14 @@
-// The words of a line: blanks stand between them, and a comment ends it. Nothing here asks anything of its caller: a place past the
-// line's end is the end, and a word that is not there is empty.
-pub enum Number {
-    Is(u64),
-    Not,
-}
+// The words of a line: blanks stand between them, and a comment ends it. Nothing here asks anything of its caller: a word that is not
+// there is empty.
+ghost use mathlib.Core.Path.{_≡_};
+ghost use Prim.Native.Nat.{_≤_};
+ghost use lib.ListN.{length};
+ghost use Rattle.script.specs.Words.{isBlank, until, fromWord, wordIn, word, ends, named, part};
+ghost use Rattle.script.specs.Marks.{marked};
 
-pub fn part(s: &[u8], from: usize, to: usize) -> &[u8] {
+pub fn part(s: &[u8], from: usize, to: usize) -> &[u8]
+    ensures { λ r. ⌜ now r ≡ part (now (s .entry)) from to ⌝ }
+{
     if to > s.len() {
         return &s[..0];
     }
@@ -15,25 +18,42 @@ pub fn part(s: &[u8], from: usize, to: usize) -> &[u8] {
     &s[from..to]
 }
 
-fn is_blank(b: u8) -> bool {
-    match b {
-        b' ' | b'\t' | b'\r' => true,
-        _ => false,
+fn is_blank(b: u8) -> bool
+    ensures { λ r. ⌜ r ≡ isBlank b ⌝ }
+{
+    if b == b' ' {
+        return true;
+    }
+    if b == b'\t' {
+        return true;
+    }
+    b == b'\r'
+}
+
+// What is looked for in a line: a blank, a byte that is none, or the sign of a comment.
+enum Mark {
+    Blank,
+    Solid,
+    Hash,
+}
+
+fn has_mark(mark: Mark, b: u8) -> bool
+    ensures { λ r. ⌜ r ≡ marked mark b ⌝ }
+{
+    match mark {
+        Mark::Blank => return is_blank(b),
+        Mark::Solid => return !is_blank(b),
+        Mark::Hash => return b == b'#',
     }
 }
 
-fn ends_word(b: u8) -> bool {
-    match b {
-        b' ' | b'\t' | b'\r' | b'#' => true,
-        _ => false,
-    }
-}
-
-// The first place from `from` on that has no blank.
-fn word_start(line: &[u8], from: usize) -> usize {
-    let mut at = from;
-    while at < line.len() {
-        if !is_blank(line[at]) {
+// The place of the first byte with this mark; the end where there is none.
+fn until(s: &[u8], mark: Mark) -> usize
+    ensures { λ r. ⌜ (r ≡ until (marked mark) (now (s .entry))) × (r ≤ length (now (s .entry))) ⌝ }
+{
+    let mut at = 0;
+    while at < s.len() {
+        if has_mark(mark, s[at]) {
             return at;
         }
         at += 1;
@@ -41,106 +61,48 @@ fn word_start(line: &[u8], from: usize) -> usize {
     at
 }
 
-// The first place from `from` on where a word ends. A comment is no word, and no word stands behind it.
-fn word_end(line: &[u8], from: usize) -> usize {
-    let mut at = from;
-    while at < line.len() {
-        if ends_word(line[at]) {
-            return at;
-        }
-        at += 1;
+fn from_word(text: &[u8]) -> &[u8]
+    ensures { λ r. ⌜ now r ≡ fromWord (now (text .entry)) ⌝ }
+{
+    let at = until(text, Mark::Solid);
+    &text[at..]
+}
+
+// Word k of a text without comment.
+fn word_in(text: &[u8], k: u64) -> &[u8]
+    ensures { λ r. ⌜ now r ≡ wordIn k (now (text .entry)) ⌝ }
+{
+    let mut rest = text;
+    let mut left = k;
+    while left > 0 {
+        let word = from_word(rest);
+        let at = until(word, Mark::Blank);
+        rest = &word[at..];
+        left -= 1;
     }
-    at
+    let word = from_word(rest);
+    let end = until(word, Mark::Blank);
+    &word[..end]
 }
 
 // Word k of the line, from 0.
-pub fn word(line: &[u8], k: u64) -> &[u8] {
-    let mut at = word_start(line, 0);
-    let mut left = k;
-    while left > 0 {
-        at = word_start(line, word_end(line, at));
-        left -= 1;
-    }
-    part(line, at, word_end(line, at))
-}
-
-// The value of a digit, 16 for what is none.
-fn digit(b: u8) -> u64 {
-    match b {
-        b'0'..=b'9' => (b - b'0') as u64,
-        b'a'..=b'f' => (b - b'a') as u64 + 10,
-        b'A'..=b'F' => (b - b'A') as u64 + 10,
-        _ => 16,
-    }
-}
-
-// One more digit behind a number. A number that 64 bits do not hold is none: it is never cut off.
-fn with_decimal(n: u64, d: u64) -> Number {
-    if d >= 10 {
-        return Number::Not;
-    }
-    if n > (u64::MAX - d) / 10 {
-        return Number::Not;
-    }
-    Number::Is(n * 10 + d)
-}
-
-fn with_hexadecimal(n: u64, d: u64) -> Number {
-    if d >= 16 {
-        return Number::Not;
-    }
-    if n > u64::MAX / 16 {
-        return Number::Not;
-    }
-    Number::Is(n * 16 + d)
-}
-
-fn with_digit(n: u64, base: u64, d: u64) -> Number {
-    if base == 16 {
-        return with_hexadecimal(n, d);
-    }
-    with_decimal(n, d)
-}
-
-// The number that a word is in this base, 16 or 10.
-fn value(text: &[u8], base: u64) -> Number {
-    if text.len() == 0 {
-        return Number::Not;
-    }
-    let mut n = 0;
-    let mut i = 0;
-    while i < text.len() {
-        let Number::Is(next) = with_digit(n, base, digit(text[i])) else {
-            return Number::Not;
-        };
-        n = next;
-        i += 1;
-    }
-    Number::Is(n)
-}
-
-// Word k as a number in decimal.
-pub fn decimal(line: &[u8], k: u64) -> Number {
-    value(word(line, k), 10)
-}
-
-pub enum Id {
-    Is(u32),
-    Not,
-}
-
-// Word k as an id, a number of 32 bits in hexadecimal.
-pub fn hexadecimal(line: &[u8], k: u64) -> Id {
-    let Number::Is(n) = value(word(line, k), 16) else {
-        return Id::Not;
-    };
-    if n > 0xffff_ffff {
-        return Id::Not;
-    }
-    Id::Is(n as u32)
+pub fn word(line: &[u8], k: u64) -> &[u8]
+    ensures { λ r. ⌜ now r ≡ word k (now (line .entry)) ⌝ }
+{
+    let end = until(line, Mark::Hash);
+    word_in(&line[..end], k)
 }
 
 // The line has k words at most.
-pub fn ends(line: &[u8], k: u64) -> bool {
+pub fn ends(line: &[u8], k: u64) -> bool
+    ensures { λ r. ⌜ r ≡ ends k (now (line .entry)) ⌝ }
+{
     word(line, k).len() == 0
+}
+
+// The line's first word is this one.
+pub fn named(line: &[u8], name: &[u8]) -> bool
+    ensures { λ r. ⌜ r ≡ named (now (line .entry)) (now (name .entry)) ⌝ }
+{
+    check::same(word(line, 0), name)
 }

@@ -1,57 +1,21 @@
--- `word`: the loop passes one word a turn. Assumes nothing.
-use native.Mathlib.Omega.{arith}
+-- `word`: the words of what stands before the comment. Assumes nothing.
+use lib.Seq.{length-take-le}
+use Rattle.script.proofs.Cuts.{word-is}
+use borrow.Author.Needs.{needs}
 use Rattle.script.proofs.words.word.Statement.{statement}
 use Rattle.script.proofs.words.word.Tie as tie
 
-abbrev Inv-loop : tie.InvT-loop
-Inv-loop line k at₀ left₀ at left = Unit {0}
+until-requires : tie.Need-until-requires
+until-requires c κs = tt
 
-abbrev μ-loop : tie.MeasureT-loop
-μ-loop line k at₀ left₀ at left = left
+slice-aggregate-word-in : tie.Need-slice-aggregate-word-in
+slice-aggregate-word-in c = search (needs, length-take-le)
 
-word-start-requires : tie.Need-word-start-requires Inv-loop μ-loop
-word-start-requires c κs = tt
+word-in-requires : tie.Need-word-in-requires
+word-in-requires c κs = tt
 
-loop-holds : tie.Need-loop-holds Inv-loop μ-loop
-loop-holds c = tt
-
-word-end-requires : tie.Need-word-end-requires Inv-loop μ-loop
-word-end-requires c κs = tt
-
-word-start-requires-2 : tie.Need-word-start-requires-2 Inv-loop μ-loop
-word-start-requires-2 c κs = tt
-
-sub-left : tie.Need-sub-left Inv-loop μ-loop
-sub-left c = omega arith
-
-loop-less : tie.Need-loop-less Inv-loop μ-loop
-loop-less c = omega arith
-
-loop-again : tie.Need-loop-again Inv-loop μ-loop
-loop-again c = tt
-
-word-end-requires-2 : tie.Need-word-end-requires-2 Inv-loop μ-loop
-word-end-requires-2 c κs = tt
-
-part-requires : tie.Need-part-requires Inv-loop μ-loop
-part-requires c κs = tt
-
-returns : tie.Need-returns Inv-loop μ-loop
-returns c = tt
+returns : tie.Need-returns
+returns c = search word-is
 
 pub word-spec : {M : Type 1} → statement M
-word-spec =
-    tie.close
-    (tie.spec
-    Inv-loop
-    μ-loop
-    word-start-requires
-    loop-holds
-    word-end-requires
-    word-start-requires-2
-    sub-left
-    loop-less
-    loop-again
-    word-end-requires-2
-    part-requires
-    returns)
+word-spec = tie.close (tie.spec until-requires slice-aggregate-word-in word-in-requires returns)

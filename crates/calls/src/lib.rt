@@ -1,0 +1,17 @@
+// A call on a network with its arguments, as programs hold it.
+pub enum Call {
+    // base, digits, depth, id
+    Found(u64, u64, u64, u32),
+    // of the image that is lent with the call
+    Read,
+    // id, gateway
+    Begin(u32, u64),
+    // sender, receiver
+    Deliver(u64, u64),
+    // from, to
+    Lookup(u64, u64),
+    Verdict,
+    // to the memory that is lent for output
+    Write,
+    Sound,
+}

@@ -1,0 +1,48 @@
+-- Lines and their commands, by computation.
+use mathlib.Core.Path.{_≡_, refl}
+use Rattle.calls.specs.declared.Call.the-variants as call
+use Rattle.text.specs.Ascii.{ascii}
+use Rattle.script.specs.Words.{isBlank, isSolid, isHash, until, beforeComment, fromWord, toBlank, fromBlank, wordIn, word, isEmpty, ends, sameText, named}
+use Rattle.script.specs.Numbers.{digit, areDigits, valueFrom, isNumber, valueOf, numberOf, decimalOf, hexadecimalOf}
+use Rattle.script.specs.Commands.{endsWith, ofFile, found, begin, deliver, lookup, table, fileOrTable, commandOf}
+use Rattle.script.specs.declared.command.Command.the-variants.{Nothing, Unknown, Call, Save, Table}
+
+unfoldable computing : Unit {0}
+unfolding isBlank isSolid isHash until beforeComment fromWord toBlank fromBlank wordIn word isEmpty ends sameText named digit areDigits valueFrom isNumber valueOf numberOf decimalOf hexadecimalOf endsWith ofFile found begin deliver lookup table fileOrTable commandOf
+computing = tt
+
+pub founding : commandOf (ascii "found 16 8 4 0fFfffffF") ≡ Call (call.Found 16 8 4 4294967295)
+unfolding computing
+founding = refl
+
+pub commented : commandOf (ascii "  deliver\t2 1# and so on\r") ≡ Call (call.Deliver 2 1)
+unfolding computing
+commented = refl
+
+pub empty-line : commandOf (ascii " # verdict") ≡ Nothing
+unfolding computing
+empty-line = refl
+
+pub word-too-many : commandOf (ascii "verdict now") ≡ Unknown
+unfolding computing
+word-too-many = refl
+
+pub word-too-few : commandOf (ascii "save #network") ≡ Unknown
+unfolding computing
+word-too-few = refl
+
+pub id-of-33-bits : commandOf (ascii "begin 100000000 1") ≡ Unknown
+unfolding computing
+id-of-33-bits = refl
+
+pub number-of-64-bits : commandOf (ascii "table 18446744073709551615") ≡ Table 18446744073709551615
+unfolding computing
+number-of-64-bits = refl
+
+pub number-of-65-bits : commandOf (ascii "table 18446744073709551616") ≡ Unknown
+unfolding computing
+number-of-65-bits = refl
+
+pub file : commandOf (ascii "save network") ≡ Save
+unfolding computing
+file = refl

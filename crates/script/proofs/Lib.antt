@@ -1,0 +1,7 @@
+-- The laws of a line's words, numbers and command.
+pub mod Runs
+pub mod Texts
+pub mod Cuts
+pub mod Values
+pub mod Parsed
+pub mod Examples

@@ -1,0 +1,62 @@
+-- `file_or_table`: one name after the other. Assumes nothing.
+use Rattle.script.proofs.Parsed.{save-is, load-is, table-named, none-named}
+use borrow.Author.Needs.{needs}
+use Rattle.script.proofs.command.file_or_table.Statement.{statement}
+use Rattle.script.proofs.command.file_or_table.Tie as tie
+
+slice-aggregate-named : tie.Need-slice-aggregate-named
+slice-aggregate-named c = search needs
+
+named-requires : tie.Need-named-requires
+named-requires c κs = search needs
+
+of-file-requires : tie.Need-of-file-requires
+of-file-requires c κs = search needs
+
+returns : tie.Need-returns
+returns c = search save-is
+
+slice-aggregate-named-2 : tie.Need-slice-aggregate-named-2
+slice-aggregate-named-2 c = search needs
+
+named-requires-2 : tie.Need-named-requires-2
+named-requires-2 c κs = search needs
+
+of-file-requires-2 : tie.Need-of-file-requires-2
+of-file-requires-2 c κs = search needs
+
+returns-2 : tie.Need-returns-2
+returns-2 c = search load-is
+
+slice-aggregate-named-3 : tie.Need-slice-aggregate-named-3
+slice-aggregate-named-3 c = search needs
+
+named-requires-3 : tie.Need-named-requires-3
+named-requires-3 c κs = search needs
+
+table-requires : tie.Need-table-requires
+table-requires c κs = search needs
+
+returns-3 : tie.Need-returns-3
+returns-3 c = search table-named
+
+returns-4 : tie.Need-returns-4
+returns-4 c = search none-named
+
+pub file-or-table-spec : {M : Type 1} → statement M
+file-or-table-spec =
+    tie.close
+    (tie.spec
+    slice-aggregate-named
+    named-requires
+    of-file-requires
+    returns
+    slice-aggregate-named-2
+    named-requires-2
+    of-file-requires-2
+    returns-2
+    slice-aggregate-named-3
+    named-requires-3
+    table-requires
+    returns-3
+    returns-4)

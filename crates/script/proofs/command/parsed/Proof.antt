@@ -1,0 +1,122 @@
+-- `parsed`: one name after the other. Assumes nothing.
+use Rattle.script.proofs.Parsed.{nothing-is, found-named, begin-named, deliver-named, lookup-named, verdict-named, sound-named, file-or-table}
+use borrow.Author.Needs.{needs}
+use Rattle.script.proofs.command.parsed.Statement.{statement}
+use Rattle.script.proofs.command.parsed.Tie as tie
+
+ends-requires : tie.Need-ends-requires
+ends-requires c κs = search needs
+
+returns : tie.Need-returns
+returns c = search nothing-is
+
+slice-aggregate-named : tie.Need-slice-aggregate-named
+slice-aggregate-named c = search needs
+
+named-requires : tie.Need-named-requires
+named-requires c κs = search needs
+
+found-requires : tie.Need-found-requires
+found-requires c κs = search needs
+
+returns-2 : tie.Need-returns-2
+returns-2 c = search found-named
+
+slice-aggregate-named-2 : tie.Need-slice-aggregate-named-2
+slice-aggregate-named-2 c = search needs
+
+named-requires-2 : tie.Need-named-requires-2
+named-requires-2 c κs = search needs
+
+begin-requires : tie.Need-begin-requires
+begin-requires c κs = search needs
+
+returns-3 : tie.Need-returns-3
+returns-3 c = search begin-named
+
+slice-aggregate-named-3 : tie.Need-slice-aggregate-named-3
+slice-aggregate-named-3 c = search needs
+
+named-requires-3 : tie.Need-named-requires-3
+named-requires-3 c κs = search needs
+
+deliver-requires : tie.Need-deliver-requires
+deliver-requires c κs = search needs
+
+returns-4 : tie.Need-returns-4
+returns-4 c = search deliver-named
+
+slice-aggregate-named-4 : tie.Need-slice-aggregate-named-4
+slice-aggregate-named-4 c = search needs
+
+named-requires-4 : tie.Need-named-requires-4
+named-requires-4 c κs = search needs
+
+lookup-requires : tie.Need-lookup-requires
+lookup-requires c κs = search needs
+
+returns-5 : tie.Need-returns-5
+returns-5 c = search lookup-named
+
+slice-aggregate-named-5 : tie.Need-slice-aggregate-named-5
+slice-aggregate-named-5 c = search needs
+
+named-requires-5 : tie.Need-named-requires-5
+named-requires-5 c κs = search needs
+
+ends-with-requires : tie.Need-ends-with-requires
+ends-with-requires c κs = search needs
+
+returns-6 : tie.Need-returns-6
+returns-6 c = search verdict-named
+
+slice-aggregate-named-6 : tie.Need-slice-aggregate-named-6
+slice-aggregate-named-6 c = search needs
+
+named-requires-6 : tie.Need-named-requires-6
+named-requires-6 c κs = search needs
+
+ends-with-requires-2 : tie.Need-ends-with-requires-2
+ends-with-requires-2 c κs = search needs
+
+returns-7 : tie.Need-returns-7
+returns-7 c = search sound-named
+
+file-or-table-requires : tie.Need-file-or-table-requires
+file-or-table-requires c κs = search needs
+
+returns-8 : tie.Need-returns-8
+returns-8 c = search file-or-table
+
+pub parsed-spec : {M : Type 1} → statement M
+parsed-spec =
+    tie.close
+    (tie.spec
+    ends-requires
+    returns
+    slice-aggregate-named
+    named-requires
+    found-requires
+    returns-2
+    slice-aggregate-named-2
+    named-requires-2
+    begin-requires
+    returns-3
+    slice-aggregate-named-3
+    named-requires-3
+    deliver-requires
+    returns-4
+    slice-aggregate-named-4
+    named-requires-4
+    lookup-requires
+    returns-5
+    slice-aggregate-named-5
+    named-requires-5
+    ends-with-requires
+    returns-6
+    slice-aggregate-named-6
+    named-requires-6
+    ends-with-requires-2
+    returns-7
+    file-or-table-requires
+    returns-8)

@@ -1,0 +1,70 @@
+-- The words of a line. A line is a list of bytes: blanks stand between its words, and a comment ends it.
+use Prim.Native.Nat.{ℕ, zero, suc, _-_}
+use mathlib.Core.Bool.{Bool, true, false, not, cond, _&&_, _||_}
+use mathlib.Core.List.{List, [], _∷_}
+use lib.ListN.{length, take, drop}
+use lib.Dec.{eqb, leb}
+
+-- a space, a tab or a carriage return
+unfoldable pub isBlank : ℕ → Bool
+isBlank b = eqb b 32 || (eqb b 9 || eqb b 13)
+
+-- what stands in a word
+unfoldable pub isSolid : ℕ → Bool
+isSolid b = not (isBlank b)
+
+-- `#`
+unfoldable pub isHash : ℕ → Bool
+isHash b = eqb b 35
+
+-- how many bytes stand before the first that passes a test; all, where none does
+unfoldable pub until : (ℕ → Bool) → List ℕ → ℕ
+until test [] = 0
+until test (b ∷ bs) = let more = until test bs in cond (test b) 0 (suc more)
+
+-- what stands before the first `#`
+unfoldable pub beforeComment : List ℕ → List ℕ
+beforeComment line = take (until isHash line) line
+
+-- a text without the blanks that it starts with
+unfoldable pub fromWord : List ℕ → List ℕ
+fromWord text = drop (until isSolid text) text
+
+-- a text up to its first blank, and from there on
+unfoldable pub toBlank : List ℕ → List ℕ
+toBlank text = take (until isBlank text) text
+
+unfoldable pub fromBlank : List ℕ → List ℕ
+fromBlank text = drop (until isBlank text) text
+
+-- word k of a text without comment, from 0; empty where there is none
+unfoldable pub wordIn : ℕ → List ℕ → List ℕ
+wordIn zero text = toBlank (fromWord text)
+wordIn (suc k) text = wordIn k (fromBlank (fromWord text))
+
+-- word k of a line, from 0; empty where there is none
+unfoldable pub word : ℕ → List ℕ → List ℕ
+word k line = wordIn k (beforeComment line)
+
+unfoldable pub isEmpty : List ℕ → Bool
+isEmpty [] = true
+isEmpty (b ∷ bs) = false
+
+-- a line has k words at most
+unfoldable pub ends : ℕ → List ℕ → Bool
+ends k line = isEmpty (word k line)
+
+-- two texts are the same
+unfoldable pub sameText : List ℕ → List ℕ → Bool
+sameText [] [] = true
+sameText [] (b ∷ t) = false
+sameText (a ∷ s) [] = false
+sameText (a ∷ s) (b ∷ t) = eqb a b && sameText s t
+
+-- a line's first word is this one
+unfoldable pub named : List ℕ → List ℕ → Bool
+named line name = sameText (word 0 line) name
+
+-- the bytes from a place to another, where the text has both in this order; else none
+unfoldable pub part : List ℕ → ℕ → ℕ → List ℕ
+part s from to = cond (leb to (length s) && leb from to) (take (to - from) (drop from s)) []
