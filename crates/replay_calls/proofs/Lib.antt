@@ -1,5 +1,2 @@
--- The laws of a run as code.
+-- The laws of playing a call.
 pub mod Ones
-pub mod Runs
-pub mod RunKept
-pub mod Forms

@@ -1,5 +1,3 @@
--- What the contracts of the run as code cite.
-pub mod Coded
+-- What the contracts of playing a call cite.
+pub mod Called
 pub mod Answered
-pub mod Shown
-pub mod RunKept

@@ -1,6 +1,4 @@
-// The run as code: a list of calls in bytes, played on lent memory by the public calls, with the answers in words. Memory and answers are
-// those of the book's run, so what crate promise shows of every run holds of it.
+// A call played by the public call of its kind, with its answer in words. Memory, output and answer are those of the book's step, so what
+// crate promise shows of every run holds of calls that are played here one after another.
 pub mod answer;
-pub mod call;
 pub mod one;
-pub mod run;

@@ -1,14 +1,12 @@
 // One call, played by the public call of its kind.
 ghost use mathlib.Core.Path.{_≡_};
-ghost use Prim.Native.Nat.{min};
-ghost use Rattle.model.specs.Calls.{foundCall, readCall, beginCall, deliverCall, lookupCall, verdictCall, writeCall};
+ghost use Rattle.model.specs.Calls.{foundCall, readCall, beginCall, deliverCall, lookupCall, verdictCall, writeCall, soundCall};
 ghost use Rattle.model.specs.Run.{step};
-ghost use Rattle.replay_calls.specs.Coded.{imageAt, zeros};
 ghost use Rattle.state.specs.Lent.{memory};
-ghost use Rattle.replay_calls.specs.Answered.{playing};
-ghost use Rattle.replay_calls.specs.Shown.{called, shown};
+ghost use Rattle.replay_calls.specs.Called.{called, outAfter};
+ghost use Rattle.replay_calls.specs.Answered.{playing, shown};
 use crate::answer::Words;
-use crate::call::Coded;
+use calls::Call;
 use engine::beginning;
 use engine::delivering;
 use engine::founding;
@@ -20,14 +18,7 @@ use packing::pack::bit;
 fn found(state: &mut [u64], tables: &mut [u8], base: u64, digits: u64, depth: u64, id: u32) -> Words
     ensures { λ r. ⌜ shown (memory (now (state .exit)) (now (tables .exit))) r ≡ playing (foundCall (memory (now (state .entry)) (now (tables .entry))) base digits depth id) ⌝ }
 {
-    let refusal = founding::found(state, tables, base, digits, depth, id);
-    Words {
-        refusal,
-        first: 0,
-        second: 0,
-        third: 0,
-        fourth: 0,
-    }
+    refusal_alone(founding::found(state, tables, base, digits, depth, id))
 }
 
 fn begin(state: &mut [u64], tables: &mut [u8], id: u32, gateway: u64) -> Words
@@ -82,45 +73,17 @@ fn verdict(state: &[u64], tables: &[u8]) -> Words
     }
 }
 
-// The number, or the bound where that is less.
-fn at_most(a: u64, bound: usize) -> usize
-    ensures { λ r. ⌜ r ≡ min a bound ⌝ }
+fn read(state: &mut [u64], tables: &mut [u8], image: &[u8]) -> Words
+    ensures { λ r. ⌜ shown (memory (now (state .exit)) (now (tables .exit))) r ≡ playing (readCall (memory (now (state .entry)) (now (tables .entry))) (now (image .entry))) ⌝ }
 {
-    if a < bound as u64 {
-        return a as usize;
-    }
-    bound
+    refusal_alone(reading::read(state, tables, image))
 }
 
-// The image of b bytes from byte a on, as far as the bytes reach.
-fn image(images: &[u8], a: u64, b: u64) -> &[u8]
-    ensures { λ r. ⌜ now r ≡ imageAt (now (images .entry)) a b ⌝ }
+fn write(state: &[u64], tables: &[u8], out: &mut [u8]) -> Words
+    ensures { λ r. ⌜ shown (memory (now (state .entry)) (now (tables .entry))) r ≡ playing (writeCall (memory (now (state .entry)) (now (tables .entry))) (now (out .entry))) ⌝ }
+    ensures { λ r. ⌜ now (out .exit) ≡ writeCall (memory (now (state .entry)) (now (tables .entry))) (now (out .entry)) .out ⌝ }
 {
-    let start = at_most(a, images.len());
-    let end = start + at_most(b, images.len() - start);
-    &images[start..end]
-}
-
-fn read(state: &mut [u64], tables: &mut [u8], images: &[u8], a: u64, b: u64) -> Words
-    ensures { λ r. ⌜ shown (memory (now (state .exit)) (now (tables .exit))) r ≡ playing (readCall (memory (now (state .entry)) (now (tables .entry))) (imageAt (now (images .entry)) a b)) ⌝ }
-{
-    let refusal = reading::read(state, tables, image(images, a, b));
-    Words {
-        refusal,
-        first: 0,
-        second: 0,
-        third: 0,
-        fourth: 0,
-    }
-}
-
-// Writes into zeros that are not kept.
-fn write(state: &[u64], tables: &[u8], room: u64) -> Words
-    ensures { λ r. ⌜ shown (memory (now (state .entry)) (now (tables .entry))) r ≡ playing (writeCall (memory (now (state .entry)) (now (tables .entry))) (zeros room)) ⌝ }
-{
-    let mut out = [0u8; 65536];
-    let end = at_most(room, 65536);
-    let r = writing::write(state, tables, &mut out[..end]);
+    let r = writing::write(state, tables, out);
     Words {
         refusal: r.refusal,
         first: r.bytes,
@@ -130,29 +93,39 @@ fn write(state: &[u64], tables: &[u8], room: u64) -> Words
     }
 }
 
-pub fn play(state: &mut [u64], tables: &mut [u8], images: &[u8], r: Coded) -> Words
-    ensures { λ w. ⌜ shown (memory (now (state .exit)) (now (tables .exit))) w ≡ playing (step (memory (now (state .entry)) (now (tables .entry))) (called (now (images .entry)) r)) ⌝ }
+fn sound(state: &[u64], tables: &[u8]) -> Words
+    ensures { λ r. ⌜ shown (memory (now (state .entry)) (now (tables .entry))) r ≡ playing (soundCall (memory (now (state .entry)) (now (tables .entry)))) ⌝ }
 {
-    if r.kind == 0 {
-        return found(state, tables, r.a, r.b, r.c, r.id);
+    refusal_alone(engine::sound::sound(state, tables))
+}
+
+fn refusal_alone(refusal: u64) -> Words
+    ensures { λ r. ⌜ r ≡ record { refusal = refusal; first = 0; second = 0; third = 0; fourth = 0 } ⌝ }
+{
+    Words {
+        refusal,
+        first: 0,
+        second: 0,
+        third: 0,
+        fourth: 0,
     }
-    if r.kind == 1 {
-        return begin(state, tables, r.id, r.a);
+}
+
+// Plays the call on the lent memory: reading is of `image`, and writing to `out`.
+pub fn play(state: &mut [u64], tables: &mut [u8], image: &[u8], out: &mut [u8], call: Call) -> Words
+    ensures { λ w. ⌜ shown (memory (now (state .exit)) (now (tables .exit))) w ≡ playing (step (memory (now (state .entry)) (now (tables .entry))) (called (now (image .entry)) (now (out .entry)) call)) ⌝ }
+    ensures { λ w. ⌜ now (out .exit) ≡ outAfter (memory (now (state .entry)) (now (tables .entry))) (now (out .entry)) call ⌝ }
+{
+    match call {
+        Call::Found(base, digits, depth, id) => {
+            return found(state, tables, base, digits, depth, id);
+        }
+        Call::Read => return read(state, tables, image),
+        Call::Begin(id, gateway) => return begin(state, tables, id, gateway),
+        Call::Deliver(sender, receiver) => return deliver(state, tables, sender, receiver),
+        Call::Lookup(from, to) => return lookup(state, tables, from, to),
+        Call::Verdict => return verdict(state, tables),
+        Call::Write => return write(state, tables, out),
+        Call::Sound => return sound(state, tables),
     }
-    if r.kind == 2 {
-        return deliver(state, tables, r.a, r.b);
-    }
-    if r.kind == 3 {
-        return lookup(state, tables, r.a, r.b);
-    }
-    if r.kind == 4 {
-        return verdict(state, tables);
-    }
-    if r.kind == 5 {
-        return read(state, tables, images, r.a, r.b);
-    }
-    if r.kind == 6 {
-        return write(state, tables, r.a);
-    }
-    lookup(state, tables, 0, 0)
 }

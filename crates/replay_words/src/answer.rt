@@ -1,86 +1,138 @@
-// The answers of the calls in words, each a line.
-use crate::say;
-use answers::BeginAnswer;
-use answers::DeliverAnswer;
-use answers::Kind;
-use answers::LookupAnswer;
-use answers::VerdictAnswer;
+// The answer of a call in words, a line.
+ghost use Prim.Native.Nat.{_+_, _≤_};
+ghost use lib.ListN.{length};
+ghost use Rattle.putting.specs.Put.{Put};
+ghost use Rattle.replay_calls.specs.Answered.{listed};
+ghost use Rattle.text.specs.Lines.{labelled};
+ghost use Rattle.replay_words.specs.Said.{bytesText, kindText, settledText, deliverText, endText, hopsText, lookupText, shortText, judgedText, takenText, said};
+use crate::refused;
+use calls::Call;
+use putting::piece;
+use replay_calls::answer::Words;
 
-pub fn begin(r: BeginAnswer) {
-    if r.refusal != 0 {
-        say::refused(r.refusal);
-        return;
-    }
-    say::line(b"begin: node ", r.node);
+// How many bytes an image has.
+fn bytes(out: &mut [u8], label: &[u8], n: u64) -> usize
+    requires { ⌜ length (now label) + 27 ≤ length (now out) ⌝ }
+    ensures { λ r. ⌜ Put (now (out .entry)) 0 (bytesText (now (label .entry)) n) (now (out .exit)) r ⌝ }
+    ensures { λ r. ⌜ r ≤ length (now (label .entry)) + 27 ⌝ }
+{
+    let end = text::labelled(out, 0, label, n);
+    piece(out, end, b" bytes\n")
 }
 
-// What a taken delivery was, and whether the sender settled.
-fn took(kind: Kind, settled: bool) {
+fn kind(out: &mut [u8], kind: u64, level: u64) -> usize
+    requires { ⌜ 47 ≤ length (now out) ⌝ }
+    ensures { λ r. ⌜ Put (now (out .entry)) 0 (kindText kind level) (now (out .exit)) r ⌝ }
+    ensures { λ r. ⌜ r ≤ 47 ⌝ }
+{
     match kind {
-        Kind::Refused(_) => return,
-        Kind::Copied => say::text(b"deliver: copied"),
-        Kind::SentOn => say::text(b"deliver: sent on"),
-        Kind::Attached(level) => attached(level),
-        Kind::Notified => say::text(b"deliver: notified"),
+        1 => return piece(out, 0, b"deliver: copied"),
+        2 => return piece(out, 0, b"deliver: sent on"),
+        3 => return text::labelled(out, 0, b"deliver: attached at level ", level),
+        _ => return piece(out, 0, b"deliver: notified"),
     }
-    if settled {
-        say::text(b", settled");
-    }
-    say::text(b"\n");
 }
 
-fn attached(level: u64) {
-    say::text(b"deliver: attached at level ");
-    say::number(level);
+fn settled(out: &mut [u8], at: usize, settled: u64) -> usize
+    requires { ⌜ at + 10 ≤ length (now out) ⌝ }
+    ensures { λ r. ⌜ Put (now (out .entry)) at (settledText settled) (now (out .exit)) r ⌝ }
+    ensures { λ r. ⌜ r ≤ at + 10 ⌝ }
+{
+    if settled == 1 {
+        return piece(out, at, b", settled\n");
+    }
+    piece(out, at, b"\n")
 }
 
-pub fn deliver(r: DeliverAnswer) {
-    let kind = r.kind;
-    if let Kind::Refused(number) = kind {
-        say::refused(number);
-        return;
-    }
-    took(kind, r.settled);
+fn delivered(out: &mut [u8], w: Words) -> usize
+    requires { ⌜ 57 ≤ length (now out) ⌝ }
+    ensures { λ r. ⌜ Put (now (out .entry)) 0 (deliverText (listed w)) (now (out .exit)) r ⌝ }
+    ensures { λ r. ⌜ r ≤ 57 ⌝ }
+{
+    let end = kind(out, w.first, w.second);
+    settled(out, end, w.third)
 }
 
-fn hops(n: u64) {
-    say::number(n);
-    if n == 1 {
-        say::text(b" hop\n");
-        return;
+fn ended(out: &mut [u8], arrived: u64, last: u64) -> usize
+    requires { ⌜ 39 ≤ length (now out) ⌝ }
+    ensures { λ r. ⌜ Put (now (out .entry)) 0 (labelled (endText arrived) last) (now (out .exit)) r ⌝ }
+    ensures { λ r. ⌜ r ≤ 39 ⌝ }
+{
+    if arrived == 1 {
+        return text::labelled(out, 0, b"lookup: arrived at ", last);
     }
-    say::text(b" hops\n");
+    text::labelled(out, 0, b"lookup: lost at ", last)
 }
 
-pub fn lookup(r: LookupAnswer) {
-    if r.refusal != 0 {
-        say::refused(r.refusal);
-        return;
+fn hops(out: &mut [u8], at: usize, hops: u64) -> usize
+    requires { ⌜ at + 30 ≤ length (now out) ⌝ }
+    ensures { λ r. ⌜ Put (now (out .entry)) at (hopsText hops) (now (out .exit)) r ⌝ }
+    ensures { λ r. ⌜ r ≤ at + 30 ⌝ }
+{
+    let end = text::labelled(out, at, b" in ", hops);
+    if hops == 1 {
+        return piece(out, end, b" hop\n");
     }
-    if r.arrived {
-        say::text(b"lookup: arrived at ");
-    } else {
-        say::text(b"lookup: lost at ");
-    }
-    say::number(r.last);
-    say::text(b" in ");
-    hops(r.hops);
+    piece(out, end, b" hops\n")
 }
 
-pub fn verdict(r: VerdictAnswer) {
-    if r.refusal != 0 {
-        say::refused(r.refusal);
-        return;
+fn looked_up(out: &mut [u8], w: Words) -> usize
+    requires { ⌜ 69 ≤ length (now out) ⌝ }
+    ensures { λ r. ⌜ Put (now (out .entry)) 0 (lookupText (listed w)) (now (out .exit)) r ⌝ }
+    ensures { λ r. ⌜ r ≤ 69 ⌝ }
+{
+    let end = ended(out, w.first, w.third);
+    hops(out, end, w.second)
+}
+
+fn short(out: &mut [u8], x: u64, i: u64, j: u64) -> usize
+    requires { ⌜ 82 ≤ length (now out) ⌝ }
+    ensures { λ r. ⌜ Put (now (out .entry)) 0 (shortText x i j) (now (out .exit)) r ⌝ }
+    ensures { λ r. ⌜ r ≤ 82 ⌝ }
+{
+    let second = text::labelled(out, 0, b"verdict: node ", x);
+    let third = text::labelled(out, second, b" level ", i);
+    let fourth = piece(out, third, b" digit ");
+    let fifth = text::hex(out, fourth, j % 16, 1);
+    piece(out, fifth, b" falls short\n")
+}
+
+fn judged(out: &mut [u8], w: Words) -> usize
+    requires { ⌜ 82 ≤ length (now out) ⌝ }
+    ensures { λ r. ⌜ Put (now (out .entry)) 0 (judgedText (listed w)) (now (out .exit)) r ⌝ }
+    ensures { λ r. ⌜ r ≤ 82 ⌝ }
+{
+    if w.first == 1 {
+        return piece(out, 0, b"verdict: consistent\n");
     }
-    if r.consistent {
-        say::text(b"verdict: consistent\n");
-        return;
+    short(out, w.second, w.third, w.fourth)
+}
+
+fn taken(out: &mut [u8], n: u64, call: Call, w: Words) -> usize
+    requires { ⌜ 111 ≤ length (now out) ⌝ }
+    ensures { λ r. ⌜ Put (now (out .entry)) 0 (takenText n call (listed w)) (now (out .exit)) r ⌝ }
+    ensures { λ r. ⌜ r ≤ 111 ⌝ }
+{
+    match call {
+        Call::Found(_, _, _, _) => return piece(out, 0, b"found: node 1\n"),
+        Call::Read => return bytes(out, b"load: ", n),
+        Call::Begin(_, _) => return text::line(out, 0, b"begin: node ", w.first),
+        Call::Deliver(_, _) => return delivered(out, w),
+        Call::Lookup(_, _) => return looked_up(out, w),
+        Call::Verdict => return judged(out, w),
+        Call::Write => return bytes(out, b"save: ", w.first),
+        Call::Sound => return piece(out, 0, b"sound: the state is sound\n"),
     }
-    say::text(b"verdict: node ");
-    say::number(r.node);
-    say::text(b" level ");
-    say::number(r.level);
-    say::text(b" digit ");
-    say::hex(r.digit, 1);
-    say::text(b" falls short\n");
+}
+
+// Puts the line at the start of out, and answers how many bytes it has. An image that was read has n bytes.
+pub fn put(out: &mut [u8], n: u64, call: Call, w: Words) -> usize
+    requires { ⌜ 111 ≤ length (now out) ⌝ }
+    ensures { λ r. ⌜ Put (now (out .entry)) 0 (said n call (listed w)) (now (out .exit)) r ⌝ }
+    ensures { λ r. ⌜ r ≤ 111 ⌝ }
+{
+    if w.refusal != 0 {
+        return refused::put(out, w.refusal);
+    }
+    taken(out, n, call, w)
 }

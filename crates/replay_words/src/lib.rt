@@ -1,4 +1,3 @@
-// What `replay` prints: pieces of text, the refusals and the answers in words, and a node's record and table.
+// What `replay` says of an answer, put into lent memory.
 pub mod answer;
-pub mod say;
-pub mod table;
+pub mod refused;

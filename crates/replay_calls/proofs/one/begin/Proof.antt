@@ -1,6 +1,6 @@
 -- `begin`: the words of the public call. Assumes nothing.
-use Rattle.replay_calls.proofs.Ones.{begin-words}
 use borrow.Author.Needs.{needs}
+use Rattle.replay_calls.proofs.Ones.{number-words}
 use Rattle.replay_calls.proofs.one.begin.Statement.{statement}
 use Rattle.replay_calls.proofs.one.begin.Tie as tie
 
@@ -14,7 +14,7 @@ same-length-2 : tie.Need-same-length-2
 same-length-2 c = search needs
 
 returns : tie.Need-returns
-returns c = search begin-words
+returns c = search number-words
 
 pub begin-spec : {M : Type 1} → statement M
 begin-spec = tie.close (tie.spec begin-requires same-length same-length-2 returns)

@@ -1,6 +1,6 @@
 -- `deliver`: the words of the public call. Assumes nothing.
-use Rattle.replay_calls.proofs.Ones.{deliver-words}
 use borrow.Author.Needs.{needs}
+use Rattle.replay_calls.proofs.Ones.{deliver-words}
 use Rattle.replay_calls.proofs.one.deliver.Statement.{statement}
 use Rattle.replay_calls.proofs.one.deliver.Tie as tie
 

@@ -1,6 +1,6 @@
 -- `lookup`: the words of the public call. Assumes nothing.
-use Rattle.replay_calls.proofs.Ones.{lookup-words}
 use borrow.Author.Needs.{needs}
+use Rattle.replay_calls.proofs.Ones.{lookup-words}
 use Rattle.replay_calls.proofs.one.lookup.Statement.{statement}
 use Rattle.replay_calls.proofs.one.lookup.Tie as tie
 

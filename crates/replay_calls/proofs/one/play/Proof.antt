@@ -1,8 +1,12 @@
--- `play`: the kind decides. Assumes nothing.
-use Rattle.replay_calls.proofs.Ones.{kind-found, kind-begin, kind-deliver, kind-lookup, kind-verdict, kind-read, kind-write, kind-other}
+-- `play`: each arm is the public call of its kind. Assumes nothing.
 use borrow.Author.Needs.{needs}
+use Rattle.model.specs.Run.{step}
+use Rattle.replay_calls.proofs.Ones.{plays, output}
 use Rattle.replay_calls.proofs.one.play.Statement.{statement}
 use Rattle.replay_calls.proofs.one.play.Tie as tie
+
+enum-known-call : tie.Need-enum-known-call
+enum-known-call c = search needs
 
 found-requires : tie.Need-found-requires
 found-requires c κs = search needs
@@ -14,10 +18,14 @@ same-length-2 : tie.Need-same-length-2
 same-length-2 c = search needs
 
 returns : tie.Need-returns
-returns c = search kind-found
+unfolding step
+returns c = (search plays, search output)
 
-begin-requires : tie.Need-begin-requires
-begin-requires c κs = search needs
+enum-told : tie.Need-enum-told
+enum-told c = search needs
+
+read-requires : tie.Need-read-requires
+read-requires c κs = search needs
 
 same-length-3 : tie.Need-same-length-3
 same-length-3 c = search needs
@@ -26,10 +34,14 @@ same-length-4 : tie.Need-same-length-4
 same-length-4 c = search needs
 
 returns-2 : tie.Need-returns-2
-returns-2 c = search kind-begin
+unfolding step
+returns-2 c = (search plays, search output)
 
-deliver-requires : tie.Need-deliver-requires
-deliver-requires c κs = search needs
+enum-known-call-2 : tie.Need-enum-known-call-2
+enum-known-call-2 c = search needs
+
+begin-requires : tie.Need-begin-requires
+begin-requires c κs = search needs
 
 same-length-5 : tie.Need-same-length-5
 same-length-5 c = search needs
@@ -38,10 +50,14 @@ same-length-6 : tie.Need-same-length-6
 same-length-6 c = search needs
 
 returns-3 : tie.Need-returns-3
-returns-3 c = search kind-deliver
+unfolding step
+returns-3 c = (search plays, search output)
 
-lookup-requires : tie.Need-lookup-requires
-lookup-requires c κs = search needs
+enum-known-call-3 : tie.Need-enum-known-call-3
+enum-known-call-3 c = search needs
+
+deliver-requires : tie.Need-deliver-requires
+deliver-requires c κs = search needs
 
 same-length-7 : tie.Need-same-length-7
 same-length-7 c = search needs
@@ -50,10 +66,14 @@ same-length-8 : tie.Need-same-length-8
 same-length-8 c = search needs
 
 returns-4 : tie.Need-returns-4
-returns-4 c = search kind-lookup
+unfolding step
+returns-4 c = (search plays, search output)
 
-verdict-requires : tie.Need-verdict-requires
-verdict-requires c κs = search needs
+enum-known-call-4 : tie.Need-enum-known-call-4
+enum-known-call-4 c = search needs
+
+lookup-requires : tie.Need-lookup-requires
+lookup-requires c κs = search needs
 
 same-length-9 : tie.Need-same-length-9
 same-length-9 c = search needs
@@ -62,10 +82,14 @@ same-length-10 : tie.Need-same-length-10
 same-length-10 c = search needs
 
 returns-5 : tie.Need-returns-5
-returns-5 c = search kind-verdict
+unfolding step
+returns-5 c = (search plays, search output)
 
-read-requires : tie.Need-read-requires
-read-requires c κs = search needs
+enum-told-2 : tie.Need-enum-told-2
+enum-told-2 c = search needs
+
+verdict-requires : tie.Need-verdict-requires
+verdict-requires c κs = search needs
 
 same-length-11 : tie.Need-same-length-11
 same-length-11 c = search needs
@@ -74,7 +98,11 @@ same-length-12 : tie.Need-same-length-12
 same-length-12 c = search needs
 
 returns-6 : tie.Need-returns-6
-returns-6 c = search kind-read
+unfolding step
+returns-6 c = (search plays, search output)
+
+enum-told-3 : tie.Need-enum-told-3
+enum-told-3 c = search needs
 
 write-requires : tie.Need-write-requires
 write-requires c κs = search needs
@@ -85,54 +113,71 @@ same-length-13 c = search needs
 same-length-14 : tie.Need-same-length-14
 same-length-14 c = search needs
 
-returns-7 : tie.Need-returns-7
-returns-7 c = search kind-write
-
-lookup-requires-2 : tie.Need-lookup-requires-2
-lookup-requires-2 c κs = search needs
-
 same-length-15 : tie.Need-same-length-15
 same-length-15 c = search needs
+
+returns-7 : tie.Need-returns-7
+unfolding step
+returns-7 c = (search plays, search output)
+
+enum-told-4 : tie.Need-enum-told-4
+enum-told-4 c = search needs
+
+sound-requires : tie.Need-sound-requires
+sound-requires c κs = search needs
 
 same-length-16 : tie.Need-same-length-16
 same-length-16 c = search needs
 
+same-length-17 : tie.Need-same-length-17
+same-length-17 c = search needs
+
 returns-8 : tie.Need-returns-8
-returns-8 c = search kind-other
+unfolding step
+returns-8 c = (search plays, search output)
 
 pub play-spec : {M : Type 1} → statement M
 play-spec =
     tie.close
     (tie.spec
+    enum-known-call
     found-requires
     same-length
     same-length-2
     returns
-    begin-requires
+    enum-told
+    read-requires
     same-length-3
     same-length-4
     returns-2
-    deliver-requires
+    enum-known-call-2
+    begin-requires
     same-length-5
     same-length-6
     returns-3
-    lookup-requires
+    enum-known-call-3
+    deliver-requires
     same-length-7
     same-length-8
     returns-4
-    verdict-requires
+    enum-known-call-4
+    lookup-requires
     same-length-9
     same-length-10
     returns-5
-    read-requires
+    enum-told-2
+    verdict-requires
     same-length-11
     same-length-12
     returns-6
+    enum-told-3
     write-requires
     same-length-13
     same-length-14
-    returns-7
-    lookup-requires-2
     same-length-15
+    returns-7
+    enum-told-4
+    sound-requires
     same-length-16
+    same-length-17
     returns-8)

@@ -1,14 +1,14 @@
 -- `read`: the words of the public call. Assumes nothing.
-use Rattle.replay_calls.proofs.Ones.{read-words}
 use borrow.Author.Needs.{needs}
+use Rattle.replay_calls.proofs.Ones.{refusal-words}
 use Rattle.replay_calls.proofs.one.read.Statement.{statement}
 use Rattle.replay_calls.proofs.one.read.Tie as tie
 
-image-requires : tie.Need-image-requires
-image-requires c κs = search needs
-
 read-requires : tie.Need-read-requires
 read-requires c κs = search needs
+
+refusal-alone-requires : tie.Need-refusal-alone-requires
+refusal-alone-requires c κs = search needs
 
 same-length : tie.Need-same-length
 same-length c = search needs
@@ -17,7 +17,8 @@ same-length-2 : tie.Need-same-length-2
 same-length-2 c = search needs
 
 returns : tie.Need-returns
-returns c = search read-words
+returns c = search refusal-words
 
 pub read-spec : {M : Type 1} → statement M
-read-spec = tie.close (tie.spec image-requires read-requires same-length same-length-2 returns)
+read-spec =
+    tie.close (tie.spec read-requires refusal-alone-requires same-length same-length-2 returns)

@@ -1,6 +1,6 @@
 -- `verdict`: the words of the public call. Assumes nothing.
-use Rattle.replay_calls.proofs.Ones.{verdict-words}
 use borrow.Author.Needs.{needs}
+use Rattle.replay_calls.proofs.Ones.{verdict-words}
 use Rattle.replay_calls.proofs.one.verdict.Statement.{statement}
 use Rattle.replay_calls.proofs.one.verdict.Tie as tie
 

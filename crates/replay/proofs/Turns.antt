@@ -1,0 +1,138 @@
+-- What one line does to the network, and what is said of it. Assumes nothing.
+use Prim.Native.Nat.{ℕ}
+use mathlib.Core.Path.{_≡_, refl, sym, ap, subst, _∙_}
+use mathlib.Core.List.{List, []}
+use native.Mathlib.Omega.{arith}
+use borrow.Author.Tests.{eq-eqb, ne-eqb}
+use Rattle.model.specs.Memory.{Memory}
+use Rattle.model.specs.Refusals.{lookupRefusal}
+use Rattle.model.specs.Run as book
+use Rattle.model.specs.Run.{step, after}
+use Rattle.model.proofs.Status.{IsNode}
+use Rattle.model.proofs.Sound.{Sound}
+use Rattle.model.proofs.Taken.{lookup-taken}
+use Rattle.putting.specs.Put.{Put}
+use Rattle.putting.proofs.Putting.{put-none, put-then}
+use Rattle.text.specs.Ascii.{ascii}
+use Rattle.text.specs.Lines.{labelled}
+use Rattle.calls.specs.declared.Call.{Call}
+use Rattle.replay_calls.specs.Called.{called}
+use Rattle.replay_calls.specs.Answered.{padded, Played, playing, listed, shown}
+use Rattle.replay_calls.specs.declared.answer.Words.{Words}
+use Rattle.replay_table.specs.TableText.{tableText}
+use Rattle.replay_words.specs.Refused.{refusedText}
+use Rattle.replay_words.specs.Said.{said}
+use Rattle.script.specs.Commands.{commandOf}
+use Rattle.script.specs.declared.command.Command.{Command}
+use Rattle.script.specs.declared.command.Command.the-variants as is
+use Rattle.replay.specs.Said.{tableSaid, unknownSaid, commandSaid, commandAfter}
+use Rattle.replay.specs.Script.{Saved, Loaded, Turn}
+
+-- ---- a call, played
+
+module _ (m m₁ : Memory) (w : Words) (c : book.Call) (e : shown m₁ w ≡ playing (step m c)) where
+  pub played-memory : m₁ ≡ after m c
+  unfolding playing after
+  played-memory = ap (λ (p : Played). p .memory) e
+
+  pub played-answer : listed w ≡ padded (step m c .answer)
+  unfolding playing
+  played-answer = ap (λ (p : Played). p .words) e
+
+  pub played-words : (call : Call) (n : ℕ) (o p : List ℕ) (g : ℕ) → Put o 0 (said n call (listed w)) p g
+      → Put o 0 (said n call (padded (step m c .answer))) p g
+  played-words call n o p g P = subst (λ (l : List ℕ). Put o 0 (said n call l) p g) played-answer P
+
+-- ---- a table; r is the refusal that the code found
+
+module _ (m : Memory) (x r : ℕ) (e : r ≡ lookupRefusal m x x) where
+  pub shows : r ≡ 0 → Sound (m .state) (m .tables) × IsNode (m .state) x
+  shows z = let k = lookup-taken m x x (sym e ∙ z) in (k .0, k .1)
+
+  module _ (o : List ℕ) (p : List ℕ) (g : ℕ) where
+    pub table-refused : (r ≡ 0 → ⊥) → Put o 0 (refusedText r) p g → Put o 0 (tableSaid m x) p g
+    unfolding tableSaid
+    table-refused nz P = rw (sym e, ne-eqb r 0 nz) P
+
+    pub table-shown : r ≡ 0 → Put o 0 (tableText (m .state) (m .tables) x) p g → Put o 0 (tableSaid m x) p g
+    unfolding tableSaid
+    table-shown z P = rw (sym e, eq-eqb r 0 z) P
+
+-- ---- a line that is no command
+
+pub unknown-put : (number : ℕ) (o : List ℕ) (p : List ℕ) (g : ℕ) (q : List ℕ) (h : ℕ) → Put o 0 (labelled (ascii "line ") number) p g
+    → Put p g (ascii ": not understood\n") q h → Put o 0 (unknownSaid number) q h
+unfolding unknownSaid
+unknown-put number o p g q h P Q = put-then o 0 _ p g _ q h P Q
+
+-- ---- the command decides
+
+module _ (m : Memory) (number : ℕ) (command : Command) where
+  leaves : (c : Command) → command ≡ c → (m₁ : Memory) → m₁ ≡ commandAfter m c → m₁ ≡ commandAfter m command
+  leaves c e m₁ f = f ∙ ap (commandAfter m) (sym e)
+
+  says : (c : Command) → command ≡ c → (o p : List ℕ) (g : ℕ) → Put o 0 (commandSaid m number c) p g → Put o 0 (commandSaid m number command) p g
+  says c e o p g P = subst (λ (c : Command). Put o 0 (commandSaid m number c) p g) (sym e) P
+
+  pub call-leaves : (c : Call) → command ≡ is.Call c → (m₁ : Memory) → m₁ ≡ after m (called [] [] c) → m₁ ≡ commandAfter m command
+  call-leaves c e = leaves (is.Call c) e
+
+  pub nothing-leaves : command ≡ is.Nothing → m ≡ commandAfter m command
+  nothing-leaves e = leaves is.Nothing e m refl
+
+  pub unknown-leaves : command ≡ is.Unknown → m ≡ commandAfter m command
+  unknown-leaves e = leaves is.Unknown e m refl
+
+  pub save-leaves : command ≡ is.Save → m ≡ commandAfter m command
+  save-leaves e = leaves is.Save e m refl
+
+  pub load-leaves : command ≡ is.Load → m ≡ commandAfter m command
+  load-leaves e = leaves is.Load e m refl
+
+  pub table-leaves : (x : ℕ) → command ≡ is.Table x → m ≡ commandAfter m command
+  table-leaves x e = leaves (is.Table x) e m refl
+
+  module _ (o p : List ℕ) (g : ℕ) where
+    pub unknown-says : command ≡ is.Unknown → Put o 0 (unknownSaid number) p g → Put o 0 (commandSaid m number command) p g
+    unknown-says e = says is.Unknown e o p g
+
+    pub call-says : (c : Call) → command ≡ is.Call c → Put o 0 (said 0 c (padded (step m (called [] [] c) .answer))) p g
+        → Put o 0 (commandSaid m number command) p g
+    call-says c e = says (is.Call c) e o p g
+
+    pub table-says : (x : ℕ) → command ≡ is.Table x → Put o 0 (tableSaid m x) p g → Put o 0 (commandSaid m number command) p g
+    table-says x e = says (is.Table x) e o p g
+
+  module _ (o : List ℕ) where
+    pub nothing-says : command ≡ is.Nothing → Put o 0 (commandSaid m number command) o 0
+    nothing-says e = says is.Nothing e o o 0 (put-none o 0 (omega arith))
+
+    pub save-says : command ≡ is.Save → Put o 0 (commandSaid m number command) o 0
+    save-says e = says is.Save e o o 0 (put-none o 0 (omega arith))
+
+    pub load-says : command ≡ is.Load → Put o 0 (commandSaid m number command) o 0
+    load-says e = says is.Load e o o 0 (put-none o 0 (omega arith))
+
+module _ (line : List ℕ) (m m₁ : Memory) (command : Command) (e : command ≡ commandOf line) where
+  by-command : (c : Command) → command ≡ c → Turn c m m₁ → Turn (commandOf line) m m₁
+  by-command c f turn = subst (λ (c : Command). Turn c m m₁) (sym f ∙ e) turn
+
+  pub line-save : command ≡ is.Save → Saved m m₁ → Turn (commandOf line) m m₁
+  line-save f h = by-command is.Save f h
+
+  pub line-load : command ≡ is.Load → Loaded m m₁ → Turn (commandOf line) m m₁
+  line-load f h = by-command is.Load f h
+
+  -- a line that needs no file
+  module _ (h : m₁ ≡ commandAfter m command) where
+    pub line-nothing : command ≡ is.Nothing → Turn (commandOf line) m m₁
+    line-nothing f = by-command is.Nothing f (h ∙ ap (commandAfter m) f)
+
+    pub line-unknown : command ≡ is.Unknown → Turn (commandOf line) m m₁
+    line-unknown f = by-command is.Unknown f (h ∙ ap (commandAfter m) f)
+
+    pub line-call : (c : Call) → command ≡ is.Call c → Turn (commandOf line) m m₁
+    line-call c f = by-command (is.Call c) f (h ∙ ap (commandAfter m) f)
+
+    pub line-table : (x : ℕ) → command ≡ is.Table x → Turn (commandOf line) m m₁
+    line-table x f = by-command (is.Table x) f (h ∙ ap (commandAfter m) f)

@@ -1,0 +1,3 @@
+-- What the contracts of the player of scripts cite.
+pub mod Said
+pub mod Script

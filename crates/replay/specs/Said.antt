@@ -1,0 +1,44 @@
+-- What is said of a line that needs no file, and what such a line does to the network.
+use Prim.Native.Nat.{ℕ}
+use mathlib.Core.Bool.{cond}
+use mathlib.Core.List.{List, [], _++_}
+use lib.Dec.{eqb}
+use Rattle.model.specs.Memory.{Memory}
+use Rattle.model.specs.Refusals.{lookupRefusal}
+use Rattle.text.specs.Ascii.{ascii}
+use Rattle.text.specs.Lines.{labelled}
+use Rattle.replay_calls.specs.Called.{called}
+use Rattle.replay_calls.specs.Answered.{padded}
+use Rattle.replay_table.specs.TableText.{tableText}
+use Rattle.replay_words.specs.Refused.{refusedText}
+use Rattle.replay_words.specs.Said.{said}
+use Rattle.model.specs.Run.{step, after}
+use Rattle.script.specs.declared.command.Command.{Command}
+use Rattle.script.specs.declared.command.Command.the-variants.{Nothing, Unknown, Call, Save, Load, Table}
+
+-- `table`: the refusal that a lookup from the node to itself would have, or the node's record and table
+unfoldable pub tableSaid : Memory → ℕ → List ℕ
+tableSaid m x =
+    cond (eqb (lookupRefusal m x x) 0) (tableText (m .state) (m .tables) x) (refusedText (lookupRefusal m x x))
+
+-- a line that is no command, by its number
+unfoldable pub unknownSaid : ℕ → List ℕ
+unknownSaid number = labelled (ascii "line ") number ++ ascii ": not understood\n"
+
+-- what is said of a line with this number, where it needs no file: m is the network before it
+abbrev pub commandSaid : Memory → ℕ → Command → List ℕ
+commandSaid m number Nothing = []
+commandSaid m number Unknown = unknownSaid number
+commandSaid m number (Call c) = said 0 c (padded (step m (called [] [] c) .answer))
+commandSaid m number Save = []
+commandSaid m number Load = []
+commandSaid m number (Table x) = tableSaid m x
+
+-- the network after such a line
+abbrev pub commandAfter : Memory → Command → Memory
+commandAfter m Nothing = m
+commandAfter m Unknown = m
+commandAfter m (Call c) = after m (called [] [] c)
+commandAfter m Save = m
+commandAfter m Load = m
+commandAfter m (Table x) = m

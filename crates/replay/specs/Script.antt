@@ -1,0 +1,73 @@
+-- What a script does to the network: its lines one after another, each by the book's call. What a file holds is not known here: a line
+-- that loads one reads some image, or none where the file cannot be read.
+use Prim.Native.Nat.{ℕ}
+use mathlib.Core.Path.{_≡_}
+use mathlib.Core.Logic.{_⊎_}
+use mathlib.Core.Bool.{true, cond}
+use mathlib.Core.List.{List, [], _∷_, _++_}
+use lib.Dec.{eqb}
+use Rattle.model.specs.Memory.{Memory}
+use Rattle.model.specs.Run as book
+use Rattle.model.specs.Run.{after, play, isRun}
+use Rattle.promise.specs.Promise.{Promise}
+use Rattle.replay_calls.specs.Called.{called}
+use Rattle.script.specs.Commands.{commandOf}
+use Rattle.script.specs.declared.command.Command.{Command}
+use Rattle.script.specs.declared.command.Command.the-variants.{Nothing, Unknown, Call, Save, Load, Table}
+
+-- one byte more at the start of the first line
+abbrev pub inFront : ℕ → List (List ℕ) → List (List ℕ)
+inFront b [] = (b ∷ []) ∷ []
+inFront b (line ∷ lines) = (b ∷ line) ∷ lines
+
+-- the lines of a script: byte 10 ends one, and the last may do without
+unfoldable pub linesOf : List ℕ → List (List ℕ)
+linesOf [] = []
+linesOf (b ∷ bs) = let more = linesOf bs in cond (eqb b 10) ([] ∷ more) (inFront b more)
+
+-- the image was written to some memory
+abbrev pub Saved : Memory → Memory → Type 0
+Saved m m₁ = (out : List ℕ) × (m₁ ≡ after m (book.write out))
+
+-- an image was read, or nothing was done
+abbrev pub Loaded : Memory → Memory → Type 0
+Loaded m m₁ = (m₁ ≡ m) ⊎ ((image : List ℕ) × (m₁ ≡ after m (book.read image)))
+
+-- what a command does: m before it, m₁ after it
+abbrev pub Turn : Command → Memory → Memory → Type 0
+Turn Nothing m m₁ = m₁ ≡ m
+Turn Unknown m m₁ = m₁ ≡ m
+Turn (Call c) m m₁ = m₁ ≡ after m (called [] [] c)
+Turn Save m m₁ = Saved m m₁
+Turn Load m m₁ = Loaded m m₁
+Turn (Table x) m m₁ = m₁ ≡ m
+
+-- the lines, one after another
+unfoldable pub Follows : List (List ℕ) → Memory → Memory → Type 0
+Follows [] m left = left ≡ m
+Follows (line ∷ lines) m left = (m₁ : Memory) × Turn (commandOf line) m m₁ × Follows lines m₁ left
+
+-- ---- the calls of a script
+
+-- the calls of a command
+abbrev pub Calls : Command → List book.Call → Type 0
+Calls Nothing cs = cs ≡ []
+Calls Unknown cs = cs ≡ []
+Calls (Call c) cs = cs ≡ called [] [] c ∷ []
+Calls Save cs = (out : List ℕ) × (cs ≡ book.write out ∷ [])
+Calls Load cs = (cs ≡ []) ⊎ ((image : List ℕ) × (cs ≡ book.read image ∷ []))
+Calls (Table x) cs = cs ≡ []
+
+-- the calls of the lines, one line's behind another's
+unfoldable pub AllCalls : List (List ℕ) → List book.Call → Type 0
+AllCalls [] cs = cs ≡ []
+AllCalls (line ∷ lines) cs =
+    (first : List book.Call) × (rest : List book.Call) × Calls (commandOf line) first × AllCalls lines rest × (cs ≡ first ++ rest)
+
+-- the memory that a script leaves is that of its calls, and of every run among them demand 3 holds
+pub record RunKept (lines : List (List ℕ)) (m left : Memory) : Type 0 where
+  pub calls : List book.Call
+  pub calls-are : AllCalls lines calls
+  pub left-is : left ≡ play m calls
+  pub promise : (before : List book.Call) (c : book.Call) (cs : List book.Call) → calls ≡ before ++ (c ∷ cs) → isRun (play m before) c cs ≡ true
+      → Promise (play m before) c cs

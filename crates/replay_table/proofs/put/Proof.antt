@@ -1,0 +1,29 @@
+-- `put`: the first line, and the entries behind it. Assumes nothing.
+use native.Mathlib.Omega.{arith}
+use borrow.Author.Needs.{needs}
+use Rattle.replay_table.proofs.Pieces.{table-put}
+use Rattle.replay_table.proofs.put.Statement.{statement}
+use Rattle.replay_table.proofs.put.Tie as tie
+
+load-requires : tie.Need-load-requires
+load-requires c κs = search needs
+
+head-requires : tie.Need-head-requires
+head-requires c κs = search needs
+
+lent-requires : tie.Need-lent-requires
+lent-requires c κs = search needs
+
+entries-requires : tie.Need-entries-requires
+entries-requires c κs = search needs
+
+same-length : tie.Need-same-length
+same-length c = search needs
+
+returns : tie.Need-returns
+returns c = (search table-put, omega arith)
+
+pub put-spec : {M : Type 1} → statement M
+put-spec =
+    tie.close
+    (tie.spec load-requires head-requires lent-requires entries-requires same-length returns)

@@ -1,0 +1,43 @@
+-- A node's record and table as text: the node, its id and its status, then a line for each entry that is not empty.
+use Prim.Native.Nat.{ℕ}
+use mathlib.Core.Bool.{cond}
+use mathlib.Core.List.{List, [], _++_}
+use lib.Dec.{eqb}
+use Rattle.model.specs.Loops.{joinBelow}
+use Rattle.model.specs.Memory.{base, digits, depth, idOf, statusOf, inSystem, copying, waiting, tableOf}
+use Rattle.model.specs.Tables.{slotAt}
+use Rattle.text.specs.Ascii.{ascii}
+use Rattle.text.specs.Numbers.{hexadecimal}
+use Rattle.text.specs.Lines.{labelled}
+
+-- the paper's word for a status
+unfoldable pub statusText : ℕ → List ℕ
+statusText status =
+    cond (eqb status inSystem) (ascii "settled") (cond (eqb status copying) (ascii "copying") (cond (eqb status waiting) (ascii "waiting") (ascii "notifying")))
+
+-- node x, its id in as many hexadecimal digits as ids have, and its status
+unfoldable pub headText : List ℕ → ℕ → List ℕ
+headText s x =
+    labelled (ascii "table ") x
+    ++ (ascii ": id " ++ (hexadecimal (digits s) (idOf s x) ++ (ascii ", " ++ (statusText (statusOf s x) ++ ascii "\n"))))
+
+-- the neighbour in slot k of entry (i, j); nothing where the slot is empty
+unfoldable pub slotText : List ℕ → ℕ → ℕ → ℕ → List ℕ
+slotText T i j k = cond (eqb (slotAt T i j k) 0) [] (labelled (ascii " ") (slotAt T i j k))
+
+-- entry (i, j) of depth K with its neighbours in slot order; nothing for an empty entry
+unfoldable pub entryText : ℕ → List ℕ → ℕ → ℕ → List ℕ
+entryText K T i j =
+    cond (eqb (slotAt T i j 0) 0) []
+    (labelled (ascii "  level ") i ++ (ascii " digit " ++ (hexadecimal 1 j ++ (ascii ":" ++ (joinBelow K (slotText T i j) ++ ascii "\n")))))
+
+-- the entries of level i, by rising digit
+unfoldable pub levelText : ℕ → ℕ → List ℕ → ℕ → List ℕ
+levelText b K T i = joinBelow b (entryText K T i)
+
+-- the entries of table T, by rising level
+unfoldable pub entriesText : ℕ → ℕ → ℕ → List ℕ → List ℕ
+entriesText d b K T = joinBelow d (levelText b K T)
+
+unfoldable pub tableText : List ℕ → List ℕ → ℕ → List ℕ
+tableText s t x = headText s x ++ entriesText (digits s) (base s) (depth s) (tableOf t x)

@@ -1,0 +1,21 @@
+-- `looked_up`: how it ended, and the hops. Assumes nothing.
+use native.Mathlib.Omega.{arith}
+use borrow.Author.Needs.{needs}
+use Rattle.replay_words.proofs.Words.{looked-up-put}
+use Rattle.replay_words.proofs.answer.looked_up.Statement.{statement}
+use Rattle.replay_words.proofs.answer.looked_up.Tie as tie
+
+ended-requires : tie.Need-ended-requires
+ended-requires c κs = search needs
+
+hops-requires : tie.Need-hops-requires
+hops-requires c κs = search needs
+
+same-length : tie.Need-same-length
+same-length c = search needs
+
+returns : tie.Need-returns
+returns c = (search looked-up-put, omega arith)
+
+pub looked-up-spec : {M : Type 1} → statement M
+looked-up-spec = tie.close (tie.spec ended-requires hops-requires same-length returns)

@@ -1,0 +1,28 @@
+-- `sentence`: of the one half or the other. Assumes nothing.
+use native.Mathlib.Omega.{arith}
+use borrow.Author.Needs.{needs}
+use Rattle.replay_words.proofs.Words.{sentence-low, sentence-high}
+use Rattle.replay_words.proofs.refused.sentence.Statement.{statement}
+use Rattle.replay_words.proofs.refused.sentence.Tie as tie
+
+to-8-requires : tie.Need-to-8-requires
+to-8-requires c κs = search needs
+
+same-length : tie.Need-same-length
+same-length c = search needs
+
+returns : tie.Need-returns
+returns c = (search sentence-low, omega arith)
+
+from-9-requires : tie.Need-from-9-requires
+from-9-requires c κs = search needs
+
+same-length-2 : tie.Need-same-length-2
+same-length-2 c = search needs
+
+returns-2 : tie.Need-returns-2
+returns-2 c = (search sentence-high, omega arith)
+
+pub sentence-spec : {M : Type 1} → statement M
+sentence-spec =
+    tie.close (tie.spec to-8-requires same-length returns from-9-requires same-length-2 returns-2)

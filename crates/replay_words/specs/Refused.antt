@@ -1,0 +1,36 @@
+-- A refusal in words: its number, and its sentence of docs/REFUSALS.md in short.
+use Prim.Native.Nat.{ℕ}
+use mathlib.Core.Bool.{cond}
+use mathlib.Core.List.{List, [], _++_}
+use lib.Dec.{eqb, ltb}
+use Rattle.text.specs.Ascii.{ascii}
+use Rattle.text.specs.Lines.{labelled}
+
+unfoldable pub sentenceTo8 : ℕ → List ℕ
+sentenceTo8 n =
+    cond (eqb n 1) (ascii "the lent memory is too short")
+    (cond (eqb n 2) (ascii "the state is not sound")
+    (cond (eqb n 3) (ascii "the image has fewer than 5 bytes or does not begin with 4")
+    (cond (eqb n 4) (ascii "the image's version is not 1")
+    (cond (eqb n 5) (ascii "a setting is out of range")
+    (cond (eqb n 6) (ascii "the image's node count is wrong, or its length differs from its counts")
+    (cond (eqb n 7) (ascii "an id has a digit not below the base, or a bit above its digits")
+    (cond (eqb n 8) (ascii "an id is taken already") [])))))))
+
+unfoldable pub sentenceFrom9 : ℕ → List ℕ
+sentenceFrom9 n =
+    cond (eqb n 9) (ascii "a node number is 0 or above the number of nodes")
+    (cond (eqb n 10) (ascii "the image's records break their order or the table rules")
+    (cond (eqb n 11) (ascii "there are 64 nodes already")
+    (cond (eqb n 12) (ascii "the gateway is not settled")
+    (cond (eqb n 13) (ascii "no request from the first node to the second is outstanding")
+    (cond (eqb n 14) (ascii "the receiver of a wait request is not settled")
+    (cond (eqb n 15) (ascii "a node is not settled")
+    (cond (eqb n 16) (ascii "the memory for the image is too short") [])))))))
+
+-- a number that no sentence has is left without words
+unfoldable pub sentence : ℕ → List ℕ
+sentence n = cond (ltb n 9) (sentenceTo8 n) (sentenceFrom9 n)
+
+unfoldable pub refusedText : ℕ → List ℕ
+refusedText n = labelled (ascii "refused ") n ++ (ascii ": " ++ (sentence n ++ ascii "\n"))

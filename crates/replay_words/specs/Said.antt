@@ -1,0 +1,65 @@
+-- The answer of a call in words. w is the answer, the refusal first.
+use Prim.Native.Nat.{ℕ}
+use mathlib.Core.Bool.{cond}
+use mathlib.Core.List.{List, _++_}
+use lib.Dec.{eqb}
+use lib.ListN.{getD}
+use Rattle.model.specs.Join.{kindCopied, kindSentOn, kindAttached}
+use Rattle.calls.specs.declared.Call.{Call}
+use Rattle.calls.specs.declared.Call.the-variants.{Found, Read, Begin, Deliver, Lookup, Verdict, Write, Sound}
+use Rattle.text.specs.Ascii.{ascii}
+use Rattle.text.specs.Numbers.{hexadecimal}
+use Rattle.text.specs.Lines.{labelled, line}
+use Rattle.replay_words.specs.Refused.{refusedText}
+
+-- a label, how many bytes, and the line's end
+unfoldable pub bytesText : List ℕ → ℕ → List ℕ
+bytesText label n = labelled label n ++ ascii " bytes\n"
+
+-- what a delivery was
+unfoldable pub kindText : ℕ → ℕ → List ℕ
+kindText kind level =
+    cond (eqb kind kindCopied) (ascii "deliver: copied")
+    (cond (eqb kind kindSentOn) (ascii "deliver: sent on")
+    (cond (eqb kind kindAttached) (labelled (ascii "deliver: attached at level ") level) (ascii "deliver: notified")))
+
+-- whether the sender settled
+unfoldable pub settledText : ℕ → List ℕ
+settledText settled = cond (eqb settled 1) (ascii ", settled\n") (ascii "\n")
+
+unfoldable pub deliverText : List ℕ → List ℕ
+deliverText w = kindText (getD w 1 0) (getD w 2 0) ++ settledText (getD w 3 0)
+
+unfoldable pub endText : ℕ → List ℕ
+endText arrived = cond (eqb arrived 1) (ascii "lookup: arrived at ") (ascii "lookup: lost at ")
+
+unfoldable pub hopsText : ℕ → List ℕ
+hopsText hops = labelled (ascii " in ") hops ++ cond (eqb hops 1) (ascii " hop\n") (ascii " hops\n")
+
+unfoldable pub lookupText : List ℕ → List ℕ
+lookupText w = labelled (endText (getD w 1 0)) (getD w 3 0) ++ hopsText (getD w 2 0)
+
+-- the place of an entry that falls short; its digit is hexadecimal
+unfoldable pub shortText : ℕ → ℕ → ℕ → List ℕ
+shortText x i j =
+    labelled (ascii "verdict: node ") x
+    ++ (labelled (ascii " level ") i ++ (ascii " digit " ++ (hexadecimal 1 j ++ ascii " falls short\n")))
+
+unfoldable pub judgedText : List ℕ → List ℕ
+judgedText w =
+    cond (eqb (getD w 1 0) 1) (ascii "verdict: consistent\n") (shortText (getD w 2 0) (getD w 3 0) (getD w 4 0))
+
+-- a call that was taken; the image that it read has n bytes
+unfoldable pub takenText : ℕ → Call → List ℕ → List ℕ
+takenText n (Found b d K id) w = ascii "found: node 1\n"
+takenText n Read w = bytesText (ascii "load: ") n
+takenText n (Begin id gateway) w = line (ascii "begin: node ") (getD w 1 0)
+takenText n (Deliver x y) w = deliverText w
+takenText n (Lookup u z) w = lookupText w
+takenText n Verdict w = judgedText w
+takenText n Write w = bytesText (ascii "save: ") (getD w 1 0)
+takenText n Sound w = ascii "sound: the state is sound\n"
+
+-- what is said of any answer: refused or taken
+unfoldable pub said : ℕ → Call → List ℕ → List ℕ
+said n c w = cond (eqb (getD w 0 0) 0) (takenText n c w) (refusedText (getD w 0 0))

@@ -1,0 +1,98 @@
+// A refusal in words.
+ghost use Prim.Native.Nat.{_+_, _≤_};
+ghost use lib.ListN.{length};
+ghost use Rattle.putting.specs.Put.{Put};
+ghost use Rattle.replay_words.specs.Refused.{sentenceTo8, sentenceFrom9, sentence as sentence·text, refusedText};
+use answers::refusal::Refusal;
+use putting::piece;
+
+fn to_8(out: &mut [u8], at: usize, number: u64) -> usize
+    requires { ⌜ at + 80 ≤ length (now out) ⌝ }
+    ensures { λ r. ⌜ Put (now (out .entry)) at (sentenceTo8 number) (now (out .exit)) r ⌝ }
+    ensures { λ r. ⌜ r ≤ at + 80 ⌝ }
+{
+    match number {
+        Refusal::SHORT_MEMORY => return piece(out, at, b"the lent memory is too short"),
+        Refusal::UNSOUND => return piece(out, at, b"the state is not sound"),
+        Refusal::NOT_AN_IMAGE => {
+            return piece(
+                out,
+                at,
+                b"the image has fewer than 5 bytes or does not begin with 4",
+            );
+        }
+        Refusal::IMAGE_VERSION => return piece(out, at, b"the image's version is not 1"),
+        Refusal::BAD_SETTING => return piece(out, at, b"a setting is out of range"),
+        Refusal::IMAGE_COUNTS => {
+            return piece(
+                out,
+                at,
+                b"the image's node count is wrong, or its length differs from its counts",
+            );
+        }
+        Refusal::BAD_ID => {
+            return piece(
+                out,
+                at,
+                b"an id has a digit not below the base, or a bit above its digits",
+            );
+        }
+        Refusal::ID_TAKEN => return piece(out, at, b"an id is taken already"),
+        _ => return at,
+    }
+}
+
+fn from_9(out: &mut [u8], at: usize, number: u64) -> usize
+    requires { ⌜ at + 80 ≤ length (now out) ⌝ }
+    ensures { λ r. ⌜ Put (now (out .entry)) at (sentenceFrom9 number) (now (out .exit)) r ⌝ }
+    ensures { λ r. ⌜ r ≤ at + 80 ⌝ }
+{
+    match number {
+        Refusal::NO_SUCH_NODE => {
+            return piece(out, at, b"a node number is 0 or above the number of nodes");
+        }
+        Refusal::BAD_RECORDS => {
+            return piece(
+                out,
+                at,
+                b"the image's records break their order or the table rules",
+            );
+        }
+        Refusal::FULL => return piece(out, at, b"there are 64 nodes already"),
+        Refusal::GATEWAY_NOT_IN_SYSTEM => return piece(out, at, b"the gateway is not settled"),
+        Refusal::NOT_OUTSTANDING => {
+            return piece(
+                out,
+                at,
+                b"no request from the first node to the second is outstanding",
+            );
+        }
+        Refusal::HELD => return piece(out, at, b"the receiver of a wait request is not settled"),
+        Refusal::JOIN_IN_FLIGHT => return piece(out, at, b"a node is not settled"),
+        Refusal::SHORT_OUTPUT => return piece(out, at, b"the memory for the image is too short"),
+        _ => return at,
+    }
+}
+
+fn sentence(out: &mut [u8], at: usize, number: u64) -> usize
+    requires { ⌜ at + 80 ≤ length (now out) ⌝ }
+    ensures { λ r. ⌜ Put (now (out .entry)) at (sentence·text number) (now (out .exit)) r ⌝ }
+    ensures { λ r. ⌜ r ≤ at + 80 ⌝ }
+{
+    if number < 9 {
+        return to_8(out, at, number);
+    }
+    from_9(out, at, number)
+}
+
+// Puts the refusal's line at the start of out, and answers how many bytes it has.
+pub fn put(out: &mut [u8], number: u64) -> usize
+    requires { ⌜ 111 ≤ length (now out) ⌝ }
+    ensures { λ r. ⌜ Put (now (out .entry)) 0 (refusedText number) (now (out .exit)) r ⌝ }
+    ensures { λ r. ⌜ r ≤ 111 ⌝ }
+{
+    let second = text::labelled(out, 0, b"refused ", number);
+    let third = piece(out, second, b": ");
+    let fourth = sentence(out, third, number);
+    piece(out, fourth, b"\n")
+}
