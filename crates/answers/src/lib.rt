@@ -8,7 +8,7 @@ pub struct BeginAnswer {
     pub node: u64,
 }
 
-// What a delivery was: "copied (any copying sender), sent on (a waiting sender, E full), attached with its level, or notified".
+// What a delivery was: the sender copied, or it waited and was sent on to another or attached, or it notified.
 pub enum Kind {
     // the call was refused, with this number
     Refused(u64),

@@ -7,46 +7,46 @@ impl Refusal {
     // state or tables are shorter than their fixed length
     pub const SHORT_MEMORY: u64 = 1;
 
-    // the state isn't sound
+    // the state is not sound
     pub const UNSOUND: u64 = 2;
 
-    // fewer than 5 bytes, or the first byte isn't 4
+    // the image is shorter than its settings, which take 5 bytes, or does not begin with their count, 4
     pub const NOT_AN_IMAGE: u64 = 3;
 
-    // the image's version isn't 1
+    // the image is of another version than 1
     pub const IMAGE_VERSION: u64 = 4;
 
-    // base 2 to 16, digits 1 to 8, depth 1 to 4
+    // the base is not from 2 to 16, the digits not from 1 to 8, or the depth not from 1 to 4
     pub const BAD_SETTING: u64 = 5;
 
-    // node count missing, 0 or above 64; a length other than the counts say, or above 65,535
+    // the image's node count is missing or not from 1 to 64, or its length is not what the counts say or above 65,535
     pub const IMAGE_COUNTS: u64 = 6;
 
-    // a digit not below the base, or a bit above the digits
+    // an id is not valid: one of its digits is not below the base, or something stands above them
     pub const BAD_ID: u64 = 7;
 
-    // the id is a node's already, or stands twice in the image
+    // a node has the id already, or two of the image have it
     pub const ID_TAKEN: u64 = 8;
 
-    // a node number, in a call or a record, is 0 or above the node count
+    // a number of the call, or of a record of the image, is no node's
     pub const NO_SUCH_NODE: u64 = 9;
 
-    // the image's records break their order or the table rules
+    // the image's records are out of order or break a rule of the tables
     pub const BAD_RECORDS: u64 = 10;
 
     // there are 64 nodes
     pub const FULL: u64 = 11;
 
-    // the gateway isn't in system
+    // the gateway is not in system
     pub const GATEWAY_NOT_IN_SYSTEM: u64 = 12;
 
-    // no request from the sender to the receiver is outstanding
+    // the sender has no request to the receiver outstanding
     pub const NOT_OUTSTANDING: u64 = 13;
 
-    // a waiting sender's receiver isn't in system: the request stays outstanding
+    // the sender waits, and the receiver is not in system: the request stays outstanding
     pub const HELD: u64 = 14;
 
-    // a node isn't in system
+    // some node is not in system
     pub const JOIN_IN_FLIGHT: u64 = 15;
 
     // the memory for the image is too short

@@ -70,8 +70,8 @@ fn whole_nodes(state: &[u64], tables: &[u8], level_0: [u8; 128]) -> usize
     s.nodes
 }
 
-// "The verdict is yes exactly when each entry of each member holds min(K, H) members .. A no gives member, level and digit of the
-// first entry that falls short, in that order."
+// Yes if every entry of every node holds as many nodes as there are for it, K at most; else no, with node, level and digit of the first entry
+// that does not.
 pub fn verdict(state: &[u64], tables: &[u8]) -> Verdict
     requires { ⌜ Sound (now state) (now tables) ⌝ }
     ensures { λ r. ⌜ bookVerdict r ≡ book.verdict (now (state .entry)) (now (tables .entry)) ⌝ }

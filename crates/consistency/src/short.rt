@@ -7,7 +7,7 @@ ghost use Rattle.tables.specs.Places.{Entry};
 ghost use Rattle.consistency.specs.Counted.{meets, misses, levelMisses};
 use tables::entry;
 
-// "min(K, H)"
+// How many nodes an entry must hold: as many as there are for it, K at most.
 fn wanted(depth: usize, many: u8) -> usize
     ensures { λ r. ⌜ r ≡ min depth many ⌝ }
 {
@@ -15,7 +15,7 @@ fn wanted(depth: usize, many: u8) -> usize
     if n < depth { n } else { depth }
 }
 
-// Entry (i, j) "holds min(K, H) members".
+// Entry (i, j) holds that many.
 fn whole(table: &[u8], counts: &[u8; 128], depth: usize, i: usize, j: usize) -> bool
     requires { ⌜ Entry (now table) depth i j ⌝ }
     ensures { λ r. ⌜ r ≡ meets depth (now (table .entry)) (now (counts .entry)) i j ⌝ }

@@ -48,7 +48,7 @@ pub fn level_0(state: &[u64]) -> [u8; 128]
     counts
 }
 
-// "H being how many members qualify, the owner included", for each entry of x.
+// How many nodes qualify for each entry of x, x counted like any other.
 pub fn tally(state: &[u64], level_0: [u8; 128], x: usize) -> [u8; 128]
     requires { ⌜ IdsReadable (now state) ⌝ }
     requires { ⌜ Level0 (now state) level_0 ⌝ }

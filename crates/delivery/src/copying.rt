@@ -1,5 +1,5 @@
-// A copy request: "x learns y's table. If E holds fewer than K, x becomes waiting with target y. Otherwise the target is the first of
-// E: x stays copying if that member is settled, else becomes waiting."
+// A copy request: x learns y's table. If E, y's entry for x, is not full, x will wait at y. If it is full, x goes to its first node, to copy
+// where that is in system and else to wait.
 ghost use mathlib.Core.Path.{_≡_};
 ghost use Rattle.model.specs.Memory.{tableOf};
 ghost use Rattle.model.specs.Join.{deliverCopying};

@@ -1,4 +1,4 @@
-// "What a delivery does is decided by the sender's status."
+// The delivery of a request, by the status of its sender.
 ghost use mathlib.Core.Path.{_≡_};
 ghost use Rattle.model.specs.Join.{delivery};
 ghost use Rattle.model.proofs.Sound.{Sound};

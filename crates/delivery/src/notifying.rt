@@ -1,5 +1,5 @@
-// A notification: "y learns x, x learns y's table, y moves from asked to told, and members of y's table that match x in at least the
-// attach level, aren't x, told or asked, join the asked set."
+// A notification: y learns x, and x learns y's table. y is notified and no longer pending; the nodes of y's table that share at least as many
+// digits with x as its attach level says become pending, but x and the notified.
 ghost use mathlib.Core.Path.{_≡_};
 ghost use Rattle.model.specs.Memory.{tableOf};
 ghost use Rattle.model.specs.Join.{deliverNotifying};
@@ -14,7 +14,7 @@ use delivery_parts::nodes::store_notifying;
 use state::record;
 use state::sets;
 
-// "y learns x, x learns y's table"
+// y learns x, and then x learns y's table.
 fn notify(state: &[u64], tables: &mut [u8], x: usize, y: usize)
     requires { ⌜ Meets (now state) (now tables) x y ⌝ }
     ensures { λ r. ⌜ now (tables .exit) ≡ notifiedTables (now (state .entry)) (now (tables .entry)) x y ⌝ }

@@ -35,12 +35,12 @@ module _ (s t : List ℕ) (x y : ℕ) (r : SuffixEntry) (e : EntryOf s t x y r) 
   asks = deliverCopying s x y (tableOf t x) (tableOf t y) .sender
 
   module _ (q n : Node) (o : bookNode q ≡ nodeOf s x) where
-    -- "If E holds fewer than K, x becomes waiting with target y."
+    -- where E has room, x is to wait at y
     pub asks-receiver : r .room ≡ true → bookNode n ≡ joiningNode (bookNode q) waiting y → bookNode n ≡ asks
     unfolding deliverCopying
     asks-receiver b f = rw (sym (e .room) ∙ b) (f ∙ ap (λ (m : Record). joiningNode m waiting y) o)
 
-    -- "Otherwise the target is the first of E: x stays copying if that member is settled, else becomes waiting."
+    -- where E is full and its first node is in system, x copies from that one next
     pub asks-first : (v : ℕ) → r .room ≡ false → v ≡ statusOf s (r .first) → v ≡ 0 → bookNode n ≡ joiningNode (bookNode q) copying (r .first)
         → bookNode n ≡ asks
     unfolding deliverCopying

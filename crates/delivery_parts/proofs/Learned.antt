@@ -111,7 +111,7 @@ module _ (s t : List ℕ) (x y : ℕ) (m : Meets s t x y) where
 -- ---- after both have learned
 
 module _ (s t : List ℕ) (x y : ℕ) (m : Meets s t x y) where
-  -- "y learns x, x learns y's table"
+  -- y learns x, and then x learns y's table
   pub notified-is : (t₁ t₂ : List ℕ) → t₁ ≡ withTable t y (Ty′ s t x y m)
       → t₂ ≡ withTable t₁ x (learnTable s x (tableOf t₁ y) (tableOf t₁ x)) → t₂ ≡ notifiedTables s t x y
   notified-is t₁ t₂ e f =

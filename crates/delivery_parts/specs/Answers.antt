@@ -9,8 +9,7 @@ use Rattle.answers.specs.declared.Kind.{Kind}
 use Rattle.answers.specs.declared.Kind.the-variants.{Refused, Copied, SentOn, Attached, Notified}
 use Rattle.answers.specs.declared.DeliverAnswer.{DeliverAnswer}
 
--- the refusal, the kind, the level where it attached, and 1 if the sender settled: "A refusal gives its number with every other answer
--- field zero"
+-- the refusal, the kind, the level where it attached, and 1 if the sender settled; on a refusal zeros behind its number
 abbrev pub kindFields : Kind → ℕ → List ℕ
 kindFields (Refused number) settled = number ∷ 0 ∷ 0 ∷ 0 ∷ []
 kindFields Copied settled = 0 ∷ kindCopied ∷ 0 ∷ settled ∷ []

@@ -70,7 +70,7 @@ pub record Level (T : List ℕ) (K i : ℕ) : Type 0 where
   pub depth : K ≤ 4
   pub level : i < 8
 
--- "y entry (i, digit i of x) .. holds fewer than K", by x's id
+-- entry (i, digit i of x) is not full, by x's id
 abbrev pub roomAt : ℕ → List ℕ → ℕ → ℕ → Bool
 roomAt K T id i = ltb (entrySize K T i (digitOf id i)) K
 

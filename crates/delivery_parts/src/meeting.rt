@@ -10,7 +10,7 @@ use learning::learn::learn_table;
 use learning::learner::Learner;
 use tables::part;
 
-// x's table after "x learns y's table": its own is copied to learn, y's is lent.
+// x's table after it has learned y's: its own is copied to learn, y's is lent.
 pub fn learned(state: &[u64], tables: &[u8], x: usize, y: usize) -> [u8; 512]
     requires { ⌜ Meets (now state) (now tables) x y ⌝ }
     ensures { λ r. ⌜ r ≡ learning.learnTable (now (state .entry)) x (tableOf (now (tables .entry)) y) (tableOf (now (tables .entry)) x) ⌝ }
@@ -21,7 +21,7 @@ pub fn learned(state: &[u64], tables: &[u8], x: usize, y: usize) -> [u8; 512]
     own
 }
 
-// "x learns y's table"
+// x learns y's table.
 pub fn learn_from(state: &[u64], tables: &mut [u8], x: usize, y: usize)
     requires { ⌜ Meets (now state) (now tables) x y ⌝ }
     ensures { λ r. ⌜ now (tables .exit) ≡ withTable (now (tables .entry)) x (learning.learnTable (now (state .entry)) x (tableOf (now (tables .entry)) y) (tableOf (now (tables .entry)) x)) ⌝ }
@@ -30,7 +30,7 @@ pub fn learn_from(state: &[u64], tables: &mut [u8], x: usize, y: usize)
     part::copy_out(tables, x, &own);
 }
 
-// "y learns x"
+// y learns x.
 pub fn teach(state: &[u64], tables: &mut [u8], x: usize, y: usize)
     requires { ⌜ Meets (now state) (now tables) x y ⌝ }
     ensures { λ r. ⌜ now (tables .exit) ≡ withTable (now (tables .entry)) y (learning.learn (now (state .entry)) y x (tableOf (now (tables .entry)) y)) ⌝ }

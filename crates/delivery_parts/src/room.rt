@@ -10,7 +10,7 @@ use learning::learner::Learner;
 use tables::entry;
 use tables::part;
 
-// "y entry (i, digit i of x) .. holds fewer than K"
+// y's entry for x at level i, (i, digit i of x), is not full.
 fn has_room(sender: Learner, theirs: &[u8], i: usize) -> bool
     requires { ⌜ Level (now theirs) (sender .depth) i ⌝ }
     ensures { λ r. ⌜ r ≡ roomAt (sender .depth) (now (theirs .entry)) (sender .id) i ⌝ }
@@ -19,7 +19,7 @@ fn has_room(sender: Learner, theirs: &[u8], i: usize) -> bool
     size < sender.depth
 }
 
-// E, "y's entry (h, digit h of x) before the step": whether it holds fewer than K, and its first.
+// The paper's E, y's entry for x at level h before the step: whether it has room, and its first node.
 pub struct SuffixEntry {
     pub room: bool,
     pub first: usize,
@@ -38,8 +38,8 @@ pub fn suffix_entry(state: &[u64], tables: &[u8], x: usize, y: usize) -> SuffixE
     }
 }
 
-// "the attach level is the lowest k such that each y entry (i, digit i of x), k to h, holds fewer than K": E does, and k goes down
-// until the level below is full.
+// The attach level: the lowest from which on, up to h, y's entries for x have room at every level. E has room, and k goes down until the level
+// below is full.
 pub fn attach_level(state: &[u64], tables: &[u8], x: usize, y: usize) -> usize
     requires { ⌜ Delivers (now state) (now tables) x y ⌝ }
     requires { ⌜ roomAtSuffix (now state) (tableOf (now tables) y) x y ≡ true ⌝ }

@@ -1,4 +1,4 @@
-// A wait request to a node in system: "If E holds K, x learns y's table and the target becomes the first of E." Otherwise x attaches.
+// A wait request to a node in system: where E, y's entry for x, is full, x learns y's table and goes on to the first node of E; else x attaches.
 ghost use mathlib.Core.Path.{_≡_};
 ghost use mathlib.Core.Bool.{true};
 ghost use Rattle.model.specs.Memory.{nodeOf, withNode, addNode, tableOf};
@@ -38,7 +38,7 @@ fn send_on(state: &mut [u64], tables: &mut [u8], x: usize, y: usize, first: usiz
     }
 }
 
-// "[x] .. learns y's table, and y learns x."
+// x learns y's table, and y learns x.
 fn exchange(state: &[u64], tables: &mut [u8], x: usize, y: usize)
     requires { ⌜ Meets (now state) (now tables) x y ⌝ }
     ensures { λ r. ⌜ now (tables .exit) ≡ exchanged (now (state .entry)) (now (tables .entry)) x y ⌝ }
@@ -48,7 +48,7 @@ fn exchange(state: &[u64], tables: &mut [u8], x: usize, y: usize)
     part::copy_out(tables, x, &own);
 }
 
-// "The asked set is every member of x's table or y's that matches x in k digits or more and isn't x or told."
+// The pending set of an attaching node: from both tables, each node that shares at least this many digits with x, but x and the notified.
 fn to_notify(state: &[u64], tables: &[u8], x: usize, y: usize, level: usize, notified: u64) -> u64
     requires { ⌜ Meets (now state) (now tables) x y ⌝ }
     ensures { λ r. ⌜ r ≡ gather (now (state .entry)) x level notified (tableOf (now (tables .entry)) y) (gather (now (state .entry)) x level notified (tableOf (now (tables .entry)) x) 0) ⌝ }
@@ -57,8 +57,8 @@ fn to_notify(state: &[u64], tables: &[u8], x: usize, y: usize, level: usize, not
     gather_from(state, tables, x, y, level, notified, own)
 }
 
-// "x becomes notifying with [the attach level] and target zero. .. The told set is y." r is x's record before. Answers the level. From here
-// on others learn x from that level.
+// x notifies from now on, at its attach level and with y notified. r is x's record before. Answers the level. From here on others learn x from
+// that level.
 fn start_notifying(state: &mut [u64], tables: &[u8], x: usize, y: usize, r: Node) -> usize
     requires { ⌜ Delivers (now state) (now tables) x y ⌝ }
     requires { ⌜ roomAtSuffix (now state) (tableOf (now tables) y) x y ≡ true ⌝ }

@@ -11,7 +11,7 @@ const PLACES: usize = 8;
 
 const LAST_PLACE: usize = 7;
 
-// "The nine suffix masks (match 0 to 8) are kept as a table": entry i has the bits of the low i digits set.
+// The suffix masks, kept as a table: entry i, from 0 to 8, has the bits of the low i digits set.
 const SUFFIX_MASKS: [u32; 9] = [
     0x0,
     0xf,
@@ -24,7 +24,7 @@ const SUFFIX_MASKS: [u32; 9] = [
     0xffff_ffff,
 ];
 
-// "Settings: base b, 2 to 16; digits d, 1 to 8; depth K, 1 to 4."
+// The base is from 2 to 16, the digits are from 1 to 8, the depth is from 1 to 4.
 pub fn settings_in_range(base: u64, digits: u64, depth: u64) -> bool
     ensures { λ r. ⌜ r ≡ settingsInRange base digits depth ⌝ }
 {
@@ -52,7 +52,7 @@ fn smaller(a: usize, b: usize) -> usize
     if a < b { a } else { b }
 }
 
-// "digit i of an id stands in bits 4i to 4i+3, digit 0 being the rightmost"
+// Digit i of an id: each digit has four bits, and digit 0 the lowest four.
 pub fn digit(id: u32, i: usize) -> usize
     ensures { λ r. ⌜ (r ≡ digitOf id i) × (r < 16) ⌝ }
 {
@@ -69,8 +69,8 @@ pub fn suffix_mask(i: usize) -> u32
     SUFFIX_MASKS[smaller(i, PLACES)]
 }
 
-// "For two ids the match is the number of equal digits counted from the right, at most d": four bits to a digit, so a quarter of
-// the equal bits below the first that differs.
+// How many digits of two ids agree from the right, d at most (the paper's "match"): four bits to a digit, so a quarter of the equal bits below
+// the first that differs.
 pub fn common_suffix(digits: usize, x: u32, y: u32) -> usize
     ensures { λ r. ⌜ (r ≡ commonSuffix digits x y) × (r ≤ digits) ⌝ }
 {
@@ -80,14 +80,14 @@ pub fn common_suffix(digits: usize, x: u32, y: u32) -> usize
     smaller((u32::trailing_zeros(x ^ y) / 4) as usize, digits)
 }
 
-// "its low i digits equal those of x": no bit that differs stands under the mask.
+// Both have the same low i digits: no bit that differs stands under the mask.
 pub fn low_digits_equal(x: u32, y: u32, i: usize) -> bool
     ensures { λ r. ⌜ r ≡ eqb (lowDigits y i) (lowDigits x i) ⌝ }
 {
     (x ^ y) & suffix_mask(i) == 0
 }
 
-// "A member y is qualified for entry (i, j) of x when its low i digits equal those of x and its digit i is j."
+// The id y is qualified for entry (i, j) of x: it ends in the low i digits of x, and j is the digit before them.
 pub fn qualified(x: u32, y: u32, i: usize, j: usize) -> bool
     ensures { λ r. ⌜ r ≡ tables.qualified x y i j ⌝ }
 {
@@ -97,7 +97,7 @@ pub fn qualified(x: u32, y: u32, i: usize, j: usize) -> bool
     digit(y, i) == j
 }
 
-// "Every digit is below b and bits above digit d−1 are zero."
+// The d lowest digits are below the base, and nothing stands above them.
 pub fn valid_id(base: usize, digits: usize, id: u32) -> bool
     ensures { λ r. ⌜ r ≡ validId base digits id ⌝ }
 {

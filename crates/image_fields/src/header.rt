@@ -1,5 +1,5 @@
-// The head of an image: "Settings: count byte 4, then version 1, b, d, K. Members: count byte, then each id in four bytes, low byte
-// first. Records: count in two bytes, low first".
+// The head of an image: the settings after their count, 4, the number of nodes in byte 5, and behind the ids, of four bytes each, the number of
+// records in two bytes, the low one first.
 ghost use mathlib.Core.Path.{_≡_};
 ghost use mathlib.Core.Bool.{not};
 ghost use Prim.Native.Nat.{_+_, _*_, _≤_, _<_};
@@ -8,7 +8,7 @@ ghost use Rattle.model.specs.Image.{byteAt, imNodes, imRecords, lengthRight};
 ghost use Rattle.model.specs.Refusals.{noSettings, countsWrong};
 ghost use Rattle.image_fields.specs.Parts.{fourAt, CountsRight, Headed};
 
-// "its length .. passes 65,535"
+// No image is longer.
 const LONGEST: usize = 65535;
 
 // The settings and the counts.
@@ -38,7 +38,7 @@ pub fn four(image: &[u8], a: usize) -> u32
     (low + 65536 * high) as u32
 }
 
-// 3: "An image has fewer than 5 bytes or its first byte isn't 4."
+// 3: the image is shorter than its settings, which take 5 bytes, or does not begin with their count.
 pub fn no_settings(image: &[u8]) -> bool
     ensures { λ r. ⌜ r ≡ noSettings (now (image .entry)) ⌝ }
 {
@@ -59,7 +59,7 @@ fn record_count(image: &[u8], nodes: usize) -> usize
     byte(image, at) + 256 * byte(image, at + 1)
 }
 
-// "its length differs from its counts or passes 65,535"
+// The image is not as long as its counts say, or longer than any may be.
 fn length_wrong(image: &[u8], nodes: usize) -> bool
     requires { ⌜ nodes ≤ 64 ⌝ }
     requires { ⌜ nodes ≡ imNodes (now image) ⌝ }
@@ -76,7 +76,7 @@ fn length_wrong(image: &[u8], nodes: usize) -> bool
     LONGEST < image.len()
 }
 
-// 6: "An image's member count is missing, 0 or above 64, or its length differs from its counts or passes 65,535."
+// 6: the number of nodes is missing or not from 1 to 64, or the length is wrong.
 pub fn counts_wrong(image: &[u8]) -> bool
     ensures { λ r. ⌜ r ≡ countsWrong (now (image .entry)) ⌝ }
 {

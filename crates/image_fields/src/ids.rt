@@ -1,4 +1,4 @@
-// The ids of an image: "each id in four bytes, low byte first".
+// The ids of an image, four bytes each, the low one first.
 ghost use mathlib.Core.Path.{_≡_};
 ghost use Rattle.model.specs.Loops.{allBelow, node};
 ghost use Rattle.model.specs.Image.{imNodes, imId, imIdValid, imIdNew};
@@ -25,7 +25,7 @@ fn is_valid(image: &[u8], h: Header, x: usize) -> bool
     valid_id(h.base, h.digits, id(image, x))
 }
 
-// Not 7: "An id has a digit not below b, or a bit above its digits."
+// Not 7: every id is valid.
 pub fn valid(image: &[u8], h: Header) -> bool
     requires { ⌜ Headed (now image) h ⌝ }
     ensures { λ r. ⌜ r ≡ allBelow (imNodes (now (image .entry))) (node (imIdValid (now (image .entry)))) ⌝ }
@@ -57,7 +57,7 @@ fn is_new(image: &[u8], x: usize) -> bool
     true
 }
 
-// Not 8: an id "occurs twice in an image".
+// Not 8: no two ids are equal.
 pub fn different(image: &[u8], h: Header) -> bool
     requires { ⌜ Headed (now image) h ⌝ }
     ensures { λ r. ⌜ r ≡ allBelow (imNodes (now (image .entry))) (node (imIdNew (now (image .entry)))) ⌝ }

@@ -1,4 +1,4 @@
-// A record of an image: "four bytes each: member, level, digit, neighbour".
+// A record of an image: the node whose table it is of, the level, the digit, and the neighbour in the slot.
 ghost use mathlib.Core.Path.{_≡_};
 ghost use mathlib.Core.Bool.{_&&_};
 ghost use Prim.Native.Nat.{_<_};
@@ -44,7 +44,7 @@ fn is_node(h: Header, x: usize) -> bool
     x <= h.nodes
 }
 
-// Not 9, of record r: "A member number, in a call or a record, is 0 or above the member count."
+// Not 9, of record r: both its numbers are nodes'.
 pub fn nodes_good(image: &[u8], h: Header, r: usize) -> bool
     requires { ⌜ Headed (now image) h ⌝ }
     requires { ⌜ r < imRecords (now image) ⌝ }
@@ -65,7 +65,7 @@ pub fn key(e: Record) -> usize
     65536 * e.node + 256 * e.level + e.digit
 }
 
-// The record is of an own entry of its node: "its own entries (i, x's digit i)".
+// The record is of an own entry of its node: its digit is the node's own at that level.
 pub fn is_own(image: &[u8], e: Record) -> bool
     requires { ⌜ CountsRight (now image) ⌝ }
     requires { ⌜ ImageNode (now image) (e .node) ⌝ }

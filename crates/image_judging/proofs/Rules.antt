@@ -108,7 +108,7 @@ module _ (im : List ℕ) (bytes : CountsRight im) (c : Cursor) (w : Enters im c)
           e
           ∙ sym (ap not (eq-eqb (c .count) 0 (sym count-held ∙ count-none (c .next) (sameEntry im (c .next)) (any-at (c .next) (sameEntry im (c .next)) e))))
 
-  -- "at most K different qualified members", by what the code holds
+  -- the neighbour may stand in the entry, by what the code holds
   pub allowed-held : (h : Header) (e : Record) → Headed im h → RecordsNamed im → c .next < imRecords im → RecordOf im (c .next) e
       → (qualified (imId im (e .node)) (imId im (e .neighbor)) (e .level) (e .digit)
       && (not (hasNode (c .named) (e .neighbor)) && ltb (c .count) (h .depth)))
@@ -124,7 +124,7 @@ module _ (im : List ℕ) (bytes : CountsRight im) (c : Cursor) (w : Enters im c)
           ≡ qualified (imId im (recNode im (c .next))) (imId im (recNeighbor im (c .next))) (recLevel im (c .next)) (recDigit im (c .next))
       quals = rw (o .node, o .neighbor, o .level, o .digit)
 
-  -- "Member x stands first in each of its own entries", by what the code holds
+  -- an own entry begins with its owner, by what the code holds
   pub first-held : (e : Record) → RecordOf im (c .next) e
       → (not (eqb (e .digit) (digitOf (imId im (e .node)) (e .level))) || (not (eqb (c .count) 0) || eqb (e .neighbor) (e .node)))
       ≡ recOwnerFirst im (c .next)

@@ -62,7 +62,7 @@ impl Cursor {
         }
     }
 
-    // "Records rise by member, level, digit".
+    // Level and digit are the settings', and the entry is not below that of the record before.
     fn in_order(self, h: Header, e: Record) -> bool
         requires { ⌜ Small e ⌝ }
         ensures { λ r. ⌜ r ≡ keepsOrder h self e ⌝ }
@@ -76,7 +76,7 @@ impl Cursor {
         self.key <= record::key(e)
     }
 
-    // "An entry is an ordered list of at most K different qualified members".
+    // The neighbour is qualified and not in the entry yet, and the entry is not full.
     fn allowed(self, image: &[u8], h: Header, e: Record) -> bool
         requires { ⌜ Headed (now image) h ⌝ }
         requires { ⌜ RecordsNamed (now image) ⌝ }
@@ -94,7 +94,7 @@ impl Cursor {
         self.count < h.depth
     }
 
-    // "Member x stands first in each of its own entries".
+    // The record does not begin an own entry with another node than the owner.
     fn owner_first(self, image: &[u8], h: Header, e: Record) -> bool
         requires { ⌜ Headed (now image) h ⌝ }
         requires { ⌜ RecordsNamed (now image) ⌝ }

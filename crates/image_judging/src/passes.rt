@@ -10,7 +10,7 @@ use crate::own;
 use image_fields::header::Header;
 use image_fields::record;
 
-// Not 9: "A member number, in a call or a record, is 0 or above the member count."
+// Not 9: every record names nodes.
 pub fn named(image: &[u8], h: Header) -> bool
     requires { ⌜ Headed (now image) h ⌝ }
     ensures { λ r. ⌜ r ≡ allBelow (imRecords (now (image .entry))) (recNodesGood (now (image .entry))) ⌝ }
@@ -52,7 +52,7 @@ fn each_good(image: &[u8], h: Header) -> bool
     true
 }
 
-// Not 10: "Image records break their order or the table rules."
+// Not 10: the records are in their order, keep the rules of the tables, and no own entry is without one.
 pub fn good(image: &[u8], h: Header) -> bool
     requires { ⌜ Headed (now image) h ⌝ }
     requires { ⌜ RecordsNamed (now image) ⌝ }

@@ -1,4 +1,4 @@
-// Beginning a join: "Beginning a join adds the next number, copying, own entries only, target the gateway."
+// Beginning a join: the node with the next number copies, from the gateway first, and stands in its own entries and no other.
 ghost use mathlib.Core.Path.{_≡_};
 ghost use Prim.Native.Nat.{_+_};
 ghost use Rattle.model.specs.Memory.{nodeCount};

@@ -1,4 +1,4 @@
-// Founding: "Founding makes member 1, settled, with only its own entries." Every place of the fixed lengths is decided.
+// Founding: node 1 alone, in system, in its own entries and no other. Every place of the fixed lengths is decided.
 ghost use mathlib.Core.Path.{_≡_};
 ghost use Prim.Native.Nat.{_≤_};
 ghost use lib.ListN.{length};

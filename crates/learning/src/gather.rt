@@ -1,4 +1,4 @@
-// Gathering: "every member of x's table or y's that matches x in k digits or more and isn't x or told".
+// Gathering from a table the nodes that the learner is to notify: those that share at least this many digits with it, but itself and the notified.
 ghost use mathlib.Core.Path.{_≡_};
 ghost use Prim.Native.Nat.{_<_};
 ghost use Rattle.model.specs.Join as join;

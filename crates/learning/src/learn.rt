@@ -1,5 +1,5 @@
-// Learning: "x learns u, another member, by appending it to entry (i, digit i of u) for each level i from u's floor to the match of x
-// and u, where u is absent and fewer than K stand". own is the learner's table.
+// Learning a node u: it is appended to the entry of its digit at each level from its floor up to its common suffix with the learner, where it is
+// not in the entry yet and the entry is not full. own is the learner's table.
 ghost use mathlib.Core.Path.{_≡_};
 ghost use Prim.Native.Nat.{_<_};
 ghost use Rattle.model.specs.Learning as learning;
@@ -11,7 +11,7 @@ use state::record;
 use state::status::Status;
 use tables::entry;
 
-// "The floor of a settled member is 0, of a notifying one its attach level."
+// The level below which nobody learns u: its attach level while it notifies, else 0.
 fn floor(state: &[u64], u: usize) -> u64
     requires { ⌜ NodeReadable (now state) u ⌝ }
     ensures { λ r. ⌜ r ≡ floorOf (now (state .entry)) u ⌝ }
@@ -71,8 +71,8 @@ fn learn_place(state: &[u64], own: &mut [u8; 512], learner: Learner, theirs: &[u
     learn(state, own, learner, u);
 }
 
-// "Learning a table means learning each member in it but x, by level, digit and slot, rising": the places rise with these. theirs is
-// the answering node's table, a part of the lent table memory.
+// The learner learns each node of a table but itself, in the order of level, digit and slot, which is that of the places. theirs is the answering
+// node's table, a part of the lent table memory.
 pub fn learn_table(state: &[u64], own: &mut [u8; 512], learner: Learner, theirs: &[u8])
     requires { ⌜ LearnsTable (now state) learner (now theirs) ⌝ }
     ensures { λ r. ⌜ now (own .exit) ≡ learning.learnTable (now (state .entry)) (learner .number) (now (theirs .entry)) (now (own .entry)) ⌝ }

@@ -12,7 +12,7 @@ use state::record;
 use state::settings;
 use state::status::Status;
 
-// 8: "An id is a member's already".
+// 8: some node has this id.
 fn id_taken(state: &[u64], nodes: usize, id: u32) -> bool
     requires { ⌜ NodesPlaced (now state) ⌝ }
     requires { ⌜ nodes ≡ nodeCount (now state) ⌝ }

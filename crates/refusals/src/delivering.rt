@@ -15,7 +15,7 @@ use state::record::Node;
 use state::sets;
 use state::status::Status;
 
-// The node's own request, "one to the target of each copying or waiting member", goes to y.
+// The node copies or waits, and its request goes to y.
 fn asks_target(node: Node, y: usize) -> bool
     ensures { λ r. ⌜ r ≡ ((eqb (node .status) copying || eqb (node .status) waiting) && eqb (node .target) y) ⌝ }
 {
@@ -28,7 +28,7 @@ fn asks_target(node: Node, y: usize) -> bool
     node.target == y as u64
 }
 
-// "The outstanding requests are one to the target of each copying or waiting member and one to each member of each asked set."
+// x has a request to y outstanding: y is its target while it copies or waits, or is in its pending set.
 fn outstanding(state: &[u64], x: usize, y: usize) -> bool
     requires { ⌜ Placed (now state) x ⌝ }
     requires { ⌜ Placed (now state) y ⌝ }
@@ -41,7 +41,7 @@ fn outstanding(state: &[u64], x: usize, y: usize) -> bool
     sets::has(node.pending, y)
 }
 
-// 14: "A wait request's receiver isn't settled".
+// 14: x waits, and y is not in system.
 fn wait_held(state: &[u64], x: usize, y: usize) -> bool
     requires { ⌜ Placed (now state) x ⌝ }
     requires { ⌜ Placed (now state) y ⌝ }
@@ -53,7 +53,7 @@ fn wait_held(state: &[u64], x: usize, y: usize) -> bool
     record::status(state, y) != Status::IN_SYSTEM
 }
 
-// 13, "No request from the first member to the second is outstanding", and 14.
+// 13, x has no request to y outstanding, and 14.
 fn sentences_on(state: &[u64], x: usize, y: usize) -> u64
     requires { ⌜ Placed (now state) x ⌝ }
     requires { ⌜ Placed (now state) y ⌝ }

@@ -15,7 +15,7 @@ use state::record;
 use state::settings;
 use state::status::Status;
 
-// 1, memory that is too short, and 2: "The state isn't sound".
+// 1, memory that is too short, and 2, a state that is not sound.
 pub fn state_refusal(state: &[u64], tables: &[u8]) -> u64
     ensures { λ r. ⌜ r ≡ stateRefusal (memory (now (state .entry)) (now (tables .entry))) ⌝ }
 {
@@ -39,7 +39,7 @@ pub fn is_node(state: &[u64], x: u64) -> bool
     x <= settings::load(state).nodes as u64
 }
 
-// Not 15: "Verdict or writing finds a member not settled."
+// Not 15: every node is in system.
 pub fn all_in_system(state: &[u64]) -> bool
     requires { ⌜ NodesPlaced (now state) ⌝ }
     ensures { λ r. ⌜ r ≡ allNodes (now (state .entry)) (isInSystem (now (state .entry))) ⌝ }

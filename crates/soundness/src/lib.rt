@@ -1,4 +1,4 @@
-// The exact check of a state: document 01, "A state is sound when ..", in the order of that sentence.
+// The exact check of a state: document 01, "Identifiers and tables", last paragraph, in the order of its clauses.
 ghost use mathlib.Core.Path.{_≡_};
 ghost use mathlib.Core.Bool.{not, _&&_};
 ghost use Prim.Native.Nat.{_≤_};
@@ -28,7 +28,7 @@ pub fn sound(state: &[u64], tables: &[u8]) -> bool
     settings_first(state, tables)
 }
 
-// "settings are in range; there are 1 to 64 members"
+// The settings and the number of nodes are in range, and so is what comes after them.
 fn settings_first(state: &[u64], tables: &[u8]) -> bool
     requires { ⌜ stateLength ≤ length (now state) ⌝ }
     requires { ⌜ tablesLength ≤ length (now tables) ⌝ }

@@ -1,4 +1,4 @@
-// "unused places are zero": the spare words of each record, words 4 to 7, the records and the tables of no node. (The unused places of a
+// What nothing uses is zero: the spare words of each record, words 4 to 7, the records and tables behind the last node's. (The unused places of a
 // node's own table are the business of `soundness_tables`.)
 ghost use mathlib.Core.Path.{_≡_};
 ghost use Prim.Native.Nat.{_≤_};
@@ -42,7 +42,7 @@ fn spares(state: &[u64], s: Settings) -> bool
     true
 }
 
-// Words 4 to 7, and the records of no node.
+// Words 4 to 7, and the records behind the last node's.
 fn state_rest(state: &[u64], s: Settings) -> bool
     requires { ⌜ Ranged (now state) ⌝ }
     requires { ⌜ SettingsOf (now state) s ⌝ }
@@ -55,7 +55,7 @@ fn state_rest(state: &[u64], s: Settings) -> bool
     zero::words(&state[a..STATE_LENGTH])
 }
 
-// The tables of no node, one after the other: each is a run of fixed length.
+// The tables behind the last node's, one after the other: each is a run of fixed length.
 fn tables_rest(tables: &[u8], s: Settings) -> bool
     requires { ⌜ tablesLength ≤ length (now tables) ⌝ }
     requires { ⌜ s .nodes ≤ 64 ⌝ }

@@ -1,4 +1,4 @@
-// "valid, different ids".
+// The ids of the nodes: each is valid, and no two are equal.
 ghost use mathlib.Core.Path.{_≡_};
 ghost use Rattle.model.specs.Sound.{hasValidId, hasNewId};
 ghost use Rattle.state.specs.Loaded.{SettingsOf};

@@ -1,4 +1,4 @@
-// The rules of a notifying node: "target zero, attach level below d, a nonempty asked set", and what its two sets may name.
+// The rules of a notifying node: it has no target, an attach level below d and somebody pending; and what its two sets may name.
 ghost use mathlib.Core.Path.{_≡_};
 ghost use Rattle.model.specs.Memory.{nodeOf};
 ghost use Rattle.model.specs.Sound.{notifyingSound};

@@ -1,4 +1,4 @@
-// The notified set: it "names only settled or notifying others".
+// The notified set: its nodes are in system or notifying, and not the owner.
 ghost use mathlib.Core.Path.{_≡_};
 ghost use Rattle.model.specs.Loops.{node};
 ghost use Rattle.model.specs.Memory.{nodeOf};

@@ -1,5 +1,5 @@
-// The pending set: "settled or notifying members, each matching it in at least as many digits as its attach level, not itself and not in its
-// told set".
+// The pending set: its nodes are in system or notifying, share at least as many digits with the owner as its attach level says, and are
+// neither the owner nor notified.
 ghost use mathlib.Core.Path.{_≡_};
 ghost use Rattle.model.specs.Loops.{node};
 ghost use Rattle.model.specs.Memory.{nodeOf};

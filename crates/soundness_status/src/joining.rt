@@ -1,5 +1,4 @@
-// The rules of a node that joins: "a copying member's target is settled, a waiting one's settled or notifying, and both have zero attach
-// level and sets".
+// The rules of a node that joins: whom it may ask, and that it has no attach level yet and both its sets are empty.
 ghost use mathlib.Core.Path.{_≡_};
 ghost use mathlib.Core.Bool.{_&&_};
 ghost use lib.Dec.{leb};
@@ -34,7 +33,7 @@ fn is_node(nodes: usize, x: u64) -> bool
     x <= nodes as u64
 }
 
-// "a copying member's target is settled"
+// A copying node asks a node in system.
 pub fn copying(state: &[u64], s: Settings, x: usize, r: Node) -> bool
     requires { ⌜ Ranged (now state) ⌝ }
     requires { ⌜ SettingsOf (now state) s ⌝ }
@@ -50,7 +49,7 @@ pub fn copying(state: &[u64], s: Settings, x: usize, r: Node) -> bool
     at_rest(r)
 }
 
-// "a waiting one's settled or notifying"
+// A waiting node asks one in system or notifying.
 pub fn waiting(state: &[u64], s: Settings, x: usize, r: Node) -> bool
     requires { ⌜ Ranged (now state) ⌝ }
     requires { ⌜ SettingsOf (now state) s ⌝ }

@@ -1,4 +1,4 @@
-// The rules of each status: a settled member is in system here, the asked set is pending, the told set notified.
+// The rules of each status: document 01, "Identifiers and tables", last paragraph.
 ghost use mathlib.Core.Path.{_≡_};
 ghost use Rattle.model.specs.Sound.{statusSound};
 ghost use Rattle.state.specs.Loaded.{SettingsOf, bookNode};
@@ -14,7 +14,7 @@ use state::status::Status;
 
 mod joining;
 
-// "a settled member's attach level, target and sets are zero"
+// In system: no attach level and no target, and both sets empty.
 fn in_system(r: Node) -> bool
     ensures { λ q. ⌜ q ≡ inSystemWords (bookNode r) ⌝ }
 {

@@ -1,5 +1,4 @@
-// "An entry is an ordered list of at most K different qualified members; the front one is its first, in slot 0, and the others follow
-// without a gap."
+// The entries of a level: each holds K nodes at most, all of them qualified and no two equal, in its slots from 0 on with no gap between.
 ghost use mathlib.Core.Path.{_≡_};
 ghost use Prim.Native.Nat.{_<_};
 ghost use lib.ListN.{length};
@@ -28,7 +27,7 @@ fn may_stand(state: &[u64], x: usize, u: usize) -> bool
     u == x
 }
 
-// Slot k of entry j is empty, or is below K and holds a node that may stand there, is qualified and is in no slot before it.
+// Slot k of entry j is empty, or is below K, follows a filled one and holds a node that may stand there, is qualified and is in no slot before it.
 fn slot(state: &[u64], table: &[u8], s: Settings, r: Row, j: usize, k: usize) -> bool
     requires { ⌜ Ranged (now state) ⌝ }
     requires { ⌜ SettingsOf (now state) s ⌝ }

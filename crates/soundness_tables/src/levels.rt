@@ -1,4 +1,4 @@
-// The levels of a table: "Member x stands first in each of its own entries (i, x's digit i)", and most levels hold nothing else.
+// The levels of a table: the owner is first in its own entry of each, and most levels hold nothing else.
 ghost use mathlib.Core.Path.{_≡_};
 ghost use Prim.Native.Nat.{_<_};
 ghost use lib.ListN.{length};

@@ -1,4 +1,4 @@
-// "tables obey the paragraphs above": each node's table is handed on as one run of the lent table memory.
+// The rules of the tables: document 01, "Identifiers and tables". Each node's table is handed on as one run of the lent table memory.
 ghost use mathlib.Core.Path.{_≡_};
 ghost use Prim.Native.Nat.{_+_, _<_, _≤_};
 ghost use lib.ListN.{length};

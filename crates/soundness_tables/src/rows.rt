@@ -1,5 +1,5 @@
-// "A member y is qualified for entry (i, j) of x when its low i digits equal those of x and its digit i is j": the low i + 1 digits of y are one
-// number, so what level i asks of them is made once for all its entries.
+// Which nodes are qualified for the entries of a level: level i asks for the owner's low i digits and the entry's digit before them. These i + 1
+// digits are one number, so what the level asks is made once for all its entries.
 ghost use mathlib.Core.Path.{_≡_};
 ghost use Prim.Native.Nat.{_<_};
 ghost use Rattle.model.specs.Nodes.{qualifies};

@@ -1,4 +1,4 @@
-// The slots of a table: "slot s (0 to 3) of entry (i, j) at 64i + 4j + s within it; 0 means empty".
+// The slots of a table: slot k, from 0 to 3, of entry (i, j) is byte 64i + 4j + k, and 0 where it is empty.
 ghost use mathlib.Core.Path.{_≡_};
 ghost use mathlib.Core.Bool.{cond};
 ghost use Prim.Native.Nat.{_<_, _≤_};
@@ -17,7 +17,7 @@ pub fn at(table: &[u8], i: usize, j: usize, k: usize) -> usize
     table[64 * i + 4 * j + k] as usize
 }
 
-// "without a gap": the slot before k is filled.
+// No gap before slot k: it is the first, or the slot before it is filled.
 pub fn no_gap(table: &[u8], i: usize, j: usize, k: usize) -> bool
     requires { ⌜ EntryIn (now table) i j ⌝ }
     requires { ⌜ k < 4 ⌝ }

@@ -9,7 +9,7 @@ pub const STATE_LENGTH: usize = 520;
 // The fixed length of the table memory, in bytes.
 pub const TABLES_LENGTH: usize = 32768;
 
-// 1: "Lent table memory is shorter than 32,768 bytes, or other lent state memory than the fixed length".
+// 1: one of the two is shorter than its fixed length.
 pub fn short(state: &[u64], tables: &[u8]) -> bool
     ensures { λ r. ⌜ r ≡ memoryShort (memory (now (state .entry)) (now (tables .entry))) ⌝ }
 {

@@ -60,7 +60,7 @@ pub fn notifying_node(r: Node, level: u64, pending: u64, notified: u64) -> Node
     n
 }
 
-// "A notifying member whose asked set is empty settles in the same step: attach level, target and both sets become zero."
+// A notifying node that has nobody left to notify is in system within the same step; the rest of its record is cleared.
 pub fn settle(r: Node) -> Node
     requires { ⌜ r .status ≡ notifying ⌝ }
     ensures { λ n. ⌜ bookNode n ≡ join.settle (bookNode r) ⌝ }

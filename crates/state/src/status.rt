@@ -1,4 +1,4 @@
-// A node's status: document 01, "the four statuses have fixed numbers".
+// A node's status by its number: document 01, "Identifiers and tables".
 ghost use mathlib.Core.Path.{_≡_};
 ghost use mathlib.Core.Bool.{cond, _||_};
 ghost use lib.Dec.{eqb};
@@ -38,7 +38,7 @@ impl Status {
         self.number == Status::NOTIFYING
     }
 
-    // "The floor of a settled member is 0, of a notifying one its attach level."
+    // the level below which nobody learns the node: its attach level while it notifies, else 0
     pub fn floor(self, level: u64) -> u64
         ensures { λ r. ⌜ r ≡ cond (eqb (self .number) notifying) level 0 ⌝ }
     {

@@ -1,5 +1,5 @@
-// An entry (i, j), level i and digit j, of one node's table: "slot s (0 to 3) of entry (i, j) at 64i + 4j + s within it; 0 means
-// empty". Only the slots below the depth are read, but where it says otherwise.
+// An entry (i, j), level i and digit j, of one node's table: slot k, from 0 to 3, is byte 64i + 4j + k, and 0 where it is empty. Only the slots
+// below the depth are read, but where it says otherwise.
 ghost use mathlib.Core.Path.{_≡_};
 ghost use Prim.Native.Nat.{_≤_, _<_};
 ghost use Rattle.model.specs.Loops.{allBelow};
@@ -38,7 +38,7 @@ pub fn holds(table: &[u8], depth: usize, i: usize, j: usize, u: usize) -> bool
     false
 }
 
-// "the front one is its first, in slot 0"; 0 where the entry is empty.
+// The first node of the entry, the one in slot 0; 0 where the entry is empty.
 pub fn first(table: &[u8], i: usize, j: usize) -> usize
     requires { ⌜ Entry (now table) 1 i j ⌝ }
     ensures { λ r. ⌜ r ≡ tables.firstOf (now (table .entry)) i j ⌝ }

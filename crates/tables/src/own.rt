@@ -1,4 +1,4 @@
-// The table of a new node: "Member x stands first in each of its own entries (i, x's digit i)", and nothing else stands there.
+// The table of a new node: it is first in each of its own entries, those of its own digits, and nothing else stands there.
 ghost use mathlib.Core.Path.{_≡_};
 ghost use Prim.Native.Nat.{_≤_, _<_};
 ghost use Rattle.model.specs.Memory.{withTable};

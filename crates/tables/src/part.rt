@@ -1,4 +1,4 @@
-// A node's table within the lent table memory: "one run of the lent table memory, 512 bytes from 512 times (number − 1)".
+// A node's table within the lent table memory: for node x the 512 bytes from 512 (x − 1) on.
 ghost use mathlib.Core.Path.{_≡_};
 ghost use lib.ListN.{length};
 ghost use Rattle.model.specs.Memory.{tableOf, withTable};
