@@ -1,9 +1,6 @@
 /* A small rig: founds a network, lets seven nodes join it at the same time, delivers until all are in system, looks nodes up, asks for the
- * verdict, saves the network as an image and reads it into other memory. Build it after `rt staticlib overlay`:
- *
- *     gcc -Wall -Wextra -Werror -I include examples/rig.c target/staticlib/liboverlay.a -o rig
- *
- * examples/rig.out is what it prints. */
+ * verdict, saves the network as an image and reads it into other memory, after a look whether that holds a network already.
+ * README.md has the line that builds it; examples/rig.out is what it prints. */
 #include <stdio.h>
 #include <stdlib.h>
 #include <string.h>
@@ -20,7 +17,7 @@ struct network {
 #define LENT(n) (n)->state, OVERLAY_STATE_WORDS, (n)->tables, OVERLAY_TABLE_BYTES
 
 static struct network first, second;
-static uint8_t image[OVERLAY_MOST_IMAGE_BYTES];
+static uint8_t image[OVERLAY_MOST_WRITTEN_BYTES];
 
 static const char *const refusals[] = {
     [0] = "taken",
@@ -42,6 +39,13 @@ static const char *const refusals[] = {
     [OVERLAY_SHORT_OUTPUT] = "the memory for the image is too short",
 };
 
+/* The refusal of an answer in words; a later version may have more. */
+static const char *refusal(uint64_t answer)
+{
+    unsigned number = overlay_refusal(answer);
+    return number < sizeof refusals / sizeof refusals[0] ? refusals[number] : "refused";
+}
+
 static const char *const kinds[] = {
     [OVERLAY_COPIED] = "copied",
     [OVERLAY_SENT_ON] = "was sent on",
@@ -53,7 +57,7 @@ static const char *const kinds[] = {
 static uint64_t taken(const char *call, uint64_t answer)
 {
     if (overlay_refusal(answer) != 0) {
-        fprintf(stderr, "%s: %s\n", call, refusals[overlay_refusal(answer)]);
+        fprintf(stderr, "%s: %s\n", call, refusal(answer));
         exit(1);
     }
     return answer;
@@ -61,7 +65,7 @@ static uint64_t taken(const char *call, uint64_t answer)
 
 static void print_refusal(const char *what, uint64_t answer)
 {
-    printf("%s: %s\n", what, refusals[overlay_refusal(answer)]);
+    printf("%s: %s\n", what, refusal(answer));
 }
 
 static void print_delivery(unsigned sender, unsigned receiver, uint64_t answer)
@@ -127,6 +131,7 @@ static void save_and_read(const struct network *from, struct network *to)
     uint32_t length = overlay_image_length(taken("write", overlay_write(LENT(from), image, sizeof image)));
     printf("saved: an image of %u bytes\n", (unsigned)length);
     print_refusal("in one byte less", overlay_write(LENT(from), image, length - 1));
+    print_refusal("the other memory", overlay_sound(LENT(to)));
     print_refusal("read without its last byte", overlay_read(LENT(to), image, length - 1));
     taken("read", overlay_read(LENT(to), image, length));
     printf("read: %s\n", memcmp(from, to, sizeof *from) == 0 ? "the same network" : "another network");

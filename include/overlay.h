@@ -2,11 +2,22 @@
  *
  * state:  64-bit words, at least OVERLAY_STATE_WORDS.
  * tables: bytes, at least OVERLAY_TABLE_BYTES.
- * Lengths count elements. What is past the fixed lengths is neither read nor changed. Two lent memories never overlap: not state and
- * tables, and neither of them an image or the memory for one.
- * An answer is one number: bits 0 to 7 are the refusal, 0 for none. On a refusal every other bit is zero and no byte has changed.
- * Where several refusals hold, the smallest number is answered.
- * C99 or later, or C++. The archive calls memcpy and memset, and nothing else from outside. */
+ * Lengths count elements. What is past the fixed lengths is neither read nor changed.
+ *
+ * What a caller must keep; of a call where one of these fails nothing is promised:
+ * - A pointer is valid for its length: so many elements may be read, and written unless they are const here. Where the length is 0 the
+ *   pointer is not used, and may be NULL.
+ * - state is aligned to 8.
+ * - No two lent memories overlap: not state and tables, and neither of them an image or the memory for one.
+ * - Nobody else writes lent memory during a call, nor reads what the call may write.
+ *
+ * An answer is one number: bits 0 to 7 are the refusal, 0 for none. On a refusal no byte has changed, and every field that this header reads
+ * off the answer is zero but where a call says otherwise. Where several refusals hold, the answer is the first that holds, in the order of
+ * docs/REFUSALS.md. A later version may add refusals, and give a new number where an old one stood: what is not 0 is a refusal.
+ * Nothing is kept between calls but in lent memory, so calls on different memories may run at the same time. Memory that one version filled
+ * is for that version; between versions a network goes as an image.
+ *
+ * C99 or later, or C++. The archive is for Linux on x86-64; it calls memcpy and memset, and nothing else from outside. */
 #ifndef OVERLAY_H
 #define OVERLAY_H
 
@@ -17,13 +28,20 @@
 extern "C" {
 #endif
 
+/* ---- version: of this header and of the archive that comes with it; CHANGES.md has a section for each */
+
+#define OVERLAY_VERSION_MAJOR 1
+#define OVERLAY_VERSION_MINOR 0
+
 /* ---- lengths */
 
 #define OVERLAY_STATE_WORDS 520
 #define OVERLAY_TABLE_BYTES 32768
 #define OVERLAY_MOST_NODES 64
-/* An image that reading takes is no longer than this; memory of this length is enough for every image that is written. */
+/* Reading takes no image that is longer. */
 #define OVERLAY_MOST_IMAGE_BYTES 65535
+/* No written image of version 1 is longer: memory of this length is enough for every network. */
+#define OVERLAY_MOST_WRITTEN_BYTES 23816
 
 /* ---- refusals */
 
@@ -32,11 +50,11 @@ extern "C" {
 #define OVERLAY_NOT_AN_IMAGE 3           /* fewer than 5 bytes, or the first byte isn't 4 */
 #define OVERLAY_IMAGE_VERSION 4          /* the image's version isn't 1 */
 #define OVERLAY_BAD_SETTING 5            /* base 2 to 16, digits 1 to 8, depth 1 to 4 */
-#define OVERLAY_IMAGE_COUNTS 6           /* node count missing, 0 or above 64; a length other than the counts say, or above 65,535 */
+#define OVERLAY_IMAGE_COUNTS 6           /* no node count, or not 1 to 64; a length other than the counts say, or above 65,535 */
 #define OVERLAY_BAD_ID 7                 /* a digit not below the base, or a bit above the digits */
 #define OVERLAY_ID_TAKEN 8               /* the id is a node's already, or stands twice in the image */
-#define OVERLAY_NO_SUCH_NODE 9           /* a node number, in a call or a record, is 0 or above the node count */
-#define OVERLAY_BAD_RECORDS 10           /* the image's records break their order or the table rules */
+#define OVERLAY_NO_SUCH_NODE 9           /* no node has a number that the call or a record gives */
+#define OVERLAY_BAD_RECORDS 10           /* a record is out of its order, or no table may hold what the records say */
 #define OVERLAY_FULL 11                  /* there are 64 nodes */
 #define OVERLAY_GATEWAY_NOT_IN_SYSTEM 12 /* the gateway isn't in system */
 #define OVERLAY_NOT_OUTSTANDING 13       /* no request from the sender to the receiver is outstanding */
@@ -50,7 +68,7 @@ extern "C" {
 uint64_t overlay_found(uint64_t *state, size_t state_len, uint8_t *tables, size_t tables_len,
                        uint64_t base, uint64_t digits, uint64_t depth, uint32_t id);
 
-/* Makes the network of an image, every node in system, whatever the memory held. The whole image is judged first.
+/* Makes the network of an image, whatever the memory held; every node of a version 1 image is in system. The whole image is judged first.
  * Refusals 1, 3 to 10. */
 uint64_t overlay_read(uint64_t *state, size_t state_len, uint8_t *tables, size_t tables_len,
                       const uint8_t *image, size_t image_len);
@@ -79,7 +97,9 @@ uint64_t overlay_verdict(const uint64_t *state, size_t state_len, const uint8_t 
 uint64_t overlay_write(const uint64_t *state, size_t state_len, const uint8_t *tables, size_t tables_len,
                        uint8_t *out, size_t out_len);
 
-/* What the first two refusals say of this memory: OVERLAY_SHORT_MEMORY, OVERLAY_UNSOUND, or 0 for neither. */
+/* Judges whether the memory holds a sound state, as every call but found and read does first, and changes nothing. Answers the refusal
+ * alone, 0 for a sound state. A call like those above: the promises about every call and every run are about it too
+ * (docs/PROMISES.md). Refusals 1, 2. */
 uint64_t overlay_sound(const uint64_t *state, size_t state_len, const uint8_t *tables, size_t tables_len);
 
 /* ---- the fields of an answer, zero on a refusal */

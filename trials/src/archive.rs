@@ -2,7 +2,8 @@
 
 use crate::engine::Engine;
 
-mod interface {
+/// The functions of the archive, as `include/overlay.h` declares them.
+pub mod interface {
     extern "C" {
         pub fn overlay_found(
             state: *mut u64,

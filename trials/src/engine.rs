@@ -2,8 +2,7 @@
 
 use crate::second::{self, Answer};
 
-/// The seven calls, and `sound`: what sentences 1 and 2 say of the memory (0, 1 or 2). Memory is lent for
-/// writing even where a call must not write, so that a trial sees it if one does.
+/// The eight calls. Memory is lent for writing even where a call must not write, so that a trial sees it if one does.
 pub trait Engine {
     fn name(&self) -> &str;
 

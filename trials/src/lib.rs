@@ -2,6 +2,7 @@
 //!
 //! - `second`: the second engine, written from document 01 alone.
 //! - `archive`: the proved engine.
+//! - `fenced`: the proved engine on memory beside a page without access.
 //! - `engine`: what every engine looks like from outside.
 //! - `script`: calls as lines of text, for failure reports and for running a case again.
 //! - `lent`: the memory that a caller lends, with guard space around what is lent.
@@ -14,6 +15,7 @@
 pub mod archive;
 pub mod compare;
 pub mod engine;
+pub mod fenced;
 pub mod lent;
 pub mod paper;
 pub mod random;

@@ -9,7 +9,7 @@
 //! verdict
 //! write
 //! sound                    what sentences 1 and 2 say of the memory
-//! lend 520 32768 24584     words of state, bytes of tables and of output lent from here on
+//! lend 520 32768 23816     words of state, bytes of tables and of output lent from here on
 //! word 12 5                state word 12 becomes 5 (hexadecimal), by the caller's hand
 //! byte 300 7               table byte 300 becomes 7 (hexadecimal), by the caller's hand
 //! ```

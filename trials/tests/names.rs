@@ -1,7 +1,9 @@
-//! A refusal has one name: in the header, in the proved code and in the second engine.
+//! A refusal has one name and a length one number: in the header, in the proved code and in the second engine.
 
 use std::fs;
-use trials::second::Refusal;
+
+use trials::second::memory::{MOST_NODES, STATE_WORDS, TABLE_BYTES};
+use trials::second::{Refusal, LONGEST_IMAGE, LONGEST_READ};
 
 /// `ShortMemory` as `SHORT_MEMORY`.
 fn upper(name: &str) -> String {
@@ -32,17 +34,34 @@ fn in_second_engine() -> Vec<(String, u64)> {
     Refusal::ALL.iter().map(name).collect()
 }
 
+/// What the header defines in a section.
+fn in_header(section: &str) -> Vec<(String, u64)> {
+    let header = read("include/overlay.h");
+    let found = header
+        .split("/* ---- ")
+        .find(|part| part.starts_with(section));
+    let lines = found.expect("the header has the section").lines();
+    lines
+        .filter_map(|line| named(line, "#define OVERLAY_", " "))
+        .collect()
+}
+
 #[test]
 fn the_header_names_the_refusals_as_the_second_engine_does() {
-    let header = read("include/overlay.h");
-    let section = header
-        .split("/* ---- ")
-        .find(|part| part.starts_with("refusals"));
-    let lines = section.expect("a section of refusals").lines();
-    let names: Vec<_> = lines
-        .filter_map(|l| named(l, "#define OVERLAY_", " "))
-        .collect();
-    assert_eq!(names, in_second_engine());
+    assert_eq!(in_header("refusals"), in_second_engine());
+}
+
+#[test]
+fn the_header_has_the_lengths_of_the_second_engine() {
+    let lengths = [
+        ("STATE_WORDS", STATE_WORDS),
+        ("TABLE_BYTES", TABLE_BYTES),
+        ("MOST_NODES", MOST_NODES),
+        ("MOST_IMAGE_BYTES", LONGEST_READ),
+        ("MOST_WRITTEN_BYTES", LONGEST_IMAGE),
+    ];
+    let lengths = lengths.map(|(name, length)| (name.to_string(), length as u64));
+    assert_eq!(in_header("lengths"), lengths);
 }
 
 #[test]

@@ -29,7 +29,7 @@ pub use delivering::deliver;
 pub use founding::found;
 pub use lookup::{lookup, very_hops};
 pub use node_set::NodeSet;
-pub use reading::read;
+pub use reading::{read, LONGEST_READ};
 pub use refusal::Refusal;
 pub use settings::{digit, Settings};
 pub use soundness::{lent_and_sound, sound};

@@ -9,7 +9,7 @@ use super::settings::{digit, Settings};
 use super::table::Table;
 
 /// A longer image is refused whatever its counts say.
-const LONGEST_READ: usize = 65_535;
+pub const LONGEST_READ: usize = 65_535;
 
 /// An image whose sections have the lengths that its counts give.
 struct Image {

@@ -49,14 +49,14 @@ impl Settings {
         self.depth.into()
     }
 
-    /// Every digit is below the base and no bit stands above the digits.
+    /// An id that these settings allow.
     pub fn valid(&self, id: u32) -> bool {
         let (low, high) = (0..self.digits(), self.digits()..8);
         low.into_iter().all(|level| digit(id, level) < self.base())
             && high.into_iter().all(|level| digit(id, level) == 0)
     }
 
-    /// The paper's match: equal digits counted from the right, at most d.
+    /// The common suffix, the paper's match: how many of the low digits agree before one differs.
     pub fn common_suffix(&self, one: u32, other: u32) -> usize {
         (0..self.digits())
             .take_while(|&level| digit(one, level) == digit(other, level))

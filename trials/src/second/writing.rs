@@ -8,8 +8,8 @@ use super::soundness::lent_and_sound;
 use super::table::Table;
 
 /// No sound state has a longer image: a node has at most 63 others outside its own entries, each in one place,
-/// and 8 own entries of 4.
-pub const LONGEST_IMAGE: usize = 8 + 64 * 4 + 64 * (63 + 8 * 4) * 4;
+/// and 8 own entries, seven of 4 and the last, where nobody else qualifies, of 1.
+pub const LONGEST_IMAGE: usize = 8 + 64 * 4 + 64 * (63 + 7 * 4 + 1) * 4;
 
 pub fn write(state: &[u64], tables: &[u8], out: &mut [u8]) -> WriteAnswer {
     WriteAnswer::of(try_write(state, tables, out))

@@ -100,7 +100,7 @@ fn a_64th_node_joins_and_a_65th_is_refused() {
     }
 }
 
-/// "A wait request's receiver isn't settled; the request stays outstanding."
+/// A wait request whose receiver is not in system is refused, and can be delivered later.
 #[test]
 fn a_held_wait_is_not_answered() {
     let mut both = Both::founded([2, 3, 1], 0x000);

@@ -51,7 +51,7 @@ impl Watch {
         Ok(())
     }
 
-    /// (a) "What a member has sent is the number of its own among these over the history": at most d + 1.
+    /// (a) how many copy and wait requests each node has sent, counted from the history: at most d + 1.
     fn count_requests(
         &mut self,
         call: &Call,

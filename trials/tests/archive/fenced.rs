@@ -1,0 +1,232 @@
+//! Lent memory that ends at a page without access, or begins after one, or is NULL where its length is 0: no call reads or
+//! writes past what is lent, nor writes what it only looks at, for that would end the process.
+
+use std::ffi::c_int;
+
+use trials::compare::{Difference, Pair};
+use trials::engine::Second;
+use trials::fenced::{Fenced, FencedArchive, Place};
+use trials::lent::ALL;
+use trials::paper::E1;
+use trials::random::{cuts, image, image_damages, run, run_from_built, seeds, Rng};
+use trials::script::{Call, Lend, Line, Script};
+use trials::second::memory::{STATE_WORDS, TABLE_BYTES};
+
+use crate::support::{full_image, lent_lengths};
+
+const EXACT: Lend = Lend {
+    state: STATE_WORDS,
+    tables: TABLE_BYTES,
+    ..ALL
+};
+
+/// Plays the script at each place beside the second engine; the answers, which are the same at each.
+fn agree(seed: u64, script: &Script) -> Vec<u64> {
+    let answers = Place::ALL.map(|place| {
+        let engine = FencedArchive(place);
+        let mut pair = Pair::new(&engine, &Second);
+        let lines = script.lines.iter().enumerate();
+        let answers = lines.map(|(line, obeyed)| {
+            pair.obey(obeyed).unwrap_or_else(|what| {
+                let report = Difference { line, what }.report(seed, script);
+                panic!("{place:?}, {report}")
+            })
+        });
+        answers.collect()
+    });
+    let [answers, ..] = answers;
+    answers
+}
+
+/// Just enough memory for every call of the script but where it lends more or less.
+fn exactly(script: Script) -> Script {
+    let all = Line::Lend(ALL);
+    let lines = script.lines.into_iter();
+    let lines = lines.map(|line| if line == all { Line::Lend(EXACT) } else { line });
+    let lines = [Line::Lend(EXACT)].into_iter().chain(lines).collect();
+    Script { lines }
+}
+
+#[test]
+fn runs_agree_on_exact_memory() {
+    for seed in seeds(0, 60) {
+        let mut rng = Rng::new(seed);
+        let lines = rng.pick(&[50, 200, 400]);
+        agree(seed, &exactly(run(&mut rng, lines).0));
+        agree(seed, &exactly(run_from_built(&mut rng, 40).0));
+    }
+}
+
+/// One call of each kind.
+fn each_call() -> [Call; 8] {
+    let image = E1.to_vec();
+    let settings = [2, 2, 1];
+    let (sender, receiver) = (2, 1);
+    [
+        Call::Found { settings, id: 1 },
+        Call::Read { image },
+        Call::Begin { id: 2, gateway: 1 },
+        Call::Deliver { sender, receiver },
+        Call::Lookup { from: 1, to: 2 },
+        Call::Verdict,
+        Call::Write,
+        Call::Sound,
+    ]
+}
+
+/// Calls that make a network: of two nodes in system, of 64, and of two with a join in flight.
+fn networks() -> [Vec<Call>; 3] {
+    let (settings, id, gateway) = ([4, 4, 2], 1, 1);
+    let full = full_image(&mut Rng::new(1));
+    let [two, full] = [E1.to_vec(), full].map(|image| vec![Call::Read { image }]);
+    let founding = Call::Found { settings, id: 0 };
+    [two, full, vec![founding, Call::Begin { id, gateway }]]
+}
+
+/// The lengths around a fixed one: none, short, exact and longer.
+fn around(fixed: usize) -> [usize; 6] {
+    [0, 1, fixed - 1, fixed, fixed + 1, fixed + 16]
+}
+
+#[test]
+fn each_call_agrees_at_every_length() {
+    let mut taken = [0; 8];
+    for network in networks() {
+        for state in around(STATE_WORDS) {
+            for tables in around(TABLE_BYTES) {
+                for (kind, call) in each_call().into_iter().enumerate() {
+                    let mut script = Script::default();
+                    script.lines.push(Line::Lend(EXACT));
+                    network.iter().for_each(|made| script.call(made.clone()));
+                    script.lines.push(Line::Lend(Lend {
+                        state,
+                        tables,
+                        ..EXACT
+                    }));
+                    script.call(call);
+                    let answers = agree(0, &script);
+                    taken[kind] += usize::from(answers[answers.len() - 1] & 0xff == 0);
+                }
+            }
+        }
+    }
+    assert!(taken.iter().all(|&times| times >= 9), "{taken:?}");
+}
+
+#[test]
+fn writing_agrees_at_every_length_of_the_output() {
+    for seed in seeds(100, 30) {
+        let image = image(&mut Rng::new(seed));
+        let mut script = Script::default();
+        script.lines.push(Line::Lend(EXACT));
+        let length = image.len();
+        script.call(Call::Read { image });
+        for out in [0, 1, length / 2, length - 1, length, length + 1, ALL.out] {
+            script.lines.push(Line::Lend(Lend { out, ..EXACT }));
+            script.call(Call::Write);
+        }
+        agree(seed, &script);
+    }
+}
+
+#[test]
+fn images_of_every_length_are_judged_alike() {
+    for seed in seeds(200, 12) {
+        let mut rng = Rng::new(seed);
+        let image = image(&mut rng);
+        let mut script = Script::default();
+        script.lines.push(Line::Lend(EXACT));
+        let step = 1 + image.len() / 200;
+        let early = cuts(&image).take(20);
+        let images = early.chain(cuts(&image).step_by(step));
+        let images = images.chain([image.clone(), [&image[..], &[0]].concat()]);
+        for image in images.chain(image_damages(&mut rng, &image)) {
+            script.call(Call::Read { image });
+        }
+        agree(seed, &script);
+    }
+}
+
+#[test]
+fn founding_and_reading_agree_on_any_memory() {
+    for seed in seeds(300, 200) {
+        let mut rng = Rng::new(seed);
+        let (state, tables) = lent_lengths(&mut rng);
+        let lend = Line::Lend(Lend {
+            state,
+            tables,
+            ..ALL
+        });
+        let image = E1.to_vec();
+        let lines = [Call::Read { image }, found(&mut rng)].map(Line::Call);
+        let lines = [lend].into_iter().chain(lines).collect();
+        agree(seed, &Script { lines });
+    }
+}
+
+fn found(rng: &mut Rng) -> Call {
+    let settings = [2 + rng.below(15), 1 + rng.below(8), 1 + rng.below(4)];
+    Call::Found {
+        settings: settings.map(|number| number as u64),
+        id: 1,
+    }
+}
+
+extern "C" {
+    fn fork() -> c_int;
+    fn waitpid(process: c_int, status: *mut c_int, options: c_int) -> c_int;
+    fn _exit(status: c_int) -> !;
+}
+
+const BAD_ACCESS: c_int = 11;
+
+/// The signal that ends a copy of this process at what it does, 0 if none does.
+fn signal_at(does: impl FnOnce()) -> c_int {
+    let mut status = 0;
+    // SAFETY: the copy does that one thing and leaves.
+    unsafe {
+        let copy = fork();
+        if copy == 0 {
+            does();
+            _exit(0);
+        }
+        assert_eq!(waitpid(copy, &mut status, 0), copy);
+    }
+    status & 0x7f
+}
+
+// SAFETY of the two: a copy of the process does it, which a bad access ends.
+fn signal_at_read(at: *const u8) -> c_int {
+    signal_at(|| _ = unsafe { at.read_volatile() })
+}
+
+fn signal_at_write(at: *mut u8) -> c_int {
+    signal_at(|| unsafe { at.write_volatile(1) })
+}
+
+/// What the trials above rest on.
+#[test]
+fn an_access_past_fenced_memory_ends_the_process() {
+    let bytes = [7; 5_000];
+    let before = Fenced::new(Place::Before, &bytes);
+    let end = before.pointer().wrapping_add(bytes.len());
+    assert_eq!(signal_at_read(end.wrapping_sub(1)), 0);
+    assert_eq!(signal_at_read(end), BAD_ACCESS);
+    assert_eq!(signal_at_write(end.wrapping_sub(1)), 0);
+    assert_eq!(signal_at_write(end), BAD_ACCESS);
+
+    let after = Fenced::new(Place::After, &bytes);
+    assert_eq!(signal_at_write(after.pointer()), 0);
+    assert_eq!(signal_at_write(after.pointer().wrapping_sub(1)), BAD_ACCESS);
+
+    let constant = Fenced::constant(Place::After, &bytes);
+    assert_eq!(signal_at_read(constant.pointer()), 0);
+    assert_eq!(signal_at_write(constant.pointer()), BAD_ACCESS);
+
+    for place in Place::ALL {
+        assert_eq!(
+            signal_at_read(Fenced::new(place, &[]).pointer()),
+            BAD_ACCESS
+        );
+    }
+}
