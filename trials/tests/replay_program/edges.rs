@@ -1,0 +1,229 @@
+//! Scripts at the edges of the language, with what they print written out.
+
+use std::fs;
+
+use crate::language::{lines, Command, Line};
+use crate::player::{expected, LONGEST_SCRIPT};
+use crate::support::{replay, root, Folder};
+
+/// What the program prints, which must also be what is expected of it by the second engine.
+fn printed(script: &[u8]) -> String {
+    let printed = replay(script, &Folder::new());
+    assert_eq!(printed, expected(script, &Folder::new()));
+    printed
+}
+
+#[test]
+fn lines_that_are_no_command_are_named_and_passed_over() {
+    let script = "found 2 2 1\nfound 2 2 1 0 0\nbegin g 1\nlookup -1 1\n# nothing\nfound 2 2 1 0\nlookup 1 18446744073709551616\nverdict";
+    let expected = "line 1: not understood\nline 2: not understood\nline 3: not understood\nline 4: not understood\nfound: node 1\nline 7: not understood\nverdict: consistent\n";
+    assert_eq!(printed(script.as_bytes()), expected);
+}
+
+#[test]
+fn a_script_without_words_prints_nothing() {
+    let scripts: [&[u8]; 7] = [
+        b"",
+        b"\n",
+        b"\n\n\n",
+        b" \t\r",
+        b"#",
+        b"# verdict\n  #verdict\r\n\t# sound",
+        b"#\0\n#\xff\n",
+    ];
+    for script in scripts {
+        assert_eq!(printed(script), "", "{}", script.escape_ascii());
+    }
+    assert_eq!(printed(&b"# a comment\n".repeat(50_000)), "");
+}
+
+#[test]
+fn blanks_and_comments_end_words_and_nothing_else_does() {
+    let blanks: &[u8] = b"\tfound\t2\r2 \r 1  0#0\r\nverdict#\nsound\r\n  verdict\r \nver#dict\n";
+    let expected = "found: node 1\nverdict: consistent\nsound: the state is sound\nverdict: consistent\nline 5: not understood\n";
+    assert_eq!(printed(blanks), expected);
+    for other in [0, 1, 11, 12, 27, 127, 133, 160, 255] {
+        for script in [[b"sound", &[other][..]], [&[other], b"sound"]] {
+            assert_eq!(printed(&script.concat()), "line 1: not understood\n");
+        }
+    }
+}
+
+#[test]
+fn numbers_are_held_whole_or_not_understood() {
+    let unsound = "refused 2: the state is not sound\n";
+    let none = "line 1: not understood\n";
+    let zeros = "0".repeat(1_000);
+    for (number, answer) in [
+        ("0", unsound),
+        ("18446744073709551615", unsound),
+        (&format!("{zeros}18446744073709551615"), unsound),
+        (&zeros, unsound),
+        ("18446744073709551616", none),
+        ("184467440737095516150", none),
+        ("340282366920938463463374607431768211457", none),
+        (&"9".repeat(1_000), none),
+        (&format!("1{zeros}"), none),
+        ("a", none),
+        ("1a", none),
+        ("0x1", none),
+        ("+1", none),
+        ("-1", none),
+        ("1,000", none),
+    ] {
+        let script = format!("table {number}");
+        assert_eq!(printed(script.as_bytes()), answer, "{script}");
+    }
+    for (id, answer) in [
+        ("0", unsound),
+        ("fFfFfFfF", unsound),
+        (&format!("{zeros}ffffffff"), unsound),
+        ("100000000", none),
+        ("1ffffffff", none),
+        ("10000000000000000", none),
+        ("g", none),
+        ("0xf", none),
+        ("-f", none),
+    ] {
+        let script = format!("begin {id} 1");
+        assert_eq!(printed(script.as_bytes()), answer, "{script}");
+    }
+}
+
+#[test]
+fn tables_and_soundness_before_founding_and_while_a_node_joins() {
+    let script = b"table 1\ntable 0\nsound\nfound 16 3 2 fa0\ntable 1\nbegin b0 1\ntable 2\ndeliver 2 1\ntable 2\nsound\ntable 0\ntable 3\ntable 9223372036854775808\n";
+    let expected = "\
+refused 2: the state is not sound
+refused 2: the state is not sound
+refused 2: the state is not sound
+found: node 1
+table 1: id fa0, settled
+  level 0 digit 0: 1
+  level 1 digit a: 1
+  level 2 digit f: 1
+begin: node 2
+table 2: id 0b0, copying
+  level 0 digit 0: 2
+  level 1 digit b: 2
+  level 2 digit 0: 2
+deliver: copied
+table 2: id 0b0, waiting
+  level 0 digit 0: 2 1
+  level 1 digit a: 1
+  level 1 digit b: 2
+  level 2 digit 0: 2
+sound: the state is sound
+refused 9: a node number is 0 or above the number of nodes
+refused 9: a node number is 0 or above the number of nodes
+refused 9: a node number is 0 or above the number of nodes
+";
+    assert_eq!(printed(script), expected);
+}
+
+#[test]
+fn files_that_cannot_be_opened_are_named_and_folders_have_no_bytes() {
+    let script = b"load .\nload nothing\nfound 2 2 1 0\nsave .\nsave nothing/x\nload nothing/x\nsave a\0b\nload a\0b\nsave a\nload a\nsave";
+    let expected = "\
+refused 3: the image has fewer than 5 bytes or does not begin with 4
+load: the file cannot be read
+found: node 1
+save: the file cannot be written
+save: the file cannot be written
+load: the file cannot be read
+save: the file cannot be written
+load: the file cannot be read
+save: 20 bytes
+load: 20 bytes
+line 11: not understood
+";
+    assert_eq!(printed(script), expected);
+    let long = format!("found 2 2 1 0\nsave {0}\nload {0}\n", "n".repeat(5_000));
+    let expected =
+        "found: node 1\nsave: the file cannot be written\nload: the file cannot be read\n";
+    assert_eq!(printed(long.as_bytes()), expected);
+}
+
+#[test]
+fn images_are_kept_as_they_come_and_overlong_ones_meet_6_if_nothing_earlier() {
+    let whole = fs::read(root().join("samples/network64.image")).expect("network64");
+    let load = |image: &[u8]| {
+        let folder = Folder::holding(&[("image".into(), image.to_vec())]);
+        let printed = replay(b"load image", &folder);
+        assert_eq!(printed, expected(b"load image", &folder));
+        printed
+    };
+    assert_eq!(load(&whole), format!("load: {} bytes\n", whole.len()));
+    for length in [whole.len() + 1, 65_535, 65_536, 65_537, 70_000, 1_000_000] {
+        let mut long = whole.clone();
+        long.resize(length, 0);
+        assert!(load(&long).starts_with("refused 6: "), "{length}");
+        long[1] = 2;
+        assert!(load(&long).starts_with("refused 4: "), "{length}");
+    }
+}
+
+#[test]
+fn a_script_of_1048575_bytes_is_played_and_a_longer_one_is_not() {
+    let of_length = |length: usize| {
+        let mut script = b"found 2 2 1 0\n# ".to_vec();
+        script.resize(length - 8, b'#');
+        script.extend(b"\nverdict");
+        script
+    };
+    let played = "found: node 1\nverdict: consistent\n";
+    assert_eq!(printed(&of_length(LONGEST_SCRIPT)), played);
+    for length in [LONGEST_SCRIPT + 1, LONGEST_SCRIPT + 2, 3_000_000] {
+        let refused = "the script is longer than 1048575 bytes\n";
+        assert_eq!(printed(&of_length(length)), refused, "{length}");
+    }
+    let mut lines = vec![b'\n'; LONGEST_SCRIPT];
+    lines[LONGEST_SCRIPT - 1] = b'x';
+    assert_eq!(printed(&lines), "line 1048575: not understood\n");
+}
+
+/// Which command a line has.
+fn name(line: &Line) -> &'static str {
+    match line {
+        Line::Empty => "",
+        Line::NotUnderstood => "not understood",
+        Line::Command(command) => match command {
+            Command::Found { .. } => "found",
+            Command::Begin { .. } => "begin",
+            Command::Deliver { .. } => "deliver",
+            Command::Lookup { .. } => "lookup",
+            Command::Verdict => "verdict",
+            Command::Sound => "sound",
+            Command::Save { .. } => "save",
+            Command::Load { .. } => "load",
+            Command::Table { .. } => "table",
+        },
+    }
+}
+
+#[test]
+fn the_script_of_the_docs_has_every_command_and_prints_what_stands_beside_it() {
+    let script = fs::read(root().join("crates/replay/stdin")).expect("stdin");
+    let answers = fs::read_to_string(root().join("crates/replay/stdout")).expect("stdout");
+    assert_eq!(printed(&script), answers);
+    let mut names: Vec<&str> = lines(&script).map(|(_, line)| name(&line)).collect();
+    names.sort();
+    names.dedup();
+    let all = [
+        "",
+        "begin",
+        "deliver",
+        "found",
+        "load",
+        "lookup",
+        "not understood",
+        "save",
+        "sound",
+        "table",
+        "verdict",
+    ];
+    assert_eq!(names, all);
+    for byte in b"\t\r#" {
+        assert!(script.contains(byte), "{byte}");
+    }
+}

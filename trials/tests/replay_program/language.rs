@@ -1,0 +1,85 @@
+//! The language of scripts, read as docs/REPLAY.md has it.
+
+#[derive(Clone, Debug, PartialEq, Eq)]
+pub enum Command {
+    Found { settings: [u64; 3], id: u32 },
+    Begin { id: u32, gateway: u64 },
+    Deliver { sender: u64, receiver: u64 },
+    Lookup { from: u64, to: u64 },
+    Verdict,
+    Sound,
+    Save { file: Vec<u8> },
+    Load { file: Vec<u8> },
+    Table { node: u64 },
+}
+
+#[derive(Clone, Debug, PartialEq, Eq)]
+pub enum Line {
+    /// No word: no answer.
+    Empty,
+    NotUnderstood,
+    Command(Command),
+}
+
+/// The lines of a script, by their number.
+pub fn lines(script: &[u8]) -> impl Iterator<Item = (usize, Line)> + '_ {
+    (1..).zip(script.split(|&byte| byte == b'\n').map(line))
+}
+
+fn line(text: &[u8]) -> Line {
+    let text = text.split(|&byte| byte == b'#').next().expect("one piece");
+    let words: Vec<&[u8]> = text
+        .split(|byte| b" \t\r".contains(byte))
+        .filter(|word| !word.is_empty())
+        .collect();
+    match command(&words) {
+        _ if words.is_empty() => Line::Empty,
+        None => Line::NotUnderstood,
+        Some(command) => Line::Command(command),
+    }
+}
+
+fn command(words: &[&[u8]]) -> Option<Command> {
+    Some(match *words {
+        [b"found", base, digits, depth, name] => Command::Found {
+            settings: [number(base)?, number(digits)?, number(depth)?],
+            id: id(name)?,
+        },
+        [b"begin", name, gateway] => Command::Begin {
+            id: id(name)?,
+            gateway: number(gateway)?,
+        },
+        [b"deliver", sender, receiver] => Command::Deliver {
+            sender: number(sender)?,
+            receiver: number(receiver)?,
+        },
+        [b"lookup", from, to] => Command::Lookup {
+            from: number(from)?,
+            to: number(to)?,
+        },
+        [b"verdict"] => Command::Verdict,
+        [b"sound"] => Command::Sound,
+        [b"save", file] => Command::Save { file: file.into() },
+        [b"load", file] => Command::Load { file: file.into() },
+        [b"table", node] => Command::Table {
+            node: number(node)?,
+        },
+        _ => return None,
+    })
+}
+
+/// In decimal, of 64 bits.
+fn number(word: &[u8]) -> Option<u64> {
+    digits(word, 10)?.parse().ok()
+}
+
+/// In hexadecimal, of 32 bits.
+fn id(word: &[u8]) -> Option<u32> {
+    u32::from_str_radix(digits(word, 16)?, 16).ok()
+}
+
+/// The word as text if it is made of digits alone: no sign, no prefix.
+fn digits(word: &[u8], radix: u32) -> Option<&str> {
+    let text = std::str::from_utf8(word).ok()?;
+    text.chars().all(|c| c.is_digit(radix)).then_some(text)
+}

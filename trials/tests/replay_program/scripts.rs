@@ -1,0 +1,333 @@
+//! Random scripts of commands in any layout, with tables and judgements of soundness among the calls.
+
+use std::collections::BTreeMap;
+
+use trials::random::{bad_number, fresh_id, id, run, seeds, settings, Rng};
+use trials::script::{Call, Line as RunLine};
+
+use crate::language::{lines, Command, Line};
+use crate::player::Player;
+use crate::support::{replay, File, Folder};
+
+/// A script while it is made: each command is played at once, so as to know how many nodes there are.
+struct Maker<'a> {
+    rng: &'a mut Rng,
+    player: Player<'a>,
+    folder: &'a Folder,
+    made: Made,
+}
+
+#[derive(Default)]
+pub struct Made {
+    pub text: Vec<u8>,
+    commands: Vec<Command>,
+    /// What each `table` and each `sound` was answered, its first line.
+    looks: Vec<(&'static str, String)>,
+    /// What the script reads and has not written itself.
+    pub files: Vec<File>,
+    pub printed: String,
+}
+
+/// A run as a script, with looks at its state from before its founding to its end. The folder is left as the script leaves it.
+pub fn script(rng: &mut Rng, calls: usize, folder: &Folder) -> Made {
+    let (run, _) = run(rng, calls);
+    let mut maker = Maker::new(rng, folder);
+    maker.before_founding();
+    for line in run.lines {
+        if let RunLine::Call(call) = line {
+            maker.call(call);
+            maker.look();
+        }
+    }
+    maker.end()
+}
+
+/// Joins, many at a time, until there are 64 nodes, and often until all are settled and the image can be kept and read back.
+fn grown_script(rng: &mut Rng, folder: &Folder) -> Made {
+    let mut chosen = settings(rng);
+    while chosen.base().pow(chosen.digits() as u32) < 100 {
+        chosen = settings(rng);
+    }
+    let id = id(rng, chosen);
+    let settings = [chosen.base(), chosen.digits(), chosen.depth()].map(|n| n as u64);
+    let mut maker = Maker::new(rng, folder);
+    maker.command(Command::Found { settings, id });
+    let pace = maker.rng.pick(&[1, 2, 5, 20]);
+    while !maker.rng.once_in(pace) && maker.deliver() || maker.begin() {
+        if maker.rng.once_in(8) {
+            maker.look();
+        }
+    }
+    let patience = maker.rng.pick(&[200, 5_000]);
+    while !maker.rng.once_in(patience) && maker.deliver() {}
+    let file = b"grown".to_vec();
+    maker.command(Command::Save { file: file.clone() });
+    maker.command(Command::Load { file });
+    maker.end()
+}
+
+impl<'a> Maker<'a> {
+    fn new(rng: &'a mut Rng, folder: &'a Folder) -> Maker<'a> {
+        Maker {
+            rng,
+            player: Player::new(folder),
+            folder,
+            made: Made::default(),
+        }
+    }
+
+    /// With the table of every node at the end.
+    fn end(mut self) -> Made {
+        for node in 0..=self.player.count() as u64 + 1 {
+            self.command(Command::Table { node });
+        }
+        self.made.printed = self.player.printed;
+        self.made
+    }
+}
+
+impl Maker<'_> {
+    fn command(&mut self, command: Command) {
+        let answer = self.player.play(&command);
+        let first = answer.lines().next().expect("an answer").to_string();
+        match command {
+            Command::Table { .. } => self.made.looks.push(("table", first)),
+            Command::Sound => self.made.looks.push(("sound", first)),
+            _ => {}
+        }
+        write_line(self.rng, &command, &mut self.made.text);
+        self.made.commands.push(command);
+    }
+
+    /// Every call but founding and reading is refused 2 here.
+    fn before_founding(&mut self) {
+        for _ in 0..self.rng.below(5) {
+            let (one, other) = (self.number(), self.number());
+            let (from, to, sender, receiver) = (one, other, one, other);
+            let file = b"early".to_vec();
+            let commands = [
+                Command::Table { node: one },
+                Command::Sound,
+                Command::Verdict,
+                Command::Lookup { from, to },
+                Command::Deliver { sender, receiver },
+                Command::Begin { id: 0, gateway: 1 },
+                Command::Save { file },
+            ];
+            let command = commands[self.rng.below(commands.len())].clone();
+            self.command(command);
+        }
+    }
+
+    /// Begins a join; no longer where there are 64 nodes, which is tried once, or no id is found.
+    fn begin(&mut self) -> bool {
+        let network = self.player.network();
+        let gateways = network.iter().filter(|(_, node)| node.in_system());
+        let gateways: Vec<u64> = gateways.map(|(number, _)| number as u64).collect();
+        let Some(id) = fresh_id(self.rng, &network) else {
+            return false;
+        };
+        let gateway = self.rng.pick(&gateways);
+        self.command(Command::Begin { id, gateway });
+        self.player.count() > network.count()
+    }
+
+    /// Delivers an outstanding request, if there is one.
+    fn deliver(&mut self) -> bool {
+        let outstanding = self.player.network().outstanding();
+        if outstanding.is_empty() {
+            return false;
+        }
+        let (sender, receiver) = self.rng.pick(&outstanding);
+        let (sender, receiver) = (sender as u64, receiver as u64);
+        self.command(Command::Deliver { sender, receiver });
+        true
+    }
+
+    fn call(&mut self, call: Call) {
+        let command = match call {
+            Call::Found { settings, id } => Command::Found { settings, id },
+            Call::Begin { id, gateway } => Command::Begin { id, gateway },
+            Call::Deliver { sender, receiver } => Command::Deliver { sender, receiver },
+            Call::Lookup { from, to } => Command::Lookup { from, to },
+            Call::Verdict => Command::Verdict,
+            Call::Sound => Command::Sound,
+            Call::Write => Command::Save {
+                file: self.saved_name(),
+            },
+            Call::Read { image } => Command::Load {
+                file: self.loaded_name(image),
+            },
+        };
+        self.command(command);
+    }
+
+    /// One of few, so that a file is written again, by a longer image or a shorter one.
+    fn saved_name(&mut self) -> Vec<u8> {
+        format!("saved{}", self.rng.below(3)).into_bytes()
+    }
+
+    /// A file with the image; at times one that the script wrote, or that is not there.
+    fn loaded_name(&mut self, image: Vec<u8>) -> Vec<u8> {
+        if self.rng.once_in(4) {
+            return self.saved_name();
+        }
+        let file = (format!("image{}", self.made.files.len()), image);
+        self.folder.put(&file);
+        let name = file.0.clone().into_bytes();
+        self.made.files.push(file);
+        name
+    }
+
+    /// At times a table, at times a judgement of soundness.
+    fn look(&mut self) {
+        if self.rng.once_in(3) {
+            let node = self.number();
+            self.command(Command::Table { node });
+        }
+        if self.rng.once_in(10) {
+            self.command(Command::Sound);
+        }
+    }
+
+    /// Mostly a node's number, the newest more often: it is the likeliest to be joining.
+    fn number(&mut self) -> u64 {
+        let count = self.player.count();
+        match self.rng.below(4) {
+            _ if count == 0 => self.rng.pick(&[0, 1, 2, 64, 65, 1 << 63, u64::MAX]),
+            0 => bad_number(self.rng, count),
+            1 => count as u64,
+            _ => self.rng.between(1, count as u64),
+        }
+    }
+}
+
+/// The command in some layout, and at times a line without words.
+fn write_line(rng: &mut Rng, command: &Command, text: &mut Vec<u8>) {
+    let empty: [&[u8]; 5] = [b"\n", b"# verdict\n", b" \t\r\n", b"\t#\n", b"##\r\n"];
+    if rng.once_in(8) {
+        text.extend(rng.pick(&empty));
+    }
+    let blanks: [&[u8]; 6] = [b" ", b" ", b" ", b"\t", b"  ", b" \t "];
+    let ends: [&[u8]; 7] = [b"", b"", b" ", b"\r", b"\t\r", b" # a comment", b"#table 1"];
+    if rng.once_in(6) {
+        text.extend(rng.pick(&blanks));
+    }
+    for (place, word) in command_words(rng, command).into_iter().enumerate() {
+        if place > 0 {
+            text.extend(rng.pick(&blanks));
+        }
+        text.extend(word);
+    }
+    text.extend(rng.pick(&ends));
+    text.push(b'\n');
+}
+
+fn command_words(rng: &mut Rng, command: &Command) -> Vec<Vec<u8>> {
+    let mut number = |n: u64| format!("{}{n}", zeros(rng));
+    let texts: Vec<String> = match command {
+        Command::Found { settings, id } => {
+            let [base, digits, depth] = settings.map(&mut number);
+            vec!["found".into(), base, digits, depth, hexadecimal(rng, *id)]
+        }
+        Command::Begin { id, gateway } => {
+            let gateway = number(*gateway);
+            vec!["begin".into(), hexadecimal(rng, *id), gateway]
+        }
+        Command::Deliver { sender, receiver } => {
+            vec!["deliver".into(), number(*sender), number(*receiver)]
+        }
+        Command::Lookup { from, to } => vec!["lookup".into(), number(*from), number(*to)],
+        Command::Verdict => vec!["verdict".into()],
+        Command::Sound => vec!["sound".into()],
+        Command::Save { file } => return vec![b"save".to_vec(), file.clone()],
+        Command::Load { file } => return vec![b"load".to_vec(), file.clone()],
+        Command::Table { node } => vec!["table".into(), number(*node)],
+    };
+    texts.into_iter().map(String::into_bytes).collect()
+}
+
+/// Mostly none.
+fn zeros(rng: &mut Rng) -> String {
+    "0".repeat(rng.pick(&[0, 0, 0, 0, 0, 0, 1, 30]))
+}
+
+fn hexadecimal(rng: &mut Rng, id: u32) -> String {
+    let zeros = zeros(rng);
+    if rng.once_in(4) {
+        format!("{zeros}{id:X}")
+    } else {
+        format!("{zeros}{id:x}")
+    }
+}
+
+/// The program prints the same and leaves the same files. Also counts the looks by what they were answered.
+fn agree(made: Made, ours: &Folder, seed: u64, looks: &mut BTreeMap<String, usize>) {
+    let theirs = Folder::holding(&made.files);
+    let text = String::from_utf8_lossy(&made.text);
+    let printed = replay(&made.text, &theirs);
+    assert_eq!(printed, made.printed, "seed {seed}:\n{text}");
+    assert_eq!(theirs.files(), ours.files(), "seed {seed}:\n{text}");
+    for (name, answer) in made.looks {
+        *looks.entry(kind(name, &answer)).or_default() += 1;
+    }
+}
+
+#[test]
+fn random_scripts_print_what_the_second_engine_answers() {
+    let mut looks = BTreeMap::new();
+    for seed in seeds(0, 150) {
+        let ours = Folder::new();
+        let made = script(&mut Rng::new(seed), 200, &ours);
+        agree(made, &ours, seed, &mut looks);
+    }
+    println!("{looks:?}");
+    let wanted = [
+        "table refused 2",
+        "table refused 9",
+        "table settled",
+        "table copying",
+        "table waiting",
+        "table notifying",
+        "sound refused 2",
+        "sound sound",
+    ];
+    assert!(wanted.iter().all(|&kind| looks.contains_key(kind)));
+}
+
+#[test]
+fn networks_of_64_nodes_print_what_the_second_engine_answers() {
+    let mut looks = BTreeMap::new();
+    let (mut full, mut kept) = (0, 0);
+    for seed in seeds(1_000, 40) {
+        let ours = Folder::new();
+        let made = grown_script(&mut Rng::new(seed), &ours);
+        full += made.printed.matches("refused 11: ").count();
+        kept += made.printed.matches("save: ").count();
+        agree(made, &ours, seed, &mut looks);
+    }
+    println!("{full} full, {kept} kept, {looks:?}");
+    assert!(full > 0 && kept > 0);
+}
+
+/// A look by what it was answered: its refusal, or the status or judgement that ends its first line.
+fn kind(name: &str, answer: &str) -> String {
+    let end = match answer.strip_prefix("refused ") {
+        Some(_) => answer.split(':').next(),
+        None => answer.split(' ').next_back(),
+    };
+    format!("{name} {}", end.expect("a word"))
+}
+
+#[test]
+fn random_scripts_are_read_as_the_commands_that_they_were_made_of() {
+    for seed in seeds(500, 50) {
+        let folder = Folder::new();
+        let made = script(&mut Rng::new(seed), 100, &folder);
+        let read = lines(&made.text)
+            .map(|(_, line)| line)
+            .filter(|line| *line != Line::Empty);
+        let written = made.commands.iter().cloned().map(Line::Command);
+        assert!(read.eq(written), "seed {seed}");
+    }
+}

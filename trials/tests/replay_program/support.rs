@@ -1,0 +1,84 @@
+//! Folders, and the program run in one of them.
+
+use std::collections::BTreeMap;
+use std::ffi::OsString;
+use std::io::Write;
+use std::path::{Path, PathBuf};
+use std::process::{self, Command, Stdio};
+use std::sync::atomic::{AtomicUsize, Ordering};
+use std::{env, fs, thread};
+
+/// A file that lies in the folder before a script is played: its name and its bytes.
+pub type File = (String, Vec<u8>);
+
+/// A folder of its own, gone at the end.
+pub struct Folder(PathBuf);
+
+impl Folder {
+    pub fn new() -> Folder {
+        static MADE: AtomicUsize = AtomicUsize::new(0);
+        let number = MADE.fetch_add(1, Ordering::Relaxed);
+        let path = env::temp_dir().join(format!("replay-{}-{number}", process::id()));
+        fs::create_dir_all(&path).expect("the folder can be made");
+        Folder(path)
+    }
+
+    pub fn holding(files: &[File]) -> Folder {
+        let folder = Folder::new();
+        files.iter().for_each(|file| folder.put(file));
+        folder
+    }
+
+    pub fn put(&self, (name, bytes): &File) {
+        fs::write(self.0.join(name), bytes).expect("the file can be written");
+    }
+
+    pub fn path(&self) -> &Path {
+        &self.0
+    }
+
+    /// What lies in it.
+    pub fn files(&self) -> BTreeMap<OsString, Vec<u8>> {
+        let entries = fs::read_dir(&self.0).expect("the folder can be read");
+        let file = |entry: fs::DirEntry| {
+            let bytes = fs::read(entry.path()).expect("the file can be read");
+            (entry.file_name(), bytes)
+        };
+        entries
+            .map(|entry| file(entry.expect("it has a name")))
+            .collect()
+    }
+}
+
+impl Drop for Folder {
+    fn drop(&mut self) {
+        let _ = fs::remove_dir_all(&self.0);
+    }
+}
+
+pub fn root() -> PathBuf {
+    Path::new(env!("CARGO_MANIFEST_DIR")).join("..")
+}
+
+/// What the program prints for this script.
+pub fn replay(script: &[u8], folder: &Folder) -> String {
+    let program = root().join("target/bin/replay");
+    let mut child = Command::new(&program)
+        .current_dir(folder.path())
+        .stdin(Stdio::piped())
+        .stdout(Stdio::piped())
+        .stderr(Stdio::piped())
+        .spawn()
+        .unwrap_or_else(|error| {
+            panic!("{}: {error}; `rt check replay` makes it", program.display())
+        });
+    let mut pipe = child.stdin.take().expect("it is piped");
+    let script = script.to_vec();
+    // The program stops reading at 1,048,576 bytes, and then the pipe is closed.
+    let writer = thread::spawn(move || drop(pipe.write_all(&script)));
+    let output = child.wait_with_output().expect("it ends");
+    writer.join().expect("the writer ends");
+    assert!(output.status.success(), "{}", output.status);
+    assert!(output.stderr.is_empty(), "{:?}", output.stderr);
+    String::from_utf8(output.stdout).expect("it prints text")
+}

@@ -1,0 +1,99 @@
+//! Answers in words.
+
+use trials::second::memory;
+use trials::second::network::{Network, Status};
+use trials::second::table::Table;
+use trials::second::{lent_and_sound, Refusal};
+
+const SENTENCES: [&str; 17] = [
+    "",
+    "the lent memory is too short",
+    "the state is not sound",
+    "the image has fewer than 5 bytes or does not begin with 4",
+    "the image's version is not 1",
+    "a setting is out of range",
+    "the image's node count is wrong, or its length differs from its counts",
+    "an id has a digit not below the base, or a bit above its digits",
+    "an id is taken already",
+    "a node number is 0 or above the number of nodes",
+    "the image's records break their order or the table rules",
+    "there are 64 nodes already",
+    "the gateway is not settled",
+    "no request from the first node to the second is outstanding",
+    "the receiver of a wait request is not settled",
+    "a node is not settled",
+    "the memory for the image is too short",
+];
+
+pub fn field(answer: u64, k: u64) -> u64 {
+    answer >> (8 * k) & 0xff
+}
+
+/// The words of a packed answer, unless it is a refusal.
+pub fn said(answer: u64, words: impl FnOnce(u64) -> String) -> String {
+    match field(answer, 0) {
+        0 => words(answer),
+        refusal => refused(refusal),
+    }
+}
+
+pub fn refused(refusal: u64) -> String {
+    format!("refused {refusal}: {}", SENTENCES[refusal as usize])
+}
+
+pub fn delivered(answer: u64) -> String {
+    let kind = match field(answer, 1) {
+        1 => "copied".into(),
+        2 => "sent on".into(),
+        3 => format!("attached at level {}", field(answer, 2)),
+        _ => "notified".to_string(),
+    };
+    let settled = if field(answer, 3) == 1 {
+        ", settled"
+    } else {
+        ""
+    };
+    format!("deliver: {kind}{settled}")
+}
+
+pub fn looked_up(answer: u64) -> String {
+    let how = if field(answer, 1) == 1 {
+        "arrived"
+    } else {
+        "lost"
+    };
+    let hops = field(answer, 2);
+    let unit = if hops == 1 { "hop" } else { "hops" };
+    format!("lookup: {how} at {} in {hops} {unit}", field(answer, 3))
+}
+
+pub fn judged(answer: u64) -> String {
+    if field(answer, 1) == 1 {
+        return "verdict: consistent".into();
+    }
+    let (node, level, digit) = (field(answer, 2), field(answer, 3), field(answer, 4));
+    format!("verdict: node {node} level {level} digit {digit:x} falls short")
+}
+
+/// A node's id and status, then a line for each entry that is not empty.
+pub fn tabled(state: &[u64], tables: &[u8], node: u64) -> Result<String, Refusal> {
+    let (state, tables) = lent_and_sound(state, tables)?;
+    let network = Network::decode(state);
+    let number = network.number(node)?;
+    let owner = network.node(number);
+    let status = match owner.status {
+        Status::InSystem => "settled",
+        Status::Copying { .. } => "copying",
+        Status::Waiting { .. } => "waiting",
+        Status::Notifying { .. } => "notifying",
+    };
+    let (settings, id) = (network.settings, owner.id);
+    let digits = settings.digits();
+    let mut words = format!("table {number}: id {id:0digits$x}, {status}");
+    let table = Table::decode(settings, memory::table_bytes(tables, number));
+    for (level, digit, entry) in table.iter().filter(|(.., entry)| !entry.is_empty()) {
+        words += &format!("\n  level {level} digit {digit:x}:");
+        entry.iter().for_each(|node| words += &format!(" {node}"));
+    }
+    Ok(words)
+}
