@@ -1,17 +1,19 @@
--- On memories alike in the fixed lengths lookup, verdict and image are the same. Assumes nothing.
+-- On memories alike in the fixed lengths lookup, survey, verdict and image are the same. Assumes nothing.
 use Prim.Native.Nat.{ℕ, zero, suc, _+_, _≤_, _<_}
 use mathlib.Core.Path.{_≡_, refl, sym, ap, fun-ext, _∙_}
-use mathlib.Core.Bool.{Bool, true, false, not}
+use mathlib.Core.Bool.{Bool, true, false, not, _&&_}
 use mathlib.Core.List.{List, _∷_}
 use native.Mathlib.Omega.{arith}
+use lib.Dec.{eqb}
 use lib.ListN.{take}
-use Rattle.model.specs.Loops.{allBelow, firstBelow, countBelow, joinBelow, node}
+use Rattle.model.specs.Loops.{allBelow, firstBelow, countBelow, sumBelow, joinBelow, node}
 use Rattle.model.specs.Memory.{stateLength, base, digits, nodeCount, tableOf}
 use Rattle.model.specs.Nodes.{qualifies}
 use Rattle.model.specs.Lookup.{nextHop, veryHopsWithin, answerOf, lookup}
+use Rattle.model.specs.Survey.{arrivesIn, isLost, ofDifferent, pairsFrom, countPairs, hopPairs, lostPairs, surveyCounts}
 use Rattle.model.specs.Consistency.{Verdict, howMany, entryWhole, levelWhole, nodeWhole, consistent, nodeShort, levelShort, entryShort, firstShort, verdict}
 use Rattle.model.specs.Image.{idBytes, entryRecords, levelRecords, nodeRecords, allRecords, imageOf}
-use Rattle.model.proofs.Loops.{all-same, count-same, first-same, join-same, first-fails}
+use Rattle.model.proofs.Loops.{all-same, count-same, sum-same, first-same, join-same, first-fails}
 use Rattle.model.proofs.Status.{IsNode}
 use Rattle.model.proofs.Sound.{Sound}
 use Rattle.model.proofs.Lookup.{Step, arrives, loses, hops, step-of, arrives-path, loses-path, hops-path, hop-node}
@@ -76,6 +78,40 @@ module _ (s t s′ t′ : List ℕ) (L : LongAlike s t s′ t′) (S : Sound s t
     lookup-same u nu =
         ap (λ (d : ℕ). answerOf z (veryHopsWithin (suc d) s′ t′ u z)) (digits-same s s′ a)
         ∙ ap (answerOf z) (hops-same (suc (digits s)) u nu)
+
+  -- ---- the survey
+
+  pairs-same : (f f′ : ℕ → ℕ → Bool) → ((u z : ℕ) → IsNode s u → IsNode s z → f′ u z ≡ f u z) → countPairs s′ f′ ≡ countPairs s f
+  unfolding countPairs
+  pairs-same f f′ e =
+      nodes-same sumBelow sum-same (nodeCount s) (nodeCount s′) count (pairsFrom s f) (pairsFrom s′ f′)
+      (λ u lu hu.
+      nodes-same countBelow count-same (nodeCount s) (nodeCount s′) count (ofDifferent f u) (ofDifferent f′ u)
+      (λ z lz hz.
+      ap (λ (b : Bool). not (eqb u z) && b) (e u z (record { low = lu; high = hu }) (record { low = lz; high = hz }))))
+
+  hop-pairs-same : (h : ℕ) → hopPairs s′ t′ h ≡ hopPairs s t h
+  unfolding arrivesIn
+  hop-pairs-same h = pairs-same (arrivesIn s t h) (arrivesIn s′ t′ h) (λ u z nu nz. cc (lookup-same z nz u nu))
+
+  lost-pairs-same : lostPairs s′ t′ ≡ lostPairs s t
+  unfolding isLost
+  lost-pairs-same = pairs-same (isLost s t) (isLost s′ t′) (λ u z nu nz. cc (lookup-same z nz u nu))
+
+  pub survey-same : surveyCounts s′ t′ ≡ surveyCounts s t
+  unfolding surveyCounts
+  survey-same =
+      cc (
+        hop-pairs-same 1,
+        hop-pairs-same 2,
+        hop-pairs-same 3,
+        hop-pairs-same 4,
+        hop-pairs-same 5,
+        hop-pairs-same 6,
+        hop-pairs-same 7,
+        hop-pairs-same 8,
+        lost-pairs-same,
+      )
 
   -- ---- the verdict
 

@@ -54,7 +54,7 @@ count-finds (suc n) f r l = go (f n) refl (decLt r (countBelow n f)) l (count-fi
     go false e (no g) l ih = absurd (omega arith)
 
 -- where the test holds at most once
-count-one : (n : ℕ) (f : ℕ → Bool) → ((p q : ℕ) → p < n → q < n → f p ≡ true → f q ≡ true → p ≡ q) → countBelow n f ≤ 1
+pub count-one : (n : ℕ) (f : ℕ → Bool) → ((p q : ℕ) → p < n → q < n → f p ≡ true → f q ≡ true → p ≡ q) → countBelow n f ≤ 1
 unfolding countBelow
 count-one zero f h = omega arith
 count-one (suc n) f h = go (f n) refl (count-one n f (λ p q l g. h p q (le-step l) (le-step g)))

@@ -1,45 +1,63 @@
--- The fields of every answer but the length of a written image are below 256. Assumes nothing.
-use Prim.Native.Nat.{ℕ, zero, suc, _≤_, _<_}
+-- How large the fields of an answer are: below 256, but for the length of a written image and the counts of a survey, which are at most
+-- 4,096. Assumes nothing.
+use Prim.Native.Nat.{ℕ, zero, suc, _*_, _≤_, _<_}
 use mathlib.Core.Path.{_≡_, refl}
 use mathlib.Core.Bool.{Bool, true, false, cond}
 use mathlib.Core.List.{List, [], _∷_}
+use native.Mathlib.Nat.{mul-le-mul}
 use native.Mathlib.Omega.{arith}
 use lib.Dec.{eqb}
-use lib.ListN.{replicate}
+use lib.ListN.{getD, replicate}
+use borrow.Author.Tests.{eq-eqb}
 use Rattle.model.specs.Loops.{firstBelow, node}
 use Rattle.model.specs.Nodes.{firstNode}
 use Rattle.model.specs.Memory.{Memory, base, digits, nodeCount, inSystem}
 use Rattle.model.specs.Join.{delivery}
 use Rattle.model.specs.Lookup.{lookup}
+use Rattle.model.specs.Survey.{countPairs, surveyCounts}
 use Rattle.model.specs.Consistency.{consistent, nodeShort, levelShort, entryShort, firstShort, verdict}
-use Rattle.model.specs.Refusals.{Sentence, firstTrue, beginRefusal, deliverRefusal, lookupRefusal, verdictRefusal}
-use Rattle.model.specs.Calls.{Outcome, refusedAt, refused, taken, unlessRefused, verdictFields, beginCall, deliverCall, lookupCall, verdictCall}
+use Rattle.model.specs.Refusals.{Sentence, firstTrue, stateRefusal, beginRefusal, deliverRefusal, lookupRefusal, verdictRefusal}
+use Rattle.model.specs.Calls.{Outcome, refusedAt, refused, taken, unlessRefused, verdictFields, beginCall, deliverCall, lookupCall, surveyCall, verdictCall}
 use Rattle.model.proofs.Refusals.{numbered, sentences-below}
-use Rattle.model.proofs.Calls.{either-end}
+use Rattle.model.proofs.Calls.{either-end, taken-zero}
 use Rattle.model.proofs.Loops.{first-le}
 use Rattle.model.proofs.Status.{IsNode}
 use Rattle.model.proofs.Sound.{Sound}
 use Rattle.model.proofs.DeliveryDid.{delivery-small}
 use Rattle.model.proofs.Lookup.{arrives-is, loses-is, lookup-hop, hops-bound, walk}
-use Rattle.model.proofs.Taken.{begin-taken, deliver-taken, lookup-taken, verdict-taken}
+use Rattle.model.proofs.Survey.{pairs-most}
+use Rattle.model.proofs.Taken.{state-taken, begin-taken, deliver-taken, lookup-taken, verdict-taken}
 
--- each field is below 256
-unfoldable pub Bytes : List ℕ → Type 0
-Bytes [] = Unit
-Bytes (field ∷ fields) = (field < 256) × Bytes fields
+-- each field is below n
+unfoldable pub Below : ℕ → List ℕ → Type 0
+Below n [] = Unit
+Below n (field ∷ fields) = (field < n) × Below n fields
+
+abbrev pub Bytes : List ℕ → Type 0
+Bytes fields = Below 256 fields
+
+pub below-at : (n : ℕ) (fields : List ℕ) → 0 < n → Below n fields → (k : ℕ) → getD fields k 0 < n
+unfolding Below
+below-at n [] some b k = some
+below-at n (field ∷ fields) some (b, more) zero = b
+below-at n (field ∷ fields) some (b, more) (suc k) = below-at n fields some more k
 
 -- ---- refused or taken
 
-zeros : (n : ℕ) → Bytes (replicate n 0)
-unfolding Bytes
-zeros zero = _
-zeros (suc n) = (omega arith, zeros n)
+zeros : (n k : ℕ) → 256 ≤ n → Below n (replicate k 0)
+unfolding Below
+zeros n zero big = _
+zeros n (suc k) big = (omega arith, zeros n k big)
+
+below-unless : (n : ℕ) → 256 ≤ n → (m : Memory) (out : List ℕ) (cs : List Sentence) (k : ℕ) (done : Outcome) → numbered cs ≡ true
+    → (firstTrue cs ≡ 0 → Below n (done .answer)) → Below n (unlessRefused (firstTrue cs) (refused m out k) done .answer)
+unfolding Below refusedAt
+below-unless n big m out cs k done g f =
+    either-end (λ (o : Outcome). Below n (o .answer)) (firstTrue cs) (refused m out k) done (λ nz. (omega (arith, sentences-below cs g), zeros n k big)) f
 
 bytes-unless : (m : Memory) (out : List ℕ) (cs : List Sentence) (k : ℕ) (done : Outcome) → numbered cs ≡ true → (firstTrue cs ≡ 0 → Bytes (done .answer))
     → Bytes (unlessRefused (firstTrue cs) (refused m out k) done .answer)
-unfolding Bytes refusedAt
-bytes-unless m out cs k done g f =
-    either-end (λ (o : Outcome). Bytes (o .answer)) (firstTrue cs) (refused m out k) done (λ nz. (sentences-below cs g, zeros k)) f
+bytes-unless = below-unless 256 (omega arith)
 
 bit-below : (b : Bool) → cond b 1 0 < 256
 bit-below true = omega arith
@@ -48,12 +66,12 @@ bit-below false = omega arith
 -- ---- the answers
 
 pub begin-bytes : (m : Memory) (id g : ℕ) → Bytes (beginCall m id g .answer)
-unfolding Bytes beginRefusal beginCall taken numbered
+unfolding Below beginRefusal beginCall taken numbered
 begin-bytes m id g =
     bytes-unless m [] _ 1 _ refl (λ z. let c = begin-taken m id g z in (omega arith, (omega (arith, c .1 .room), _)))
 
 pub deliver-bytes : (m : Memory) (x y : ℕ) → Bytes (deliverCall m x y .answer)
-unfolding Bytes deliverRefusal deliverCall taken numbered
+unfolding Below deliverRefusal deliverCall taken numbered
 deliver-bytes m x y =
     bytes-unless m [] _ 3 _ refl
     (λ z.
@@ -71,7 +89,7 @@ ends s t S z nz =
     (λ u nu e q ih. rw (lookup-hop s t S z nz u nu e q) ih)
 
 pub lookup-bytes : (m : Memory) (u z : ℕ) → Bytes (lookupCall m u z .answer)
-unfolding Bytes lookupRefusal lookupCall taken numbered
+unfolding Below lookupRefusal lookupCall taken numbered
 lookup-bytes m u z =
     bytes-unless m [] _ 3 _ refl
     (λ q.
@@ -83,7 +101,7 @@ lookup-bytes m u z =
     (omega arith, (omega (arith, e .0), (omega (arith, h, most), (omega (arith, e .1, few), _)))))
 
 judged-bytes : (s t : List ℕ) → Sound s t → Bytes (verdictFields (verdict s t))
-unfolding Bytes verdict firstShort
+unfolding Below verdict firstShort
 judged-bytes s t S = go (consistent s t)
   where
     x : ℕ
@@ -104,6 +122,28 @@ judged-bytes s t S = go (consistent s t)
         (omega arith, (omega (arith, n, few), (omega (arith, l, most), (omega (arith, j, broad), _))))
 
 pub verdict-bytes : (m : Memory) → Bytes (verdictCall m .answer)
-unfolding Bytes verdictRefusal verdictCall taken numbered
+unfolding Below verdictRefusal verdictCall taken numbered
 verdict-bytes m =
     bytes-unless m [] _ 4 _ refl (λ z. (omega arith, judged-bytes (m .state) (m .tables) (verdict-taken m z .0)))
+
+-- ---- a survey
+
+module _ (m : Memory) where
+  -- 64 times 64
+  pairs-few : Sound (m .state) (m .tables) → (f : ℕ → ℕ → Bool) → countPairs (m .state) f < 4097
+  pairs-few S f =
+      let most : nodeCount (m .state) * nodeCount (m .state) ≤ 4096 = mul-le-mul (S .few) (S .few) in
+      omega (arith, pairs-most (m .state) f)
+
+  pub survey-few : Below 4097 (surveyCall m .answer)
+  unfolding Below surveyCall surveyCounts stateRefusal taken numbered
+  survey-few =
+      below-unless 4097 (omega arith) m [] _ 9 _ refl
+      (λ z.
+      let few = pairs-few (state-taken m z) in
+      (omega arith, (few _, (few _, (few _, (few _, (few _, (few _, (few _, (few _, (few _, _)))))))))))
+
+  -- and what is taken was counted on a sound state
+  pub survey-sound : getD (surveyCall m .answer) 0 0 ≡ 0 → Sound (m .state) (m .tables)
+  unfolding surveyCall
+  survey-sound e = state-taken m (taken-zero m (stateRefusal m) [] _ _ (eq-eqb _ 0 e))

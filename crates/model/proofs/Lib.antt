@@ -6,6 +6,7 @@ pub mod Early
 pub mod Loops
 pub mod Nodes
 pub mod Counting
+pub mod Sums
 pub mod Picked
 pub mod Splice
 -- ---- identifiers and sets
@@ -42,6 +43,7 @@ pub mod TablesOnlyGrow
 pub mod RequestBound
 -- ---- lookup and verdict
 pub mod Lookup
+pub mod Survey
 pub mod Consistency
 pub mod HopsUnchanged
 -- ---- images: read, written, and back

@@ -12,7 +12,7 @@ use native.Mathlib.Numerals.{add-one, add-one-le, lt-of-le-of-ne}
 use native.Mathlib.Omega.{arith}
 use lib.Dec.{ltb}
 use borrow.Author.Tests.{not-true, not-false, ltb-true, ltb-false}
-use Rattle.model.specs.Loops.{allBelow, anyBelow, countBelow, firstBelow, eachBelow, joinBelow}
+use Rattle.model.specs.Loops.{allBelow, anyBelow, countBelow, sumBelow, firstBelow, eachBelow, joinBelow}
 use Rattle.model.proofs.Bools.{back-true, back-false, not-both}
 
 -- what holds where the code's counter stops holds at the end
@@ -278,6 +278,10 @@ any-same = same anyBelow false (λ n. _||_) (λ f. refl) (λ n f. refl)
 pub count-same : (n : ℕ) (f g : ℕ → Bool) → ((k : ℕ) → k < n → f k ≡ g k) → countBelow n f ≡ countBelow n g
 unfolding countBelow
 count-same = same countBelow 0 (λ n x b. x + cond b 1 0) (λ f. refl) (λ n f. refl)
+
+pub sum-same : (n : ℕ) (f g : ℕ → ℕ) → ((k : ℕ) → k < n → f k ≡ g k) → sumBelow n f ≡ sumBelow n g
+unfolding sumBelow
+sum-same = same sumBelow 0 (λ n. _+_) (λ f. refl) (λ n f. refl)
 
 pub first-same : (n : ℕ) (f g : ℕ → Bool) → ((k : ℕ) → k < n → f k ≡ g k) → firstBelow n f ≡ firstBelow n g
 unfolding firstBelow

@@ -164,6 +164,10 @@ pub state-free : (m : Memory) (later : List Sentence) → Sound (m .state) (m .t
 state-free m later S z =
     free (memoryShort m) 1 _ (not-short m (S .long)) (free (unsound m) 2 later (ap not (sound-of (m .state) (m .tables) S)) z)
 
+pub sound-free : (m : Memory) → Sound (m .state) (m .tables) → stateRefusal m ≡ 0
+unfolding stateRefusal
+sound-free m S = state-free m [] S (sym sentence-none)
+
 pub lookup-free : (m : Memory) (u z : ℕ) → Sound (m .state) (m .tables) → IsNode (m .state) u → IsNode (m .state) z → lookupRefusal m u z ≡ 0
 unfolding lookupRefusal
 lookup-free m u z S nu nz =

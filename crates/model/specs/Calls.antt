@@ -1,5 +1,5 @@
 -- The calls, each from the lent memory and its arguments to the memory after, the output after and the answer. What each does is in document 01
--- where its subject is; what a refusal leaves, in "What a call declines".
+-- where its subject is, or in a ticket of document 02; what a refusal leaves, in "What a call declines".
 use Prim.Native.Nat.{ℕ, _+_}
 use mathlib.Core.Bool.{cond}
 use mathlib.Core.List.{List, [], _∷_, _++_}
@@ -8,6 +8,7 @@ use lib.Dec.{eqb}
 use Rattle.model.specs.Memory.{Memory, nodeCount, inSystem}
 use Rattle.model.specs.Join.{Delivery, founded, begun, delivery, delivered}
 use Rattle.model.specs.Lookup.{Lookup, lookup}
+use Rattle.model.specs.Survey.{surveyCounts}
 use Rattle.model.specs.Consistency.{Verdict, verdict}
 use Rattle.model.specs.Image.{imageOf, loaded}
 use Rattle.model.specs.Refusals.{foundRefusal, readRefusal, beginRefusal, deliverRefusal, lookupRefusal, verdictRefusal, writeRefusal, stateRefusal}
@@ -69,6 +70,11 @@ unfoldable pub lookupCall : Memory → ℕ → ℕ → Outcome
 lookupCall m u z =
     unlessRefused (lookupRefusal m u z) (refused m [] 3)
     (taken m [] (lookupFields (lookup (m .state) (m .tables) u z)))
+
+-- answer: the refusal, how many pairs arrive in 1 to 8 hops, and how many are lost
+unfoldable pub surveyCall : Memory → Outcome
+surveyCall m =
+    unlessRefused (stateRefusal m) (refused m [] 9) (taken m [] (surveyCounts (m .state) (m .tables)))
 
 abbrev pub verdictFields : Verdict → List ℕ
 verdictFields r = r .consistent ∷ r .node ∷ r .level ∷ r .digit ∷ []

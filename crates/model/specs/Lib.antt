@@ -1,5 +1,5 @@
--- The definitions of document 01, a file for each of its subjects, to be read beside it. docs/SOURCES.md says which paper that is, and which
--- definition says which of its rules.
+-- The definitions of document 01, a file for each of its subjects, to be read beside it, and of the tickets of document 02 that have landed.
+-- docs/SOURCES.md says which papers these are, and which definition says which of their rules.
 -- Every definition computes, but for `KConsistent` and its parts, which state a definition of report TR-07-31. Settings are parameters
 -- everywhere: b the base, d the digits, K the depth.
 -- The paper's words, where ours differ: member is node, match is common suffix, settled is in system, asked set is pending,
@@ -13,6 +13,7 @@ pub mod Sound
 pub mod Learning
 pub mod Join
 pub mod Lookup
+pub mod Survey
 pub mod Consistency
 pub mod Image
 pub mod Refusals

@@ -19,6 +19,11 @@ unfoldable pub countBelow : ℕ → (ℕ → Bool) → ℕ
 countBelow zero f = 0
 countBelow (suc n) f = countBelow n f + cond (f n) 1 0
 
+-- the sum of f 0, f 1, ..
+unfoldable pub sumBelow : ℕ → (ℕ → ℕ) → ℕ
+sumBelow zero f = 0
+sumBelow (suc n) f = sumBelow n f + f n
+
 -- the first index below n at which the test f holds; n where there is none
 unfoldable pub firstBelow : ℕ → (ℕ → Bool) → ℕ
 firstBelow zero f = 0

@@ -4,7 +4,7 @@ use Prim.Native.Nat.{ℕ, _+_}
 use mathlib.Core.Bool.{Bool, _&&_}
 use mathlib.Core.List.{List}
 use lib.Dec.{leb}
-use Rattle.model.specs.Loops.{allBelow, anyBelow, countBelow, firstBelow, joinBelow, node}
+use Rattle.model.specs.Loops.{allBelow, anyBelow, countBelow, sumBelow, firstBelow, joinBelow, node}
 use Rattle.model.specs.Ids.{commonSuffix}
 use Rattle.model.specs.Memory.{digits, nodeCount, idOf}
 use Rattle.model.specs.Tables.{qualified}
@@ -32,6 +32,10 @@ anyNode s f = anyBelow (nodeCount s) (node f)
 -- of how many nodes the test f holds
 abbrev pub countNodes : List ℕ → (ℕ → Bool) → ℕ
 countNodes s f = countBelow (nodeCount s) (node f)
+
+-- the sum of f 1, f 2, .., a number for each node
+abbrev pub sumNodes : List ℕ → (ℕ → ℕ) → ℕ
+sumNodes s f = sumBelow (nodeCount s) (node f)
 
 -- the first node of which the test f holds; a number above the nodes where there is none
 abbrev pub firstNode : List ℕ → (ℕ → Bool) → ℕ

@@ -92,6 +92,7 @@ readRefusal m im = firstTrue ((memoryShort m, 1) ∷ imageSentences im)
 abbrev pub stateSentences : Memory → List Sentence
 stateSentences m = (memoryShort m, 1) ∷ (unsound m, 2) ∷ []
 
+-- `sound` and `survey` have no others
 unfoldable pub stateRefusal : Memory → ℕ
 stateRefusal m = firstTrue (stateSentences m)
 

@@ -7,7 +7,7 @@ use lib.ListN.{getD}
 use lib.Dec.{eqb}
 use Rattle.model.specs.Memory.{Memory}
 use Rattle.model.specs.Join.{kindCopied, kindSentOn}
-use Rattle.model.specs.Calls.{Outcome, foundCall, readCall, beginCall, deliverCall, lookupCall, verdictCall, writeCall, soundCall}
+use Rattle.model.specs.Calls.{Outcome, foundCall, readCall, beginCall, deliverCall, lookupCall, surveyCall, verdictCall, writeCall, soundCall}
 
 -- a call with its arguments
 pub data Call : Type 0 where
@@ -21,6 +21,7 @@ pub data Call : Type 0 where
   deliver : ℕ → ℕ → Call
   -- from, to
   lookup : ℕ → ℕ → Call
+  survey : Call
   verdict : Call
   -- the memory for output
   write : List ℕ → Call
@@ -33,6 +34,7 @@ step m (read im) = readCall m im
 step m (begin id gateway) = beginCall m id gateway
 step m (deliver x y) = deliverCall m x y
 step m (lookup u z) = lookupCall m u z
+step m survey = surveyCall m
 step m verdict = verdictCall m
 step m (write out) = writeCall m out
 step m sound = soundCall m
@@ -66,6 +68,7 @@ isStart (read im) = true
 isStart (begin id gateway) = false
 isStart (deliver x y) = false
 isStart (lookup u z) = false
+isStart survey = false
 isStart verdict = false
 isStart (write out) = false
 isStart sound = false
@@ -97,6 +100,7 @@ isSentBy x (read im) answer = false
 isSentBy x (begin id gateway) answer = eqb (getD answer 1 0) x
 isSentBy x (deliver y z) answer = eqb y x && keepsAsking (getD answer 1 0)
 isSentBy x (lookup u z) answer = false
+isSentBy x survey answer = false
 isSentBy x verdict answer = false
 isSentBy x (write out) answer = false
 isSentBy x sound answer = false

@@ -10,13 +10,14 @@ use Rattle.model.specs.Memory.{Memory, stateLength, tablesLength, digits, nodeC
 use Rattle.model.specs.Tables.{ownTable}
 use Rattle.model.specs.Join.{Delivery, newNode, joiningNode, founded, begun, delivery, delivered}
 use Rattle.model.specs.Lookup as routing
+use Rattle.model.specs.Survey.{surveyCounts}
 use Rattle.model.specs.Consistency as consistency
 use Rattle.model.specs.Image.{imageOf, loaded}
 use Rattle.model.specs.Refusals.{foundRefusal, readRefusal, beginRefusal, deliverRefusal, lookupRefusal, verdictRefusal, writeRefusal, stateRefusal}
-use Rattle.model.specs.Calls.{Outcome, refusedAt, refused, taken, unlessRefused, deliveryFields, lookupFields, verdictFields, foundCall, readCall, beginCall, deliverCall, lookupCall, verdictCall, writeCall, soundCall}
-use Rattle.model.specs.Run.{Call, found, read, begin, deliver, lookup, verdict, write, sound, step, after, play, history, isTaken}
+use Rattle.model.specs.Calls.{Outcome, refusedAt, refused, taken, unlessRefused, deliveryFields, lookupFields, verdictFields, foundCall, readCall, beginCall, deliverCall, lookupCall, surveyCall, verdictCall, writeCall, soundCall}
+use Rattle.model.specs.Run.{Call, found, read, begin, deliver, lookup, survey, verdict, write, sound, step, after, play, history, isTaken}
 use Rattle.model.proofs.Sound.{Long}
-use Rattle.model.proofs.Taken.{found-taken, read-taken, begin-taken, deliver-taken, lookup-taken, verdict-taken, write-taken, not-short}
+use Rattle.model.proofs.Taken.{state-taken, found-taken, read-taken, begin-taken, deliver-taken, lookup-taken, verdict-taken, write-taken, not-short}
 use Rattle.model.proofs.OwnTable.{own-long}
 use Rattle.model.proofs.Calls.{either-end}
 use Rattle.model.proofs.Within.{within-past, within-same}
@@ -39,6 +40,7 @@ number m (read im) = readRefusal m im
 number m (begin id gateway) = beginRefusal m id gateway
 number m (deliver x y) = deliverRefusal m x y
 number m (lookup u z) = lookupRefusal m u z
+number m survey = stateRefusal m
 number m verdict = verdictRefusal m
 number m (write out) = writeRefusal m out
 number m sound = stateRefusal m
@@ -50,6 +52,7 @@ others (read im) = 0
 others (begin id gateway) = 1
 others (deliver x y) = 3
 others (lookup u z) = 3
+others survey = 9
 others verdict = 4
 others (write out) = 1
 others sound = 0
@@ -69,6 +72,7 @@ work m (deliver x y) =
     let r = delivery (m .state) (m .tables) x y in
     record { memory = delivered (m .state) (m .tables) x y r; out = []; fields = deliveryFields r }
 work m (lookup u z) = record { memory = m; out = []; fields = lookupFields (routing.lookup (m .state) (m .tables) u z) }
+work m survey = record { memory = m; out = []; fields = surveyCounts (m .state) (m .tables) }
 work m verdict = record { memory = m; out = []; fields = verdictFields (consistency.verdict (m .state) (m .tables)) }
 work m (write out) =
     let im = imageOf (m .state) (m .tables) in
@@ -79,12 +83,13 @@ abbrev ended : Memory → Call → ℕ → Work → Outcome
 ended m c n w = unlessRefused n (refused m (outputOf c) (others c)) (taken (w .memory) (w .out) (w .fields))
 
 step-is : (m : Memory) (c : Call) → step m c ≡ ended m c (number m c) (work m c)
-unfolding step foundCall readCall beginCall deliverCall lookupCall verdictCall writeCall soundCall
+unfolding step foundCall readCall beginCall deliverCall lookupCall surveyCall verdictCall writeCall soundCall
 step-is m (found b d K id) = refl
 step-is m (read im) = refl
 step-is m (begin id gateway) = refl
 step-is m (deliver x y) = refl
 step-is m (lookup u z) = refl
+step-is m survey = refl
 step-is m verdict = refl
 step-is m (write out) = refl
 step-is m sound = refl
@@ -147,6 +152,7 @@ work-past m (deliver x y) z =
     let k = deliver-taken m x y z in
     works-past m _ _ (deliver-works (m .state) (m .tables) (k .0) x y (k .1)) (k .0 .long)
 work-past m (lookup u v) z = refl
+work-past m survey z = refl
 work-past m verdict z = refl
 work-past m (write out) z = refl
 work-past m sound z = refl
@@ -185,6 +191,7 @@ module _ (m m′ : Memory) (e : fixed m′ ≡ fixed m) where
   number-same (begin id gateway) = alike.begin-same m m′ a id gateway
   number-same (deliver x y) = alike.deliver-same m m′ a x y
   number-same (lookup u z) = alike.lookup-same m m′ a u z
+  number-same survey = alike.state-same m m′ a
   number-same verdict = alike.verdict-same m m′ a
   number-same (write out) = alike.write-same m m′ a out
   number-same sound = alike.state-same m m′ a
@@ -242,6 +249,9 @@ module _ (m m′ : Memory) (e : fixed m′ ≡ fixed m) where
   work-same (lookup u v) z =
       let k = lookup-taken m u v z in
       looks _ _ (ap lookupFields (looking.lookup-same s t s′ t′ (both (k .0 .long)) (k .0) v (k .2) u (k .1)))
+  work-same survey z =
+      let S = state-taken m z in
+      looks _ _ (looking.survey-same s t s′ t′ (both (S .long)) S)
   work-same verdict z =
       let k = verdict-taken m z in
       looks _ _ (ap verdictFields (looking.verdict-same s t s′ t′ (both (k .0 .long)) (k .0)))

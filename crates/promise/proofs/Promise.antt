@@ -13,7 +13,7 @@ use Rattle.model.specs.Lookup.{Lookup, veryHops}
 use Rattle.model.specs.Consistency.{consistent}
 use Rattle.model.specs.Refusals.{foundRefusal, readRefusal, lookupRefusal}
 use Rattle.model.specs.Calls.{Outcome, refused, taken, lookupFields, foundCall, readCall, lookupCall}
-use Rattle.model.specs.Run.{Call, found, read, begin, deliver, lookup, verdict, write, sound, step, after, play, history, isTaken, starts, goesOn, isRun, sentFrom, sent}
+use Rattle.model.specs.Run.{Call, found, read, begin, deliver, lookup, survey, verdict, write, sound, step, after, play, history, isTaken, starts, goesOn, isRun, sentFrom, sent}
 use Rattle.model.proofs.Bools.{and-left, and-right, and-intro, not-both, true-or-false}
 use Rattle.model.proofs.Status.{IsNode, is-node, is-node-of}
 use Rattle.model.proofs.Sound.{Sound}
@@ -57,6 +57,7 @@ module _ (m : Memory) where
   started (begin id g) e = absurd (false≢true e)
   started (deliver x y) e = absurd (false≢true e)
   started (lookup u z) e = absurd (false≢true e)
+  started survey e = absurd (false≢true e)
   started verdict e = absurd (false≢true e)
   started (write out) e = absurd (false≢true e)
   started sound e = absurd (false≢true e)
@@ -133,6 +134,12 @@ lookups-stay m m′ S S′ on p u z a b =
     )
 
 -- ---- the theorem
+
+-- every state of a run is sound
+pub run-sound : (m : Memory) (c : Call) (cs : List Call) → isRun m c cs ≡ true → Sound (play m (c ∷ cs) .state) (play m (c ∷ cs) .tables)
+unfolding isRun play
+run-sound m c cs run =
+    run-goes (λ (x : ℕ). 0) (after m c) cs (start-holds m c (and-left (starts m c) _ run)) (and-right (starts m c) _ run) .holds .sound
 
 pub promise : Demand3
 unfolding isRun play

@@ -8,8 +8,8 @@ use native.Mathlib.Decide.{ℕ-discrete}
 use borrow.Author.Tests.{ne-eqb}
 use Rattle.model.specs.Memory.{Memory}
 use Rattle.model.specs.Refusals.{beginRefusal, deliverRefusal}
-use Rattle.model.specs.Calls.{Outcome, refusedAt, unlessRefused, foundCall, readCall, beginCall, deliverCall, lookupCall, verdictCall, writeCall, soundCall}
-use Rattle.model.specs.Run.{Call, found, read, begin, deliver, lookup, verdict, write, sound, step, after, Event, isTaken, starts, isSentBy, tally}
+use Rattle.model.specs.Calls.{Outcome, refusedAt, unlessRefused, foundCall, readCall, beginCall, deliverCall, lookupCall, surveyCall, verdictCall, writeCall, soundCall}
+use Rattle.model.specs.Run.{Call, found, read, begin, deliver, lookup, survey, verdict, write, sound, step, after, Event, isTaken, starts, isSentBy, tally}
 use Rattle.model.proofs.Calls.{refused-is, looks-on, not-taken-same}
 
 -- the call as an event of the history
@@ -45,7 +45,7 @@ refused-still m c out fields n done nz e =
 
 module _ (m : Memory) where
   pub effect : (c : Call) → starts m c ≡ false → Effect m c
-  unfolding starts step after foundCall readCall beginCall deliverCall lookupCall verdictCall writeCall soundCall
+  unfolding starts step after foundCall readCall beginCall deliverCall lookupCall surveyCall verdictCall writeCall soundCall
   effect (found b d K id) f =
       still (not-taken-same m _ [] _ _ [] [] f) (quiet m (found b d K id) (λ x a. refl))
   effect (read im) f = still (not-taken-same m _ [] _ _ [] [] f) (quiet m (read im) (λ x a. refl))
@@ -60,6 +60,7 @@ module _ (m : Memory) where
       go (yes e) = delivers x y refl e
       go (no nz) = refused-still m (deliver x y) [] _ _ _ nz refl
   effect (lookup u z) f = still (looks-on m _ [] _ [] _) (quiet m (lookup u z) (λ x a. refl))
+  effect survey f = still (looks-on m _ [] _ [] _) (quiet m survey (λ x a. refl))
   effect verdict f = still (looks-on m _ [] _ [] _) (quiet m verdict (λ x a. refl))
   effect (write out) f = still (looks-on m _ out _ _ _) (quiet m (write out) (λ x a. refl))
   effect sound f = still (looks-on m _ [] _ [] _) (quiet m sound (λ x a. refl))

@@ -6,7 +6,7 @@ use mathlib.Core.Bool.{false}
 use mathlib.Core.List.{List, []}
 use lib.ListN.{getD}
 use Rattle.model.specs.Memory.{Memory}
-use Rattle.model.specs.Run.{Call, found, read, begin, deliver, lookup, verdict, write, sound, step, isTaken}
+use Rattle.model.specs.Run.{Call, found, read, begin, deliver, lookup, survey, verdict, write, sound, step, isTaken}
 use Rattle.promise.specs.Fixed.{fixed, past}
 
 -- the memory for output that a call is lent: none but for writing
@@ -16,6 +16,7 @@ outputOf (read im) = []
 outputOf (begin id gateway) = []
 outputOf (deliver x y) = []
 outputOf (lookup u z) = []
+outputOf survey = []
 outputOf verdict = []
 outputOf (write out) = out
 outputOf sound = []

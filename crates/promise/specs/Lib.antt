@@ -1,5 +1,6 @@
--- The three demands as statements about the book's calls. docs/SOURCES.md says what they are.
+-- The three demands, and the total of a survey, as statements about the book's calls. docs/SOURCES.md says what they are.
 pub mod Fixed
 pub mod Demand1
 pub mod Demand2
 pub mod Promise
+pub mod Survey

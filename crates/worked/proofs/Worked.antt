@@ -1,23 +1,28 @@
--- The worked list holds: each example computes.
+-- The worked lists hold: each example computes.
 use mathlib.Core.Path.{refl}
-use Rattle.model.specs.Loops.{allBelow, anyBelow, countBelow, firstBelow, eachBelow, joinBelow}
+use Rattle.model.specs.Loops.{allBelow, anyBelow, countBelow, sumBelow, firstBelow, eachBelow, joinBelow}
 use Rattle.model.specs.Ids.{settingsInRange, digitOf, validId, commonSuffix, lowDigits}
 use Rattle.model.specs.Memory.{withNode, hasNode, tableOf, withTable}
 use Rattle.model.specs.Tables.{qualified, entrySize, append, ownTable}
 use Rattle.model.specs.Sound.{hasNewId, slotSound, entrySound, levelSound, inSystemSound, joiningSound, copyingSound, waitingSound, pendingSound, notifiedSound, notifyingSound, statusSound, allZero, stateRestZero, tablesRestZero, tableSound, unusedZero, sound}
 use Rattle.model.specs.Join.{founded}
 use Rattle.model.specs.Lookup.{nextHop, veryHopsWithin, lastOf, answerOf, lookup}
+use Rattle.model.specs.Survey.{arrivesIn, isLost, countPairs, surveyCounts}
 use Rattle.model.specs.Consistency.{howMany, entryWhole, levelWhole, nodeWhole, consistent, firstShort, verdict}
 use Rattle.model.specs.Image.{imId, lengthRight, sameEntry, risesFrom, recOrdered, recAllowed, recOwnerFirst, ownHasRecord, ownHaveRecords, recordsGood, loadRecord, loaded}
-use Rattle.model.specs.Refusals.{firstTrue, foundRefusal, readRefusal, lookupRefusal, verdictRefusal}
-use Rattle.model.specs.Calls.{refusedAt, taken, unlessRefused, foundCall, readCall, lookupCall, verdictCall}
-use Rattle.worked.specs.Examples.{dirty, founding, reading, verdictOn, lookupOn, headOfE1, rec, E1, E1Short, Worked}
+use Rattle.model.specs.Refusals.{firstTrue, foundRefusal, readRefusal, stateRefusal, lookupRefusal, verdictRefusal}
+use Rattle.model.specs.Calls.{refusedAt, taken, unlessRefused, foundCall, readCall, lookupCall, surveyCall, verdictCall}
+use Rattle.worked.specs.Examples.{dirty, founding, reading, verdictOn, lookupOn, surveyOn, headOfE1, rec, E1, E1Short, Worked, Surveyed}
 
 -- what the examples compute with
 unfoldable pub computing : Unit {0}
-unfolding allBelow anyBelow countBelow firstBelow eachBelow joinBelow settingsInRange digitOf validId commonSuffix lowDigits withNode hasNode tableOf withTable qualified entrySize append ownTable hasNewId slotSound entrySound levelSound inSystemSound joiningSound copyingSound waitingSound pendingSound notifiedSound notifyingSound statusSound allZero stateRestZero tablesRestZero tableSound unusedZero sound founded nextHop veryHopsWithin lastOf answerOf lookup howMany entryWhole levelWhole nodeWhole consistent firstShort verdict imId lengthRight sameEntry risesFrom recOrdered recAllowed recOwnerFirst ownHasRecord ownHaveRecords recordsGood loadRecord loaded firstTrue foundRefusal readRefusal lookupRefusal verdictRefusal refusedAt taken unlessRefused foundCall readCall lookupCall verdictCall dirty founding reading verdictOn lookupOn headOfE1 rec E1 E1Short
+unfolding allBelow anyBelow countBelow sumBelow firstBelow eachBelow joinBelow settingsInRange digitOf validId commonSuffix lowDigits withNode hasNode tableOf withTable qualified entrySize append ownTable hasNewId slotSound entrySound levelSound inSystemSound joiningSound copyingSound waitingSound pendingSound notifiedSound notifyingSound statusSound allZero stateRestZero tablesRestZero tableSound unusedZero sound founded nextHop veryHopsWithin lastOf answerOf lookup arrivesIn isLost countPairs surveyCounts howMany entryWhole levelWhole nodeWhole consistent firstShort verdict imId lengthRight sameEntry risesFrom recOrdered recAllowed recOwnerFirst ownHasRecord ownHaveRecords recordsGood loadRecord loaded firstTrue foundRefusal readRefusal stateRefusal lookupRefusal verdictRefusal refusedAt taken unlessRefused foundCall readCall lookupCall surveyCall verdictCall dirty founding reading verdictOn lookupOn surveyOn headOfE1 rec E1 E1Short
 computing = tt
 
 pub worked : Worked
 unfolding computing
 worked = record { p1 = refl; p2 = refl; p3 = refl; p4 = refl; p5 = refl; p6 = refl; p7 = refl; p8 = refl; p9 = refl; p10 = refl; p11 = refl; p12 = refl }
+
+pub surveyed : Surveyed
+unfolding computing
+surveyed = record { e1 = refl; e1-short = refl; one = refl }

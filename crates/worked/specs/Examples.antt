@@ -1,11 +1,11 @@
--- P1 to P12 of document 01, "Trials at the edges", as one list about the book's definitions.
+-- P1 to P12 of document 01, "Trials at the edges", as one list about the book's definitions, and the surveys of its images (document 02, Ticket 1).
 use Prim.Native.Nat.{ℕ}
 use mathlib.Core.Path.{_≡_}
 use mathlib.Core.List.{List, [], _∷_}
 use lib.ListN.{replicate}
 use Rattle.model.specs.Ids.{commonSuffix}
 use Rattle.model.specs.Memory.{Memory, stateLength, tablesLength}
-use Rattle.model.specs.Calls.{Outcome, foundCall, readCall, lookupCall, verdictCall}
+use Rattle.model.specs.Calls.{Outcome, foundCall, readCall, lookupCall, surveyCall, verdictCall}
 
 -- lent memory with old contents in every place
 unfoldable pub dirty : Memory
@@ -19,12 +19,15 @@ founding b d K id = foundCall dirty b d K id
 unfoldable pub reading : List ℕ → Outcome
 reading im = readCall dirty im
 
--- the verdict and the lookup on what a call left
+-- the verdict, the lookup and the survey on what a call left
 unfoldable pub verdictOn : Outcome → List ℕ
 verdictOn o = verdictCall (o .memory) .answer
 
 unfoldable pub lookupOn : Outcome → ℕ → ℕ → List ℕ
 lookupOn o u z = lookupCall (o .memory) u z .answer
+
+unfoldable pub surveyOn : Outcome → List ℕ
+surveyOn o = surveyCall (o .memory) .answer
 
 -- the first sixteen bytes of E1 with this record count, before the records
 unfoldable pub headOfE1 : ℕ → List ℕ → List ℕ
@@ -71,3 +74,12 @@ pub record Worked : Type 0 where
   pub p11 : founding 2 2 1 0x2 .answer ≡ 7 ∷ []
   -- Excluded: no test of the bits above the digits.
   pub p12 : founding 2 2 1 0x100 .answer ≡ 7 ∷ []
+
+-- The surveys: the refusal, the pairs for 1 to 8 hops, the lost ones.
+pub record Surveyed : Type 0 where
+  -- Each node reaches the other in one hop. Excluded: pairs with themselves counted; each pair counted once for both ways.
+  pub e1 : surveyOn (reading E1) ≡ 0 ∷ 2 ∷ 0 ∷ 0 ∷ 0 ∷ 0 ∷ 0 ∷ 0 ∷ 0 ∷ 0 ∷ []
+  -- As P9 and P10: one pair is lost. Excluded: a lost pair counted by the hops it took, or not at all.
+  pub e1-short : surveyOn (reading E1Short) ≡ 0 ∷ 1 ∷ 0 ∷ 0 ∷ 0 ∷ 0 ∷ 0 ∷ 0 ∷ 0 ∷ 1 ∷ []
+  -- One node has no pairs.
+  pub one : surveyOn (founding 8 5 2 0x10261) ≡ 0 ∷ 0 ∷ 0 ∷ 0 ∷ 0 ∷ 0 ∷ 0 ∷ 0 ∷ 0 ∷ 0 ∷ []

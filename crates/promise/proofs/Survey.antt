@@ -1,0 +1,58 @@
+-- The total of a survey. Assumes nothing.
+use Prim.Native.Nat.{ℕ, _+_, _-_, _≤_, _<_}
+use mathlib.Core.Path.{_≡_, ap, ap₂, subst, _∙_}
+use mathlib.Core.Bool.{true}
+use mathlib.Core.List.{List, [], _∷_}
+use native.Mathlib.Numerals.{add-one}
+use native.Mathlib.Omega.{arith}
+use lib.ListN.{getD}
+use Rattle.model.specs.Loops.{sumBelow, node}
+use Rattle.model.specs.Memory.{Memory, digits}
+use Rattle.model.specs.Survey.{hopPairs, surveyCounts}
+use Rattle.model.specs.Refusals.{stateRefusal}
+use Rattle.model.specs.Calls.{Outcome, taken, surveyCall}
+use Rattle.model.specs.Run.{isTaken}
+use Rattle.model.proofs.Loops.{sum-same}
+use Rattle.model.proofs.Sums.{sum-up-to}
+use Rattle.model.proofs.Sound.{Sound}
+use Rattle.model.proofs.Survey.{counted-at, lost-at, survey-total, none-beyond}
+use Rattle.model.proofs.Taken.{state-taken, sound-free}
+use Rattle.model.proofs.Calls.{taken-is, taken-zero}
+use Rattle.promise.specs.Survey.{inHops, lost, orderedPairs, AddsUp, SurveyTotal}
+use Rattle.promise.proofs.Promise.{run-sound}
+
+module _ (m : Memory) (S : Sound (m .state) (m .tables)) where
+  answers : surveyCall m .answer ≡ 0 ∷ surveyCounts (m .state) (m .tables)
+  unfolding surveyCall taken
+  answers = ap (λ (o : Outcome). o .answer) (taken-is (stateRefusal m) _ _ (sound-free m S))
+
+  in-hops : (k : ℕ) → k < 8 → inHops m (k + 1) ≡ hopPairs (m .state) (m .tables) (k + 1)
+  in-hops k l = ap₂ (λ (l : List ℕ) (h : ℕ). getD l h 0) answers (add-one k) ∙ counted-at (m .state) (m .tables) k l
+
+  total-is : sumBelow (digits (m .state)) (node (inHops m)) + lost m ≡ orderedPairs m
+  total-is =
+      ap₂ _+_ (sum-same (digits (m .state)) (node (inHops m)) (node (hopPairs (m .state) (m .tables))) (λ k l. in-hops k (omega (arith, S .settings .digits-most))))
+      (ap (λ (l : List ℕ). getD l 9 0) answers ∙ lost-at (m .state) (m .tables))
+      ∙ survey-total (m .state) (m .tables) S
+
+  far : (k : ℕ) → digits (m .state) ≤ k → k < 8 → inHops m (k + 1) ≡ 0
+  far k g l = in-hops k l ∙ none-beyond (m .state) (m .tables) S (k + 1) (omega arith)
+
+  adds-up : AddsUp m
+  adds-up = record {
+    total = total-is;
+    beyond = none-beyond (m .state) (m .tables) S;
+    zeros = λ h g l. let e : h - 1 + 1 ≡ h = omega arith in subst (λ (h : ℕ). inHops m h ≡ 0) e (far (h - 1) (omega arith) (omega arith));
+    all = ap (λ (n : ℕ). n + lost m) (sum-up-to (digits (m .state)) 8 (node (inHops m)) (S .settings .digits-most) far) ∙ total-is;
+  }
+
+-- a survey that was taken was of a sound state
+sound-taken : (m : Memory) → isTaken (surveyCall m .answer) ≡ true → Sound (m .state) (m .tables)
+unfolding surveyCall
+sound-taken m e = state-taken m (taken-zero m (stateRefusal m) [] _ _ e)
+
+pub survey-adds-up : SurveyTotal
+survey-adds-up = record {
+  adds-up = λ m e. adds-up m (sound-taken m e);
+  in-runs = λ m c cs run. ap isTaken (answers _ (run-sound m c cs run));
+}
