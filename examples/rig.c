@@ -1,5 +1,5 @@
 /* A small rig: founds a network, lets seven nodes join it at the same time, delivers until all are in system, looks nodes up, asks for the
- * verdict, saves the network as an image and reads it into other memory, after a look whether that holds a network already.
+ * verdict and the hop survey, saves the network as an image and reads it into other memory, after a look whether that holds a network already.
  * README.md has the line that builds it; examples/rig.out is what it prints. */
 #include <stdio.h>
 #include <stdlib.h>
@@ -112,6 +112,16 @@ static void print_verdict(const struct network *network)
                overlay_short_digit(answer));
 }
 
+/* How many ordered pairs of different nodes arrive in so many hops, up to the digits of an id. */
+static void print_survey(const struct network *network, unsigned digits)
+{
+    uint64_t counts[OVERLAY_SURVEY_COUNTS];
+    taken("survey", overlay_survey(LENT(network), counts));
+    for (unsigned hops = 1; hops <= digits; hops++)
+        printf("pairs with %u %s: %u\n", hops, hops == 1 ? "hop" : "hops", (unsigned)counts[hops - 1]);
+    printf("lost pairs: %u\n", (unsigned)counts[OVERLAY_SURVEY_COUNTS - 1]);
+}
+
 /* Founds with one node and begins the joins of the others, all by node 1. */
 static void begin_joins(struct network *network, const uint32_t *ids, unsigned nodes)
 {
@@ -147,6 +157,7 @@ int main(void)
     print_verdict(&first);
     for (unsigned to = 1; to <= nodes; to++)
         print_lookup(&first, nodes, to);
+    print_survey(&first, 4);
     save_and_read(&first, &second);
     print_verdict(&second);
     return 0;

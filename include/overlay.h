@@ -6,9 +6,9 @@
  *
  * What a caller must keep; of a call where one of these fails nothing is promised:
  * - A pointer is valid for its length: so many elements may be read, and written unless they are const here. Where the length is 0 the
- *   pointer is not used, and may be NULL.
- * - state is aligned to 8.
- * - No two lent memories overlap: not state and tables, and neither of them an image or the memory for one.
+ *   pointer is not used, and may be NULL. counts comes without a length: it is valid for OVERLAY_SURVEY_COUNTS words, and never NULL.
+ * - state and counts are aligned to 8.
+ * - No two lent memories overlap: not state and tables, and neither of them an image, the memory for one, or counts.
  * - Nobody else writes lent memory during a call, nor reads what the call may write.
  *
  * An answer is one number: bits 0 to 7 are the refusal, 0 for none. On a refusal no byte has changed, and every field that this header reads
@@ -31,7 +31,7 @@ extern "C" {
 /* ---- version: of this header and of the archive that comes with it; CHANGES.md has a section for each */
 
 #define OVERLAY_VERSION_MAJOR 1
-#define OVERLAY_VERSION_MINOR 0
+#define OVERLAY_VERSION_MINOR 1
 
 /* ---- lengths */
 
@@ -40,6 +40,8 @@ extern "C" {
 #define OVERLAY_MOST_NODES 64
 /* Reading takes no image that is longer. */
 #define OVERLAY_MOST_IMAGE_BYTES 65535
+/* The counts of a survey: for 1 to 8 hops, and lost. */
+#define OVERLAY_SURVEY_COUNTS 9
 /* No written image of version 1 is longer: memory of this length is enough for every network. */
 #define OVERLAY_MOST_WRITTEN_BYTES 23816
 
@@ -87,6 +89,12 @@ uint64_t overlay_deliver(uint64_t *state, size_t state_len, uint8_t *tables, siz
  * overlay_last_node. Refusals 1, 2, 9. */
 uint64_t overlay_lookup(const uint64_t *state, size_t state_len, const uint8_t *tables, size_t tables_len,
                         uint64_t from, uint64_t to);
+
+/* Follows the lookup of every ordered pair of different nodes, and changes nothing but counts: counts[h - 1] is how many pairs arrive in h
+ * hops, h from 1 to 8, and counts[8] how many are lost. All nine add up to n (n - 1) for n nodes; those for more hops than an id has digits are 0.
+ * Answers the refusal alone; on a refusal counts are as they were. Refusals 1, 2. */
+uint64_t overlay_survey(const uint64_t *state, size_t state_len, const uint8_t *tables, size_t tables_len,
+                        uint64_t counts[OVERLAY_SURVEY_COUNTS]);
 
 /* Judges the tables, and changes nothing. Answers whether the network is K-consistent, by overlay_consistent; if not, the first entry that
  * falls short, by overlay_short_node, overlay_short_level and overlay_short_digit. Refusals 1, 2, 15. */

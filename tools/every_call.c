@@ -1,5 +1,5 @@
-/* Calls every function of overlay.h with memories of length 0, and takes every field of an answer: C99 and C++. Its answer is 0 where each
- * call is refused by OVERLAY_SHORT_MEMORY. tools/check_header compiles and runs it. */
+/* Calls every function of overlay.h with memories of length 0, but for the nine counts of a survey, and takes every field of an answer: C99 and
+ * C++. Its answer is 0 where each call is refused by OVERLAY_SHORT_MEMORY. tools/check_header compiles and runs it. */
 #include "overlay.h"
 
 static int refused(uint64_t answer)
@@ -14,8 +14,10 @@ static int refused(uint64_t answer)
 
 int main(void)
 {
+    uint64_t counts[OVERLAY_SURVEY_COUNTS];
     return !(refused(overlay_found(NONE, NONE, 2, 2, 1, 0)) && refused(overlay_read(NONE, NONE, NONE)) &&
              refused(overlay_begin(NONE, NONE, 0, 1)) && refused(overlay_deliver(NONE, NONE, 2, 1)) &&
              refused(overlay_lookup(NONE, NONE, 1, 1)) && refused(overlay_verdict(NONE, NONE)) &&
-             refused(overlay_write(NONE, NONE, NONE)) && refused(overlay_sound(NONE, NONE)));
+             refused(overlay_write(NONE, NONE, NONE)) && refused(overlay_sound(NONE, NONE)) &&
+             refused(overlay_survey(NONE, NONE, counts)));
 }

@@ -33,6 +33,12 @@ pub struct LookupAnswer {
     pub last: u64,
 }
 
+// A survey: how many ordered pairs of different nodes arrive in h hops, at place h − 1 for h from 1 to 8, and how many are lost, at place 8.
+pub struct SurveyAnswer {
+    pub refusal: u64,
+    pub counts: [u64; 9],
+}
+
 // The verdict: whether the network is K-consistent, and if not, node, level and digit of the first entry that falls short.
 pub struct VerdictAnswer {
     pub refusal: u64,

@@ -15,7 +15,7 @@ use Rattle.model.proofs.Refusals.{numbered, testOf, passed}
 use Rattle.model.proofs.Sound.{Sound}
 use Rattle.model.proofs.Status.{IsNode}
 use Rattle.model.proofs.Sender.{CanDeliver}
-use Rattle.model.proofs.Taken.{found-taken, read-taken, begin-taken, deliver-taken, lookup-taken, verdict-taken, write-taken}
+use Rattle.model.proofs.Taken.{state-taken, found-taken, read-taken, begin-taken, deliver-taken, lookup-taken, verdict-taken, write-taken}
 use Rattle.image_judging.proofs.Sentences.{counted-of}
 use Rattle.join.specs.Begins.{Begins}
 use Rattle.image_loading.specs.Loads.{Loads}
@@ -69,6 +69,9 @@ module _ (m : Memory) (r : ℕ) where
 
   pub looks : (u z : ℕ) → r ≡ lookupRefusal m u z → r ≡ 0 → Sound s t × (IsNode s u × IsNode s z)
   looks u z e n = let k = lookup-taken m u z (sym e ∙ n) in (k .0, (k .1, k .2))
+
+  pub surveys : r ≡ stateRefusal m → r ≡ 0 → Sound s t
+  surveys e z = state-taken m (sym e ∙ z)
 
   pub judges : r ≡ verdictRefusal m → r ≡ 0 → Sound s t
   judges e z = verdict-taken m (sym e ∙ z) .0

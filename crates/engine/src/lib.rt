@@ -6,5 +6,6 @@ pub mod founding;
 pub mod lookup;
 pub mod reading;
 pub mod sound;
+pub mod survey;
 pub mod verdict;
 pub mod writing;

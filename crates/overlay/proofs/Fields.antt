@@ -17,7 +17,7 @@ use Rattle.packing.specs.Numbers.{listed}
 use Rattle.packing.specs.Packed.{packed, Fit}
 use Rattle.overlay.specs.Packed.{packing, gives}
 use Rattle.model.proofs.RoundTrip.{low-byte}
-use Rattle.model.proofs.Fields.{Bytes, begin-bytes, deliver-bytes, lookup-bytes, verdict-bytes}
+use Rattle.model.proofs.Fields.{Below, Bytes, below-at, begin-bytes, deliver-bytes, lookup-bytes, verdict-bytes}
 
 -- ---- shift and mask give a field back
 
@@ -30,18 +30,12 @@ later-fields field rest k h =
 
 -- bits 8k to 8k + 7 of a packed answer are field k, and zero past the last
 pub unpacked : (fields : List ℕ) (k : ℕ) → Bytes fields → packed fields / 256 ^ k % 256 ≡ getD fields k 0
-unfolding packed Bytes
+unfolding packed Below
 unpacked [] k h = ap (λ (n : ℕ). n % 256) (zero-div (256 ^ k))
 unpacked (field ∷ fields) zero h = ap (λ (n : ℕ). n % 256) (omega arith) ∙ low-byte field (packed fields) (h .0)
 unpacked (field ∷ fields) (suc k) h = ap (λ (n : ℕ). n % 256) (later-fields field (packed fields) k (h .0)) ∙ unpacked fields k (h .1)
 
 -- ---- what the calls pack
-
-field-below : (fields : List ℕ) (k : ℕ) → Bytes fields → getD fields k 0 < 256
-unfolding Bytes
-field-below [] k h = omega arith
-field-below (field ∷ fields) zero h = h .0
-field-below (field ∷ fields) (suc k) h = field-below fields k (h .1)
 
 -- a call whose outcome is o, with at most five fields
 module _ (o : Outcome) (bytes : Bytes (o .answer)) (m : Memory) (fields : List ℕ) (e : leaves m fields ≡ o) where
@@ -51,7 +45,7 @@ module _ (o : Outcome) (bytes : Bytes (o .answer)) (m : Memory) (fields : List �
   fits : Fit (at 0) (at 1) (at 2) (at 3) (at 4)
   fits =
       let b : Bytes fields = subst (λ (o : Outcome). Bytes (o .answer)) (sym e) bytes in
-      let f : (k : ℕ) → at k < 256 = λ k. field-below fields k b in
+      let f : (k : ℕ) → at k < 256 = λ k. below-at 256 fields (omega arith) b k in
       record { refusal = f 0; first = f 1; second = f 2; third = f 3; fourth = f 4 }
 
   packs : (n : ℕ) → n ≡ packed fields → gives m n ≡ packing o

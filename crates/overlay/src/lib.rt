@@ -1,11 +1,11 @@
 // The C interface: see include/overlay.h. Each function is one public call of the engine on lent memory, with its answer packed into 64
-// bits; bits 0 to 7 are the refusal.
+// bits; bits 0 to 7 are the refusal. The counts of a survey go to words that the caller lends.
 ghost use mathlib.Core.Path.{_≡_};
 ghost use mathlib.Core.List.{[], _∷_};
-ghost use Rattle.model.specs.Calls.{foundCall, readCall, beginCall, deliverCall, lookupCall, verdictCall, writeCall, soundCall};
+ghost use Rattle.model.specs.Calls.{foundCall, readCall, beginCall, deliverCall, lookupCall, surveyCall, verdictCall, writeCall, soundCall};
 ghost use Rattle.state.specs.Lent.{memory};
 ghost use Rattle.engine.specs.Outcomes.{leaves};
-ghost use Rattle.overlay.specs.Packed.{gives, fills, packing};
+ghost use Rattle.overlay.specs.Packed.{gives, fills, packing, surveying};
 use packing::delivered::as_numbers;
 use packing::pack::bit;
 use packing::pack::pack;
@@ -64,6 +64,20 @@ pub extern "C" fn overlay_lookup(state: &[u64], tables: &[u8], from: u64, to: u6
 {
     let found = engine::lookup::lookup(state, tables, from, to);
     pack(found.refusal, bit(found.arrived), found.hops, found.last, 0)
+}
+
+// The hop survey. Answers the refusal; where that is 0, counts are the pairs for 1 to 8 hops and the lost ones, else they stay.
+#[no_mangle]
+pub extern "C" fn overlay_survey(state: &[u64], tables: &[u8], counts: &mut [u64; 9]) -> u64
+    ensures { λ r. ⌜ fills (memory (now (state .entry)) (now (tables .entry))) (now (counts .exit)) r ≡ surveying (surveyCall (memory (now (state .entry)) (now (tables .entry)))) (now (counts .entry)) ⌝ }
+{
+    let surveyed = engine::survey::survey(state, tables);
+    if surveyed.refusal != 0 {
+        return surveyed.refusal;
+    }
+    let found = surveyed.counts;
+    *counts = found;
+    0
 }
 
 // The verdict. Answers whether the network is K-consistent, and if not, node, level and digit of the first entry that falls short.

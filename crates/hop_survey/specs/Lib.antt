@@ -1,0 +1,2 @@
+-- What the contracts of the hop survey cite.
+pub mod Counted
