@@ -1,3 +1,3 @@
 -- The laws that every program over images cites.
-pub mod Printing
 pub mod Overlong
+pub mod Printing

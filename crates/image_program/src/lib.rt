@@ -1,5 +1,5 @@
-// What the programs over images share: line one, and that an input of which only the first 65,536 bytes are kept is read as the whole of it
-// would be (`proofs/Overlong.antt`).
+// What the programs over images share: line one; what is printed for an answer and for an image (`specs/Printed.antt`, `proofs/Printing.antt`); and
+// that an input of which only the first 65,536 bytes are kept is read as the whole of it would be (`proofs/Overlong.antt`).
 ghost use Prim.Native.Nat.{_≤_};
 ghost use lib.ListN.{length};
 ghost use Rattle.putting.specs.Put.{Put};

@@ -1,6 +1,6 @@
 -- `judged`: one line or two. Assumes nothing.
 use native.Mathlib.Omega.{arith}
-use Rattle.verdict.proofs.Texts.{judged-refused, judged-taken}
+use Rattle.image_program.proofs.Printing.{answer-refused, answer-taken}
 use borrow.Author.Needs.{needs}
 use Rattle.verdict.proofs.lines.judged.Statement.{statement}
 use Rattle.verdict.proofs.lines.judged.Tie as tie
@@ -12,7 +12,7 @@ same-length : tie.Need-same-length
 same-length c = search needs
 
 returns : tie.Need-returns
-returns c = (search judged-refused, omega arith)
+returns c = (search answer-refused, omega arith)
 
 line-one-requires-2 : tie.Need-line-one-requires-2
 line-one-requires-2 c κs = search needs
@@ -24,7 +24,7 @@ same-length-2 : tie.Need-same-length-2
 same-length-2 c = search needs
 
 returns-2 : tie.Need-returns-2
-returns-2 c = (search judged-taken, omega arith)
+returns-2 c = (search answer-taken, omega arith)
 
 pub judged-spec : {M : Type 1} → statement M
 judged-spec =

@@ -1,5 +1,6 @@
 -- `lines`: the refusal of reading, or what the verdict answers. Assumes nothing.
-use Rattle.verdict.proofs.Texts.{memory-read, lines-refused, lines-judged}
+use Rattle.image_program.proofs.Printing.{memory-read, image-refused, image-taken}
+use Rattle.verdict.proofs.Texts.{verdict-put}
 use native.Mathlib.Omega.{arith}
 use borrow.Author.Needs.{needs}
 use Rattle.verdict.proofs.lines.lines.Statement.{statement}
@@ -21,7 +22,7 @@ same-length-3 : tie.Need-same-length-3
 same-length-3 c = search needs
 
 returns : tie.Need-returns
-returns c = (search lines-refused, (search memory-read, omega arith))
+returns c = (search image-refused, (search memory-read, omega arith))
 
 verdict-requires : tie.Need-verdict-requires
 verdict-requires c κs = search needs
@@ -39,9 +40,7 @@ same-length-6 : tie.Need-same-length-6
 same-length-6 c = search needs
 
 returns-2 : tie.Need-returns-2
-returns-2 c =
-    let reading = c .before .before .before .before .before .before .before .before .before .before .before .before in
-    (search lines-judged, (memory-read _ _ _ _ _ _ (reading .read .ensures), omega arith))
+returns-2 c = (search (image-taken, verdict-put), (search memory-read, omega arith))
 
 pub lines-spec : {M : Type 1} → statement M
 lines-spec =
