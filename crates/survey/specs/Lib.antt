@@ -1,0 +1,2 @@
+-- The survey program's output.
+pub mod Lines
