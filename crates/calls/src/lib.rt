@@ -10,6 +10,7 @@ pub enum Call {
     Deliver(u64, u64),
     // from, to
     Lookup(u64, u64),
+    Survey,
     Verdict,
     // to the memory that is lent for output
     Write,

@@ -5,7 +5,7 @@ use mathlib.Core.Logic.{inl, inr}
 use mathlib.Core.List.{List, [], _∷_, _++_}
 use Rattle.model.specs.Memory.{Memory}
 use Rattle.model.specs.Run as book
-use Rattle.model.specs.Run.{after, play}
+use Rattle.model.specs.Run.{play}
 use Rattle.promise.proofs.Promise.{play-append, promise}
 use Rattle.replay_calls.specs.Called.{called}
 use Rattle.script.specs.Commands.{commandOf}

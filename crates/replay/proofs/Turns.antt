@@ -1,16 +1,20 @@
 -- What one line does to the network, and what is said of it. Assumes nothing.
-use Prim.Native.Nat.{ℕ}
-use mathlib.Core.Path.{_≡_, refl, sym, ap, subst, _∙_}
+use Prim.Native.Nat.{ℕ, _+_, _<_}
+use mathlib.Core.Path.{_≡_, refl, sym, ap, ap₂, subst, _∙_}
 use mathlib.Core.List.{List, []}
 use native.Mathlib.Omega.{arith}
+use lib.ListN.{getD, drop}
+use lib.Seq.{getD-drop}
 use borrow.Author.Tests.{eq-eqb, ne-eqb}
-use Rattle.model.specs.Memory.{Memory}
+use Rattle.model.specs.Memory.{Memory, digits}
 use Rattle.model.specs.Refusals.{lookupRefusal}
+use Rattle.model.specs.Calls.{surveyCall}
 use Rattle.model.specs.Run as book
 use Rattle.model.specs.Run.{step, after}
 use Rattle.model.proofs.Status.{IsNode}
 use Rattle.model.proofs.Sound.{Sound}
 use Rattle.model.proofs.Taken.{lookup-taken}
+use Rattle.model.proofs.Fields.{below-at, survey-few, survey-sound}
 use Rattle.putting.specs.Put.{Put}
 use Rattle.putting.proofs.Putting.{put-none, put-then}
 use Rattle.text.specs.Ascii.{ascii}
@@ -19,9 +23,12 @@ use Rattle.calls.specs.declared.Call.{Call}
 use Rattle.replay_calls.specs.Called.{called}
 use Rattle.replay_calls.specs.Answered.{padded, Played, playing, listed, shown}
 use Rattle.replay_calls.specs.declared.answer.Words.{Words}
+use Rattle.replay_calls.proofs.Ones.{survey-filled}
+use Rattle.replay_survey.specs.Showable.{Showable}
 use Rattle.replay_table.specs.TableText.{tableText}
-use Rattle.replay_words.specs.Refused.{refusedText}
+use Rattle.replay_refusals.specs.Refused.{refusedText}
 use Rattle.replay_words.specs.Said.{said}
+use Rattle.replay_words.specs.Sayable.{Sayable}
 use Rattle.script.specs.Commands.{commandOf}
 use Rattle.script.specs.declared.command.Command.{Command}
 use Rattle.script.specs.declared.command.Command.the-variants as is
@@ -39,9 +46,33 @@ module _ (m m₁ : Memory) (w : Words) (c : book.Call) (e : shown m₁ w ≡ pla
   unfolding playing
   played-answer = ap (λ (p : Played). p .words) e
 
-  pub played-words : (call : Call) (n : ℕ) (o p : List ℕ) (g : ℕ) → Put o 0 (said n call (listed w)) p g
-      → Put o 0 (said n call (padded (step m c .answer))) p g
-  played-words call n o p g P = subst (λ (l : List ℕ). Put o 0 (said n call l) p g) played-answer P
+  pub played-words : (call : Call) (d n : ℕ) (o p : List ℕ) (g : ℕ) → d ≡ digits (m .state) → Put o 0 (said d n call (listed w)) p g
+      → Put o 0 (said (digits (m .state)) n call (padded (step m c .answer))) p g
+  played-words call d n o p g f P =
+      subst (λ (text : List ℕ). Put o 0 text p g) (ap₂ (λ (d : ℕ) (l : List ℕ). said d n call l) f played-answer) P
+
+-- ---- a survey, played
+
+-- one that was taken is of a sound state
+counts-fit : (m : Memory) → getD (surveyCall m .answer) 0 0 ≡ 0 → Showable (digits (m .state)) (drop 1 (surveyCall m .answer))
+counts-fit m z = record {
+  digits = survey-sound m z .settings .digits-most;
+  counts = λ k.
+      let below : getD (surveyCall m .answer) (1 + k) 0 < 4097 = below-at 4097 (surveyCall m .answer) (omega arith) (survey-few m) (1 + k) in
+      omega (arith, getD-drop 1 (surveyCall m .answer) k 0);
+}
+
+pub played-sayable : (m m₁ : Memory) (w : Words) (image out : List ℕ) (call : Call) (d : ℕ)
+    → shown m₁ w ≡ playing (step m (called image out call)) → d ≡ digits (m .state) → Sayable d call (listed w)
+unfolding step
+played-sayable m m₁ w image out call d e f = record {
+  survey = λ is z.
+      let answer : listed w ≡ surveyCall m .answer =
+      played-answer m m₁ w (called image out call) e ∙ ap (λ (c : Call). padded (step m (called image out c) .answer)) is ∙ survey-filled m in
+      let first : getD (surveyCall m .answer) 0 0 ≡ 0 = sym (ap (λ (l : List ℕ). getD l 0 0) answer) ∙ z in
+      subst (λ (d : ℕ). Showable d (drop 1 (listed w))) (sym f)
+      (subst (λ (l : List ℕ). Showable (digits (m .state)) (drop 1 l)) (sym answer) (counts-fit m first));
+}
 
 -- ---- a table; r is the refusal that the code found
 
@@ -96,7 +127,7 @@ module _ (m : Memory) (number : ℕ) (command : Command) where
     pub unknown-says : command ≡ is.Unknown → Put o 0 (unknownSaid number) p g → Put o 0 (commandSaid m number command) p g
     unknown-says e = says is.Unknown e o p g
 
-    pub call-says : (c : Call) → command ≡ is.Call c → Put o 0 (said 0 c (padded (step m (called [] [] c) .answer))) p g
+    pub call-says : (c : Call) → command ≡ is.Call c → Put o 0 (said (digits (m .state)) 0 c (padded (step m (called [] [] c) .answer))) p g
         → Put o 0 (commandSaid m number command) p g
     call-says c e = says (is.Call c) e o p g
 

@@ -3,14 +3,14 @@ use Prim.Native.Nat.{ℕ}
 use mathlib.Core.Bool.{cond}
 use mathlib.Core.List.{List, [], _++_}
 use lib.Dec.{eqb}
-use Rattle.model.specs.Memory.{Memory}
+use Rattle.model.specs.Memory.{Memory, digits}
 use Rattle.model.specs.Refusals.{lookupRefusal}
 use Rattle.text.specs.Ascii.{ascii}
 use Rattle.text.specs.Lines.{labelled}
 use Rattle.replay_calls.specs.Called.{called}
 use Rattle.replay_calls.specs.Answered.{padded}
 use Rattle.replay_table.specs.TableText.{tableText}
-use Rattle.replay_words.specs.Refused.{refusedText}
+use Rattle.replay_refusals.specs.Refused.{refusedText}
 use Rattle.replay_words.specs.Said.{said}
 use Rattle.model.specs.Run.{step, after}
 use Rattle.script.specs.declared.command.Command.{Command}
@@ -29,7 +29,7 @@ unknownSaid number = labelled (ascii "line ") number ++ ascii ": not understood\
 abbrev pub commandSaid : Memory → ℕ → Command → List ℕ
 commandSaid m number Nothing = []
 commandSaid m number Unknown = unknownSaid number
-commandSaid m number (Call c) = said 0 c (padded (step m (called [] [] c) .answer))
+commandSaid m number (Call c) = said (digits (m .state)) 0 c (padded (step m (called [] [] c) .answer))
 commandSaid m number Save = []
 commandSaid m number Load = []
 commandSaid m number (Table x) = tableSaid m x

@@ -22,11 +22,11 @@ pub fn save(state: &mut [u64], tables: &mut [u8], path: &[u8])
 {
     let none = [0u8; 0];
     let mut image = [0u8; 65536];
-    let mut words = [0u8; 128];
+    let mut words = [0u8; 1024];
     let r = played(state, tables, &none, &mut image, Call::Write, &mut words);
     let w = r.answer;
     if w.refusal == 0 {
-        if !keep(path, part(&image, 0, w.first as usize)) {
+        if !keep(path, part(&image, 0, w.fields[0] as usize)) {
             io::write_all(STDOUT_FILENO, b"save: the file cannot be written\n");
             return;
         }
@@ -46,7 +46,7 @@ pub fn load(state: &mut [u64], tables: &mut [u8], path: &[u8])
     let mut image = [0u8; 65536];
     let n = io::read_full(fd, &mut image);
     libc::close(fd);
-    let mut words = [0u8; 128];
+    let mut words = [0u8; 1024];
     let r = played(
         state,
         tables,

@@ -1,4 +1,4 @@
-// Plays a script of calls from standard input, one a line, and prints a line for each answer. docs/REPLAY.md has the language.
+// Plays a script of calls from standard input, one a line, and prints each answer. docs/REPLAY.md has the language.
 ghost use mathlib.Core.Path.{_≡_};
 ghost use lib.ListN.{length};
 ghost use Rattle.state.specs.Lent.{memory};

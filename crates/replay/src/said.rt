@@ -3,6 +3,7 @@ ghost use mathlib.Core.Path.{_≡_};
 ghost use mathlib.Core.List.{[]};
 ghost use Prim.Native.Nat.{_≤_};
 ghost use lib.ListN.{length};
+ghost use Rattle.model.specs.Memory.{digits};
 ghost use Rattle.model.specs.Run.{step, after};
 ghost use Rattle.state.specs.Lent.{memory};
 ghost use Rattle.putting.specs.Put.{Put};
@@ -15,8 +16,8 @@ use putting::piece;
 use replay_calls::answer::Words;
 use replay_calls::one;
 use replay_words::answer;
-use replay_words::refused;
 use script::command::Command;
+use state::settings;
 
 // A played call: how many bytes its words have, and its answer.
 pub struct Answered {
@@ -33,24 +34,25 @@ pub fn played(
     call: Call,
     words: &mut [u8],
 ) -> Answered
-    requires { ⌜ 111 ≤ length (now words) ⌝ }
+    requires { ⌜ 943 ≤ length (now words) ⌝ }
     ensures { λ r. ⌜ memory (now (state .exit)) (now (tables .exit)) ≡ after (memory (now (state .entry)) (now (tables .entry))) (called (now (image .entry)) (now (out .entry)) call) ⌝ }
     ensures { λ r. ⌜ now (out .exit) ≡ outAfter (memory (now (state .entry)) (now (tables .entry))) (now (out .entry)) call ⌝ }
     ensures { λ r. ⌜ listed (r .answer) ≡ padded (step (memory (now (state .entry)) (now (tables .entry))) (called (now (image .entry)) (now (out .entry)) call) .answer) ⌝ }
-    ensures { λ r. ⌜ Put (now (words .entry)) 0 (said (length (now (image .entry))) call (padded (step (memory (now (state .entry)) (now (tables .entry))) (called (now (image .entry)) (now (out .entry)) call) .answer))) (now (words .exit)) (r .end) ⌝ }
-    ensures { λ r. ⌜ r .end ≤ 111 ⌝ }
+    ensures { λ r. ⌜ Put (now (words .entry)) 0 (said (digits (now (state .entry))) (length (now (image .entry))) call (padded (step (memory (now (state .entry)) (now (tables .entry))) (called (now (image .entry)) (now (out .entry)) call) .answer))) (now (words .exit)) (r .end) ⌝ }
+    ensures { λ r. ⌜ r .end ≤ 943 ⌝ }
 {
+    let digits = settings::digits(state);
     let w = one::play(state, tables, image, out, call);
-    let k = answer::put(words, image.len() as u64, call, w);
+    let k = answer::put(words, digits, image.len() as u64, call, w);
     Answered { end: k, answer: w }
 }
 
 // A call that needs no file.
 fn call(state: &mut [u64], tables: &mut [u8], call: Call, words: &mut [u8]) -> usize
-    requires { ⌜ 111 ≤ length (now words) ⌝ }
+    requires { ⌜ 943 ≤ length (now words) ⌝ }
     ensures { λ r. ⌜ memory (now (state .exit)) (now (tables .exit)) ≡ after (memory (now (state .entry)) (now (tables .entry))) (called [] [] call) ⌝ }
-    ensures { λ r. ⌜ Put (now (words .entry)) 0 (said 0 call (padded (step (memory (now (state .entry)) (now (tables .entry))) (called [] [] call) .answer))) (now (words .exit)) r ⌝ }
-    ensures { λ r. ⌜ r ≤ 111 ⌝ }
+    ensures { λ r. ⌜ Put (now (words .entry)) 0 (said (digits (now (state .entry))) 0 call (padded (step (memory (now (state .entry)) (now (tables .entry))) (called [] [] call) .answer))) (now (words .exit)) r ⌝ }
+    ensures { λ r. ⌜ r ≤ 943 ⌝ }
 {
     let none = [0u8; 0];
     let mut out = [0u8; 0];
@@ -65,7 +67,7 @@ fn table(state: &[u64], tables: &[u8], x: u64, words: &mut [u8]) -> usize
 {
     let r = refusals::lookup::refusal(state, tables, x, x);
     if r != 0 {
-        return refused::put(words, r);
+        return replay_refusals::put(words, r);
     }
     replay_table::put(state, tables, x as usize, words)
 }

@@ -1,11 +1,14 @@
 -- One call: its words, and the public call of its kind. Assumes nothing.
 use Prim.Native.Nat.{ℕ}
-use mathlib.Core.Path.{_≡_, sym, ap, _∙_}
+use mathlib.Core.Path.{_≡_, refl, sym, ap, _∙_}
 use mathlib.Core.Bool.{Bool, cond}
 use mathlib.Core.List.{List, [], _∷_}
 use Rattle.model.specs.Memory.{Memory}
-use Rattle.model.specs.Calls.{Outcome, deliverCall, lookupCall, verdictCall}
+use Rattle.model.specs.Survey.{surveyCounts}
+use Rattle.model.specs.Refusals.{stateRefusal}
+use Rattle.model.specs.Calls.{Outcome, refusedAt, refused, taken, surveyCall}
 use Rattle.model.specs.Run.{step}
+use Rattle.model.proofs.Calls.{either-end}
 use Rattle.answers.specs.declared.DeliverAnswer.{DeliverAnswer}
 use Rattle.delivery_parts.specs.Answers.{outcome, answerFields}
 use Rattle.packing.specs.declared.delivered.Numbers.{Numbers}
@@ -14,44 +17,41 @@ use Rattle.engine.specs.Outcomes.{leaves, writes}
 use Rattle.state.specs.Lent.{memory}
 use Rattle.calls.specs.declared.Call.{Call}
 use Rattle.replay_calls.specs.Called.{called, outAfter}
-use Rattle.replay_calls.specs.Answered.{padded, Played, playing, shown}
+use Rattle.replay_calls.specs.Answered.{padded, listed, Played, playing, shown}
 use Rattle.replay_calls.specs.declared.answer.Words.{Words}
 
 -- ---- the words of an answer
 
--- an answer of the refusal alone, and of one number more
-module _ (m : Memory) (o : Outcome) where
-  pub refusal-words : (r : ℕ) (w : Words) → leaves m (r ∷ []) ≡ o → w ≡ record { refusal = r; first = 0; second = 0; third = 0; fourth = 0 }
-      → shown m w ≡ playing o
+-- of a call that left o
+module _ (m : Memory) (o : Outcome) (w : Words) where
+  pub words-of : (out fields : List ℕ) → writes m out fields ≡ o → listed w ≡ padded fields → shown m w ≡ playing o
   unfolding playing
-  refusal-words r w e f = ap (shown m) f ∙ ap playing e
+  words-of out fields e f = ap (λ (words : List ℕ). record { memory = m; words = words }) f ∙ ap playing e
 
-  module _ (out : List ℕ) (r n : ℕ) (e : writes m out (r ∷ n ∷ []) ≡ o) where
-    pub number-words : shown m (record { refusal = r; first = n; second = 0; third = 0; fourth = 0 }) ≡ playing o
-    unfolding playing
-    number-words = ap playing e
+  -- whose first field behind the refusal is a bit
+  pub bit-words : (r b : ℕ) (a : Bool) (more : List ℕ) → leaves m (r ∷ cond a 1 0 ∷ more) ≡ o → b ≡ cond a 1 0 → listed w ≡ padded (r ∷ b ∷ more)
+      → shown m w ≡ playing o
+  bit-words r b a more e f g = words-of [] (r ∷ cond a 1 0 ∷ more) e (g ∙ ap (λ (b : ℕ). padded (r ∷ b ∷ more)) f)
 
-    pub write-out : out ≡ o .out
-    write-out = ap (λ (o : Outcome). o .out) e
+pub deliver-words : (s t : List ℕ) (o : Outcome) (w : Words) (a : DeliverAnswer) (n : Numbers) → outcome s t a ≡ o → numbers.listed n ≡ answerFields a
+    → listed w ≡ padded (numbers.listed n) → shown (memory s t) w ≡ playing o
+deliver-words s t o w a n e f g = words-of (memory s t) o w [] (answerFields a) e (g ∙ ap padded f)
 
 module _ (m : Memory) where
-  pub deliver-words : (s₁ t₁ : List ℕ) (x y : ℕ) (a : DeliverAnswer) (n : Numbers) → outcome s₁ t₁ a ≡ deliverCall m x y → numbers.listed n ≡ answerFields a
-      → shown (memory s₁ t₁) (record { refusal = n .refusal; first = n .kind; second = n .level; third = n .settled; fourth = 0 })
-      ≡ playing (deliverCall m x y)
-  unfolding playing
-  deliver-words s₁ t₁ x y a n e f = ap (λ (l : List ℕ). record { memory = memory s₁ t₁; words = padded l }) f ∙ ap playing e
+  -- the answer of a survey fills its words
+  pub survey-filled : padded (surveyCall m .answer) ≡ surveyCall m .answer
+  unfolding surveyCall surveyCounts refusedAt taken
+  survey-filled =
+      either-end (λ (o : Outcome). padded (o .answer) ≡ o .answer) (stateRefusal m) (refused m [] 9) (taken m [] (surveyCounts (m .state) (m .tables)))
+      (λ nz. refl) (λ z. refl)
 
-  pub lookup-words : (u z r h l b : ℕ) (a : Bool) → leaves m (r ∷ cond a 1 0 ∷ h ∷ l ∷ []) ≡ lookupCall m u z → b ≡ cond a 1 0
-      → shown m (record { refusal = r; first = b; second = h; third = l; fourth = 0 }) ≡ playing (lookupCall m u z)
-  unfolding playing
-  lookup-words u z r h l b a e f =
-      ap (λ (b : ℕ). shown m (record { refusal = r; first = b; second = h; third = l; fourth = 0 })) f ∙ ap playing e
+  pub survey-words : (r : ℕ) (C : List ℕ) → leaves m (r ∷ C) ≡ surveyCall m → shown m (record { refusal = r; fields = C }) ≡ playing (surveyCall m)
+  survey-words r C e =
+      let is : r ∷ C ≡ surveyCall m .answer = ap (λ (o : Outcome). o .answer) e in
+      words-of m (surveyCall m) (record { refusal = r; fields = C }) [] (r ∷ C) e (is ∙ sym survey-filled ∙ ap padded (sym is))
 
-  pub verdict-words : (r x i j b : ℕ) (a : Bool) → leaves m (r ∷ cond a 1 0 ∷ x ∷ i ∷ j ∷ []) ≡ verdictCall m → b ≡ cond a 1 0
-      → shown m (record { refusal = r; first = b; second = x; third = i; fourth = j }) ≡ playing (verdictCall m)
-  unfolding playing
-  verdict-words r x i j b a e f =
-      ap (λ (b : ℕ). shown m (record { refusal = r; first = b; second = x; third = i; fourth = j })) f ∙ ap playing e
+pub write-out : (m : Memory) (o : Outcome) (out fields : List ℕ) → writes m out fields ≡ o → out ≡ o .out
+write-out m o out fields e = ap (λ (o : Outcome). o .out) e
 
 -- ---- the call decides
 

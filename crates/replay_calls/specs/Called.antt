@@ -5,7 +5,7 @@ use Rattle.model.specs.Memory.{Memory}
 use Rattle.model.specs.Calls.{writeCall}
 use Rattle.model.specs.Run as book
 use Rattle.calls.specs.declared.Call.{Call}
-use Rattle.calls.specs.declared.Call.the-variants.{Found, Read, Begin, Deliver, Lookup, Verdict, Write, Sound}
+use Rattle.calls.specs.declared.Call.the-variants.{Found, Read, Begin, Deliver, Lookup, Survey, Verdict, Write, Sound}
 
 -- the book's call, with the image that is lent for reading and the memory that is lent for output
 abbrev pub called : List ℕ → List ℕ → Call → book.Call
@@ -14,6 +14,7 @@ called image out Read = book.read image
 called image out (Begin id gateway) = book.begin id gateway
 called image out (Deliver x y) = book.deliver x y
 called image out (Lookup u z) = book.lookup u z
+called image out Survey = book.survey
 called image out Verdict = book.verdict
 called image out Write = book.write out
 called image out Sound = book.sound
@@ -25,6 +26,7 @@ outAfter m out Read = out
 outAfter m out (Begin id gateway) = out
 outAfter m out (Deliver x y) = out
 outAfter m out (Lookup u z) = out
+outAfter m out Survey = out
 outAfter m out Verdict = out
 outAfter m out Write = writeCall m out .out
 outAfter m out Sound = out

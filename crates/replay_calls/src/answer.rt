@@ -1,8 +1,5 @@
-// An answer in five words: the refusal, the answer's other fields, and zeros.
+// An answer in ten words: the refusal, the answer's other fields, and zeros behind them.
 pub struct Words {
     pub refusal: u64,
-    pub first: u64,
-    pub second: u64,
-    pub third: u64,
-    pub fourth: u64,
+    pub fields: [u64; 9],
 }

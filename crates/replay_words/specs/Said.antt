@@ -1,16 +1,17 @@
--- The answer of a call in words. w is the answer, the refusal first.
+-- The answer of a call in words, in a network of d digits. w is the answer, the refusal first.
 use Prim.Native.Nat.{ℕ}
 use mathlib.Core.Bool.{cond}
 use mathlib.Core.List.{List, _++_}
 use lib.Dec.{eqb}
-use lib.ListN.{getD}
+use lib.ListN.{getD, drop}
 use Rattle.model.specs.Join.{kindCopied, kindSentOn, kindAttached}
 use Rattle.calls.specs.declared.Call.{Call}
-use Rattle.calls.specs.declared.Call.the-variants.{Found, Read, Begin, Deliver, Lookup, Verdict, Write, Sound}
+use Rattle.calls.specs.declared.Call.the-variants.{Found, Read, Begin, Deliver, Lookup, Survey, Verdict, Write, Sound}
 use Rattle.text.specs.Ascii.{ascii}
 use Rattle.text.specs.Numbers.{hexadecimal}
 use Rattle.text.specs.Lines.{labelled, line}
-use Rattle.replay_words.specs.Refused.{refusedText}
+use Rattle.replay_survey.specs.SurveyText.{surveySaid}
+use Rattle.replay_refusals.specs.Refused.{refusedText}
 
 -- a label, how many bytes, and the line's end
 unfoldable pub bytesText : List ℕ → ℕ → List ℕ
@@ -49,17 +50,18 @@ unfoldable pub judgedText : List ℕ → List ℕ
 judgedText w =
     cond (eqb (getD w 1 0) 1) (ascii "verdict: consistent\n") (shortText (getD w 2 0) (getD w 3 0) (getD w 4 0))
 
--- a call that was taken; the image that it read has n bytes
-unfoldable pub takenText : ℕ → Call → List ℕ → List ℕ
-takenText n (Found b d K id) w = ascii "found: node 1\n"
-takenText n Read w = bytesText (ascii "load: ") n
-takenText n (Begin id gateway) w = line (ascii "begin: node ") (getD w 1 0)
-takenText n (Deliver x y) w = deliverText w
-takenText n (Lookup u z) w = lookupText w
-takenText n Verdict w = judgedText w
-takenText n Write w = bytesText (ascii "save: ") (getD w 1 0)
-takenText n Sound w = ascii "sound: the state is sound\n"
+-- a call that was taken; the ids of its network have d digits, and the image that it read has n bytes
+unfoldable pub takenText : ℕ → ℕ → Call → List ℕ → List ℕ
+takenText d n (Found b digits K id) w = ascii "found: node 1\n"
+takenText d n Read w = bytesText (ascii "load: ") n
+takenText d n (Begin id gateway) w = line (ascii "begin: node ") (getD w 1 0)
+takenText d n (Deliver x y) w = deliverText w
+takenText d n (Lookup u z) w = lookupText w
+takenText d n Survey w = surveySaid d (drop 1 w)
+takenText d n Verdict w = judgedText w
+takenText d n Write w = bytesText (ascii "save: ") (getD w 1 0)
+takenText d n Sound w = ascii "sound: the state is sound\n"
 
 -- what is said of any answer: refused or taken
-unfoldable pub said : ℕ → Call → List ℕ → List ℕ
-said n c w = cond (eqb (getD w 0 0) 0) (takenText n c w) (refusedText (getD w 0 0))
+unfoldable pub said : ℕ → ℕ → Call → List ℕ → List ℕ
+said d n c w = cond (eqb (getD w 0 0) 0) (takenText d n c w) (refusedText (getD w 0 0))

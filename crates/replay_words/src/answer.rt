@@ -1,11 +1,12 @@
-// The answer of a call in words, a line.
+// The answer of a call in words: a survey has at most 943 bytes, and any other answer is a line of at most 111.
+ghost use mathlib.Core.Path.{_≡_};
 ghost use Prim.Native.Nat.{_+_, _≤_};
 ghost use lib.ListN.{length};
 ghost use Rattle.putting.specs.Put.{Put};
 ghost use Rattle.replay_calls.specs.Answered.{listed};
 ghost use Rattle.text.specs.Lines.{labelled};
 ghost use Rattle.replay_words.specs.Said.{bytesText, kindText, settledText, deliverText, endText, hopsText, lookupText, shortText, judgedText, takenText, said};
-use crate::refused;
+ghost use Rattle.replay_words.specs.Sayable.{Sayable};
 use calls::Call;
 use putting::piece;
 use replay_calls::answer::Words;
@@ -49,8 +50,8 @@ fn delivered(out: &mut [u8], w: Words) -> usize
     ensures { λ r. ⌜ Put (now (out .entry)) 0 (deliverText (listed w)) (now (out .exit)) r ⌝ }
     ensures { λ r. ⌜ r ≤ 57 ⌝ }
 {
-    let end = kind(out, w.first, w.second);
-    settled(out, end, w.third)
+    let end = kind(out, w.fields[0], w.fields[1]);
+    settled(out, end, w.fields[2])
 }
 
 fn ended(out: &mut [u8], arrived: u64, last: u64) -> usize
@@ -81,8 +82,8 @@ fn looked_up(out: &mut [u8], w: Words) -> usize
     ensures { λ r. ⌜ Put (now (out .entry)) 0 (lookupText (listed w)) (now (out .exit)) r ⌝ }
     ensures { λ r. ⌜ r ≤ 69 ⌝ }
 {
-    let end = ended(out, w.first, w.third);
-    hops(out, end, w.second)
+    let end = ended(out, w.fields[0], w.fields[2]);
+    hops(out, end, w.fields[1])
 }
 
 fn short(out: &mut [u8], x: u64, i: u64, j: u64) -> usize
@@ -102,37 +103,42 @@ fn judged(out: &mut [u8], w: Words) -> usize
     ensures { λ r. ⌜ Put (now (out .entry)) 0 (judgedText (listed w)) (now (out .exit)) r ⌝ }
     ensures { λ r. ⌜ r ≤ 82 ⌝ }
 {
-    if w.first == 1 {
+    if w.fields[0] == 1 {
         return piece(out, 0, b"verdict: consistent\n");
     }
-    short(out, w.second, w.third, w.fourth)
+    short(out, w.fields[1], w.fields[2], w.fields[3])
 }
 
-fn taken(out: &mut [u8], n: u64, call: Call, w: Words) -> usize
-    requires { ⌜ 111 ≤ length (now out) ⌝ }
-    ensures { λ r. ⌜ Put (now (out .entry)) 0 (takenText n call (listed w)) (now (out .exit)) r ⌝ }
-    ensures { λ r. ⌜ r ≤ 111 ⌝ }
+fn taken(out: &mut [u8], digits: usize, n: u64, call: Call, w: Words) -> usize
+    requires { ⌜ Sayable digits call (listed w) ⌝ }
+    requires { ⌜ w .refusal ≡ 0 ⌝ }
+    requires { ⌜ 943 ≤ length (now out) ⌝ }
+    ensures { λ r. ⌜ Put (now (out .entry)) 0 (takenText digits n call (listed w)) (now (out .exit)) r ⌝ }
+    ensures { λ r. ⌜ r ≤ 943 ⌝ }
 {
     match call {
         Call::Found(_, _, _, _) => return piece(out, 0, b"found: node 1\n"),
         Call::Read => return bytes(out, b"load: ", n),
-        Call::Begin(_, _) => return text::line(out, 0, b"begin: node ", w.first),
+        Call::Begin(_, _) => return text::line(out, 0, b"begin: node ", w.fields[0]),
         Call::Deliver(_, _) => return delivered(out, w),
         Call::Lookup(_, _) => return looked_up(out, w),
+        Call::Survey => return replay_survey::put(out, digits, w.fields),
         Call::Verdict => return judged(out, w),
-        Call::Write => return bytes(out, b"save: ", w.first),
+        Call::Write => return bytes(out, b"save: ", w.fields[0]),
         Call::Sound => return piece(out, 0, b"sound: the state is sound\n"),
     }
 }
 
-// Puts the line at the start of out, and answers how many bytes it has. An image that was read has n bytes.
-pub fn put(out: &mut [u8], n: u64, call: Call, w: Words) -> usize
-    requires { ⌜ 111 ≤ length (now out) ⌝ }
-    ensures { λ r. ⌜ Put (now (out .entry)) 0 (said n call (listed w)) (now (out .exit)) r ⌝ }
-    ensures { λ r. ⌜ r ≤ 111 ⌝ }
+// Puts the words at the start of out, and answers how many bytes they are. The network's ids have this many digits, and an image that
+// was read has n bytes.
+pub fn put(out: &mut [u8], digits: usize, n: u64, call: Call, w: Words) -> usize
+    requires { ⌜ Sayable digits call (listed w) ⌝ }
+    requires { ⌜ 943 ≤ length (now out) ⌝ }
+    ensures { λ r. ⌜ Put (now (out .entry)) 0 (said digits n call (listed w)) (now (out .exit)) r ⌝ }
+    ensures { λ r. ⌜ r ≤ 943 ⌝ }
 {
     if w.refusal != 0 {
-        return refused::put(out, w.refusal);
+        return replay_refusals::put(out, w.refusal);
     }
-    taken(out, n, call, w)
+    taken(out, digits, n, call, w)
 }

@@ -1,3 +1,2 @@
 // What `replay` says of an answer, put into lent memory.
 pub mod answer;
-pub mod refused;

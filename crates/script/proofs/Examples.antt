@@ -19,6 +19,10 @@ pub commented : commandOf (ascii "  deliver\t2 1# and so on\r") ≡ Call (call.D
 unfolding computing
 commented = refl
 
+pub surveying : commandOf (ascii "survey") ≡ Call call.Survey
+unfolding computing
+surveying = refl
+
 pub empty-line : commandOf (ascii " # verdict") ≡ Nothing
 unfolding computing
 empty-line = refl

@@ -156,16 +156,23 @@ module _ (line : List ℕ) where
             unfolding commandOf
             lookup-named x h e = rw (sym e₀ ∙ q₀, sym p ∙ q, sym p₂ ∙ q₂, sym p₃ ∙ q₃, sym p₄ ∙ h) e
 
-            module _ (q₄ : d ≡ false) (v : Bool) (p₅ : v ≡ named line (ascii "verdict")) where
-              pub verdict-named : (x : Command) → v ≡ true → x ≡ endsWith 1 line (Call call.Verdict) → x ≡ commandOf line
+            module _ (q₄ : d ≡ false) (s : Bool) (p₅ : s ≡ named line (ascii "survey")) where
+              pub survey-named : (x : Command) → s ≡ true → x ≡ endsWith 1 line (Call call.Survey) → x ≡ commandOf line
               unfolding commandOf
-              verdict-named x h e = rw (sym e₀ ∙ q₀, sym p ∙ q, sym p₂ ∙ q₂, sym p₃ ∙ q₃, sym p₄ ∙ q₄, sym p₅ ∙ h) e
+              survey-named x h e = rw (sym e₀ ∙ q₀, sym p ∙ q, sym p₂ ∙ q₂, sym p₃ ∙ q₃, sym p₄ ∙ q₄, sym p₅ ∙ h) e
 
-              module _ (q₅ : v ≡ false) (s : Bool) (p₆ : s ≡ named line (ascii "sound")) where
-                pub sound-named : (x : Command) → s ≡ true → x ≡ endsWith 1 line (Call call.Sound) → x ≡ commandOf line
+              module _ (q₅ : s ≡ false) (v : Bool) (p₆ : v ≡ named line (ascii "verdict")) where
+                pub verdict-named : (x : Command) → v ≡ true → x ≡ endsWith 1 line (Call call.Verdict) → x ≡ commandOf line
                 unfolding commandOf
-                sound-named x h e = rw (sym e₀ ∙ q₀, sym p ∙ q, sym p₂ ∙ q₂, sym p₃ ∙ q₃, sym p₄ ∙ q₄, sym p₅ ∙ q₅, sym p₆ ∙ h) e
+                verdict-named x h e = rw (sym e₀ ∙ q₀, sym p ∙ q, sym p₂ ∙ q₂, sym p₃ ∙ q₃, sym p₄ ∙ q₄, sym p₅ ∙ q₅, sym p₆ ∙ h) e
 
-                pub file-or-table : (x : Command) → s ≡ false → x ≡ fileOrTable line → x ≡ commandOf line
-                unfolding commandOf
-                file-or-table x h e = rw (sym e₀ ∙ q₀, sym p ∙ q, sym p₂ ∙ q₂, sym p₃ ∙ q₃, sym p₄ ∙ q₄, sym p₅ ∙ q₅, sym p₆ ∙ h) e
+                module _ (q₆ : v ≡ false) (o : Bool) (p₇ : o ≡ named line (ascii "sound")) where
+                  pub sound-named : (x : Command) → o ≡ true → x ≡ endsWith 1 line (Call call.Sound) → x ≡ commandOf line
+                  unfolding commandOf
+                  sound-named x h e =
+                      rw (sym e₀ ∙ q₀, sym p ∙ q, sym p₂ ∙ q₂, sym p₃ ∙ q₃, sym p₄ ∙ q₄, sym p₅ ∙ q₅, sym p₆ ∙ q₆, sym p₇ ∙ h) e
+
+                  pub file-or-table : (x : Command) → o ≡ false → x ≡ fileOrTable line → x ≡ commandOf line
+                  unfolding commandOf
+                  file-or-table x h e =
+                      rw (sym e₀ ∙ q₀, sym p ∙ q, sym p₂ ∙ q₂, sym p₃ ∙ q₃, sym p₄ ∙ q₄, sym p₅ ∙ q₅, sym p₆ ∙ q₆, sym p₇ ∙ h) e

@@ -71,6 +71,7 @@ commandOf line =
     (cond (named line (ascii "begin")) (begin line)
     (cond (named line (ascii "deliver")) (deliver line)
     (cond (named line (ascii "lookup")) (lookup line)
+    (cond (named line (ascii "survey")) (endsWith 1 line (Call call.Survey))
     (cond (named line (ascii "verdict")) (endsWith 1 line (Call call.Verdict))
     (cond (named line (ascii "sound")) (endsWith 1 line (Call call.Sound))
-    (fileOrTable line)))))))
+    (fileOrTable line))))))))

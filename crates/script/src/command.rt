@@ -139,6 +139,9 @@ pub fn parsed(line: &[u8]) -> Command
     if named(line, b"lookup") {
         return lookup(line);
     }
+    if named(line, b"survey") {
+        return ends_with(line, 1, Command::Call(Call::Survey));
+    }
     if named(line, b"verdict") {
         return ends_with(line, 1, Command::Call(Call::Verdict));
     }

@@ -3,7 +3,7 @@ ghost use mathlib.Core.Path.{_≡_};
 ghost use Prim.Native.Nat.{_≤_};
 ghost use lib.ListN.{length, set};
 ghost use Rattle.model.specs.Join.{withSettings};
-ghost use Rattle.model.specs.Memory.{stateLength};
+ghost use Rattle.model.specs.Memory.{stateLength, digits};
 ghost use Rattle.state.specs.Loaded.{SettingsOf};
 
 pub struct Settings {
@@ -23,6 +23,16 @@ pub fn load(state: &[u64]) -> Settings
         depth: state[2] as usize,
         nodes: state[3] as usize,
     }
+}
+
+// The number of digits alone, of memory of any length: 0 where it ends before.
+pub fn digits(state: &[u64]) -> usize
+    ensures { λ r. ⌜ r ≡ digits (now (state .entry)) ⌝ }
+{
+    if state.len() < 2 {
+        return 0;
+    }
+    state[1] as usize
 }
 
 pub fn store(state: &mut [u64], s: Settings)

@@ -1,11 +1,14 @@
 -- `begin`: the words of the public call. Assumes nothing.
 use borrow.Author.Needs.{needs}
-use Rattle.replay_calls.proofs.Ones.{number-words}
+use Rattle.replay_calls.proofs.Ones.{words-of}
 use Rattle.replay_calls.proofs.one.begin.Statement.{statement}
 use Rattle.replay_calls.proofs.one.begin.Tie as tie
 
 begin-requires : tie.Need-begin-requires
 begin-requires c κs = search needs
+
+first-fields-requires : tie.Need-first-fields-requires
+first-fields-requires c κs = search needs
 
 same-length : tie.Need-same-length
 same-length c = search needs
@@ -14,7 +17,8 @@ same-length-2 : tie.Need-same-length-2
 same-length-2 c = search needs
 
 returns : tie.Need-returns
-returns c = search number-words
+returns c = search words-of
 
 pub begin-spec : {M : Type 1} → statement M
-begin-spec = tie.close (tie.spec begin-requires same-length same-length-2 returns)
+begin-spec =
+    tie.close (tie.spec begin-requires first-fields-requires same-length same-length-2 returns)

@@ -10,6 +10,9 @@ deliver-requires c κs = search needs
 as-numbers-requires : tie.Need-as-numbers-requires
 as-numbers-requires c κs = search needs
 
+first-fields-requires : tie.Need-first-fields-requires
+first-fields-requires c κs = search needs
+
 same-length : tie.Need-same-length
 same-length c = search needs
 
@@ -21,4 +24,11 @@ returns c = search deliver-words
 
 pub deliver-spec : {M : Type 1} → statement M
 deliver-spec =
-    tie.close (tie.spec deliver-requires as-numbers-requires same-length same-length-2 returns)
+    tie.close
+    (tie.spec
+    deliver-requires
+    as-numbers-requires
+    first-fields-requires
+    same-length
+    same-length-2
+    returns)

@@ -88,8 +88,8 @@ returns-5 c = (search plays, search output)
 enum-told-2 : tie.Need-enum-told-2
 enum-told-2 c = search needs
 
-verdict-requires : tie.Need-verdict-requires
-verdict-requires c κs = search needs
+survey-requires : tie.Need-survey-requires
+survey-requires c κs = search needs
 
 same-length-11 : tie.Need-same-length-11
 same-length-11 c = search needs
@@ -104,17 +104,14 @@ returns-6 c = (search plays, search output)
 enum-told-3 : tie.Need-enum-told-3
 enum-told-3 c = search needs
 
-write-requires : tie.Need-write-requires
-write-requires c κs = search needs
+verdict-requires : tie.Need-verdict-requires
+verdict-requires c κs = search needs
 
 same-length-13 : tie.Need-same-length-13
 same-length-13 c = search needs
 
 same-length-14 : tie.Need-same-length-14
 same-length-14 c = search needs
-
-same-length-15 : tie.Need-same-length-15
-same-length-15 c = search needs
 
 returns-7 : tie.Need-returns-7
 unfolding step
@@ -123,8 +120,11 @@ returns-7 c = (search plays, search output)
 enum-told-4 : tie.Need-enum-told-4
 enum-told-4 c = search needs
 
-sound-requires : tie.Need-sound-requires
-sound-requires c κs = search needs
+write-requires : tie.Need-write-requires
+write-requires c κs = search needs
+
+same-length-15 : tie.Need-same-length-15
+same-length-15 c = search needs
 
 same-length-16 : tie.Need-same-length-16
 same-length-16 c = search needs
@@ -135,6 +135,22 @@ same-length-17 c = search needs
 returns-8 : tie.Need-returns-8
 unfolding step
 returns-8 c = (search plays, search output)
+
+enum-told-5 : tie.Need-enum-told-5
+enum-told-5 c = search needs
+
+sound-requires : tie.Need-sound-requires
+sound-requires c κs = search needs
+
+same-length-18 : tie.Need-same-length-18
+same-length-18 c = search needs
+
+same-length-19 : tie.Need-same-length-19
+same-length-19 c = search needs
+
+returns-9 : tie.Need-returns-9
+unfolding step
+returns-9 c = (search plays, search output)
 
 pub play-spec : {M : Type 1} → statement M
 play-spec =
@@ -166,18 +182,23 @@ play-spec =
     same-length-10
     returns-5
     enum-told-2
-    verdict-requires
+    survey-requires
     same-length-11
     same-length-12
     returns-6
     enum-told-3
-    write-requires
+    verdict-requires
     same-length-13
     same-length-14
-    same-length-15
     returns-7
     enum-told-4
-    sound-requires
+    write-requires
+    same-length-15
     same-length-16
     same-length-17
-    returns-8)
+    returns-8
+    enum-told-5
+    sound-requires
+    same-length-18
+    same-length-19
+    returns-9)

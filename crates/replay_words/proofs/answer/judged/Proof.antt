@@ -5,6 +5,9 @@ use Rattle.replay_words.proofs.Words.{consistent-put, inconsistent-put}
 use Rattle.replay_words.proofs.answer.judged.Statement.{statement}
 use Rattle.replay_words.proofs.answer.judged.Tie as tie
 
+element-copy-out-if1 : tie.Need-element-copy-out-if1
+element-copy-out-if1 c = search needs
+
 slice-aggregate-piece : tie.Need-slice-aggregate-piece
 slice-aggregate-piece c = search needs
 
@@ -16,6 +19,15 @@ same-length c = search needs
 
 returns : tie.Need-returns
 returns c = (search consistent-put, omega arith)
+
+element-copy-out-short : tie.Need-element-copy-out-short
+element-copy-out-short c = search needs
+
+element-copy-out-short-2 : tie.Need-element-copy-out-short-2
+element-copy-out-short-2 c = search needs
+
+element-copy-out-short-3 : tie.Need-element-copy-out-short-3
+element-copy-out-short-3 c = search needs
 
 short-requires : tie.Need-short-requires
 short-requires c κs = search needs
@@ -30,10 +42,14 @@ pub judged-spec : {M : Type 1} → statement M
 judged-spec =
     tie.close
     (tie.spec
+    element-copy-out-if1
     slice-aggregate-piece
     piece-requires
     same-length
     returns
+    element-copy-out-short
+    element-copy-out-short-2
+    element-copy-out-short-3
     short-requires
     same-length-2
     returns-2)

@@ -3,7 +3,8 @@ use native.Mathlib.Omega.{arith}
 use borrow.Author.Needs.{needs}
 use Prim.Native.Nat.{ℕ}
 use Rattle.replay_words.specs.Said.{kindText}
-use Rattle.replay_words.proofs.Words.{by-key, notified-put}
+use Rattle.text.proofs.Pieces.{by-key}
+use Rattle.replay_words.proofs.Words.{notified-put}
 use Rattle.replay_words.proofs.answer.kind.Statement.{statement}
 use Rattle.replay_words.proofs.answer.kind.Tie as tie
 

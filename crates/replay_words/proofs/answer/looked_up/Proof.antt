@@ -5,8 +5,17 @@ use Rattle.replay_words.proofs.Words.{looked-up-put}
 use Rattle.replay_words.proofs.answer.looked_up.Statement.{statement}
 use Rattle.replay_words.proofs.answer.looked_up.Tie as tie
 
+element-copy-out-ended : tie.Need-element-copy-out-ended
+element-copy-out-ended c = search needs
+
+element-copy-out-ended-2 : tie.Need-element-copy-out-ended-2
+element-copy-out-ended-2 c = search needs
+
 ended-requires : tie.Need-ended-requires
 ended-requires c κs = search needs
+
+element-copy-out-hops : tie.Need-element-copy-out-hops
+element-copy-out-hops c = search needs
 
 hops-requires : tie.Need-hops-requires
 hops-requires c κs = search needs
@@ -18,4 +27,13 @@ returns : tie.Need-returns
 returns c = (search looked-up-put, omega arith)
 
 pub looked-up-spec : {M : Type 1} → statement M
-looked-up-spec = tie.close (tie.spec ended-requires hops-requires same-length returns)
+looked-up-spec =
+    tie.close
+    (tie.spec
+    element-copy-out-ended
+    element-copy-out-ended-2
+    ended-requires
+    element-copy-out-hops
+    hops-requires
+    same-length
+    returns)

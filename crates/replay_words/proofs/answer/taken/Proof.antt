@@ -2,7 +2,7 @@
 use native.Mathlib.Omega.{arith}
 use borrow.Author.Needs.{needs}
 use Rattle.replay_words.specs.Said.{takenText}
-use Rattle.replay_words.proofs.Words.{by-call}
+use Rattle.replay_words.proofs.Words.{by-call, survey-fits}
 use Rattle.replay_words.proofs.answer.taken.Statement.{statement}
 use Rattle.replay_words.proofs.answer.taken.Tie as tie
 
@@ -44,6 +44,9 @@ enum-told-3 c = search needs
 slice-aggregate-line : tie.Need-slice-aggregate-line
 slice-aggregate-line c = search needs
 
+element-copy-out-line : tie.Need-element-copy-out-line
+element-copy-out-line c = search needs
+
 line-requires : tie.Need-line-requires
 line-requires c κs = search needs
 
@@ -83,8 +86,8 @@ returns-5 c = (search by-call, omega arith)
 enum-told-6 : tie.Need-enum-told-6
 enum-told-6 c = search needs
 
-judged-requires : tie.Need-judged-requires
-judged-requires c κs = search needs
+put-requires : tie.Need-put-requires
+put-requires c κs = (search survey-fits, omega arith)
 
 same-length-6 : tie.Need-same-length-6
 same-length-6 c = search needs
@@ -96,11 +99,8 @@ returns-6 c = (search by-call, omega arith)
 enum-told-7 : tie.Need-enum-told-7
 enum-told-7 c = search needs
 
-slice-aggregate-bytes-2 : tie.Need-slice-aggregate-bytes-2
-slice-aggregate-bytes-2 c = search needs
-
-bytes-requires-2 : tie.Need-bytes-requires-2
-bytes-requires-2 c κs = search needs
+judged-requires : tie.Need-judged-requires
+judged-requires c κs = search needs
 
 same-length-7 : tie.Need-same-length-7
 same-length-7 c = search needs
@@ -112,11 +112,14 @@ returns-7 c = (search by-call, omega arith)
 enum-told-8 : tie.Need-enum-told-8
 enum-told-8 c = search needs
 
-slice-aggregate-piece-2 : tie.Need-slice-aggregate-piece-2
-slice-aggregate-piece-2 c = search needs
+slice-aggregate-bytes-2 : tie.Need-slice-aggregate-bytes-2
+slice-aggregate-bytes-2 c = search needs
 
-piece-requires-2 : tie.Need-piece-requires-2
-piece-requires-2 c κs = search needs
+element-copy-out-bytes : tie.Need-element-copy-out-bytes
+element-copy-out-bytes c = search needs
+
+bytes-requires-2 : tie.Need-bytes-requires-2
+bytes-requires-2 c κs = search needs
 
 same-length-8 : tie.Need-same-length-8
 same-length-8 c = search needs
@@ -124,6 +127,22 @@ same-length-8 c = search needs
 returns-8 : tie.Need-returns-8
 unfolding takenText
 returns-8 c = (search by-call, omega arith)
+
+enum-told-9 : tie.Need-enum-told-9
+enum-told-9 c = search needs
+
+slice-aggregate-piece-2 : tie.Need-slice-aggregate-piece-2
+slice-aggregate-piece-2 c = search needs
+
+piece-requires-2 : tie.Need-piece-requires-2
+piece-requires-2 c κs = search needs
+
+same-length-9 : tie.Need-same-length-9
+same-length-9 c = search needs
+
+returns-9 : tie.Need-returns-9
+unfolding takenText
+returns-9 c = (search by-call, omega arith)
 
 pub taken-spec : {M : Type 1} → statement M
 taken-spec =
@@ -141,6 +160,7 @@ taken-spec =
     returns-2
     enum-told-3
     slice-aggregate-line
+    element-copy-out-line
     line-requires
     same-length-3
     returns-3
@@ -153,16 +173,21 @@ taken-spec =
     same-length-5
     returns-5
     enum-told-6
-    judged-requires
+    put-requires
     same-length-6
     returns-6
     enum-told-7
-    slice-aggregate-bytes-2
-    bytes-requires-2
+    judged-requires
     same-length-7
     returns-7
     enum-told-8
+    slice-aggregate-bytes-2
+    element-copy-out-bytes
+    bytes-requires-2
+    same-length-8
+    returns-8
+    enum-told-9
     slice-aggregate-piece-2
     piece-requires-2
-    same-length-8
-    returns-8)
+    same-length-9
+    returns-9)

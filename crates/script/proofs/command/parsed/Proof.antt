@@ -1,6 +1,6 @@
 -- `parsed`: one name after the other. Assumes nothing.
-use Rattle.script.proofs.Parsed.{nothing-is, found-named, begin-named, deliver-named, lookup-named, verdict-named, sound-named, file-or-table}
 use borrow.Author.Needs.{needs}
+use Rattle.script.proofs.Parsed.{nothing-is, found-named, begin-named, deliver-named, lookup-named, survey-named, verdict-named, sound-named, file-or-table}
 use Rattle.script.proofs.command.parsed.Statement.{statement}
 use Rattle.script.proofs.command.parsed.Tie as tie
 
@@ -68,7 +68,7 @@ ends-with-requires : tie.Need-ends-with-requires
 ends-with-requires c κs = search needs
 
 returns-6 : tie.Need-returns-6
-returns-6 c = search verdict-named
+returns-6 c = search survey-named
 
 slice-aggregate-named-6 : tie.Need-slice-aggregate-named-6
 slice-aggregate-named-6 c = search needs
@@ -80,13 +80,25 @@ ends-with-requires-2 : tie.Need-ends-with-requires-2
 ends-with-requires-2 c κs = search needs
 
 returns-7 : tie.Need-returns-7
-returns-7 c = search sound-named
+returns-7 c = search verdict-named
+
+slice-aggregate-named-7 : tie.Need-slice-aggregate-named-7
+slice-aggregate-named-7 c = search needs
+
+named-requires-7 : tie.Need-named-requires-7
+named-requires-7 c κs = search needs
+
+ends-with-requires-3 : tie.Need-ends-with-requires-3
+ends-with-requires-3 c κs = search needs
+
+returns-8 : tie.Need-returns-8
+returns-8 c = search sound-named
 
 file-or-table-requires : tie.Need-file-or-table-requires
 file-or-table-requires c κs = search needs
 
-returns-8 : tie.Need-returns-8
-returns-8 c = search file-or-table
+returns-9 : tie.Need-returns-9
+returns-9 c = search file-or-table
 
 pub parsed-spec : {M : Type 1} → statement M
 parsed-spec =
@@ -118,5 +130,9 @@ parsed-spec =
     named-requires-6
     ends-with-requires-2
     returns-7
+    slice-aggregate-named-7
+    named-requires-7
+    ends-with-requires-3
+    returns-8
     file-or-table-requires
-    returns-8)
+    returns-9)

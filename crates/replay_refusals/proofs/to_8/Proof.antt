@@ -1,10 +1,11 @@
 -- `to_8`: each arm is the sentence of its number. Assumes nothing.
 use native.Mathlib.Omega.{arith}
 use borrow.Author.Needs.{needs}
-use Rattle.replay_words.specs.Refused.{sentenceTo8}
-use Rattle.replay_words.proofs.Words.{by-key, no-sentence-to-8}
-use Rattle.replay_words.proofs.refused.to_8.Statement.{statement}
-use Rattle.replay_words.proofs.refused.to_8.Tie as tie
+use Rattle.replay_refusals.specs.Refused.{sentenceTo8}
+use Rattle.text.proofs.Pieces.{by-key}
+use Rattle.replay_refusals.proofs.Refused.{no-sentence-to-8}
+use Rattle.replay_refusals.proofs.to_8.Statement.{statement}
+use Rattle.replay_refusals.proofs.to_8.Tie as tie
 
 slice-aggregate-piece : tie.Need-slice-aggregate-piece
 slice-aggregate-piece c = search needs

@@ -1,8 +1,8 @@
-// A refusal in words.
+// A refusal in words: what `replay` says of its number.
 ghost use Prim.Native.Nat.{_+_, _≤_};
 ghost use lib.ListN.{length};
 ghost use Rattle.putting.specs.Put.{Put};
-ghost use Rattle.replay_words.specs.Refused.{sentenceTo8, sentenceFrom9, sentence as sentence·text, refusedText};
+ghost use Rattle.replay_refusals.specs.Refused.{sentenceTo8, sentenceFrom9, sentence as sentence·text, refusedText};
 use answers::refusal::Refusal;
 use putting::piece;
 

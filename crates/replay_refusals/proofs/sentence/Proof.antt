@@ -1,9 +1,9 @@
 -- `sentence`: of the one half or the other. Assumes nothing.
 use native.Mathlib.Omega.{arith}
 use borrow.Author.Needs.{needs}
-use Rattle.replay_words.proofs.Words.{sentence-low, sentence-high}
-use Rattle.replay_words.proofs.refused.sentence.Statement.{statement}
-use Rattle.replay_words.proofs.refused.sentence.Tie as tie
+use Rattle.replay_refusals.proofs.Refused.{sentence-low, sentence-high}
+use Rattle.replay_refusals.proofs.sentence.Statement.{statement}
+use Rattle.replay_refusals.proofs.sentence.Tie as tie
 
 to-8-requires : tie.Need-to-8-requires
 to-8-requires c κs = search needs

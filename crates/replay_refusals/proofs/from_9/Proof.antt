@@ -1,10 +1,11 @@
 -- `from_9`: each arm is the sentence of its number. Assumes nothing.
 use native.Mathlib.Omega.{arith}
 use borrow.Author.Needs.{needs}
-use Rattle.replay_words.specs.Refused.{sentenceFrom9}
-use Rattle.replay_words.proofs.Words.{by-key, no-sentence-from-9}
-use Rattle.replay_words.proofs.refused.from_9.Statement.{statement}
-use Rattle.replay_words.proofs.refused.from_9.Tie as tie
+use Rattle.replay_refusals.specs.Refused.{sentenceFrom9}
+use Rattle.text.proofs.Pieces.{by-key}
+use Rattle.replay_refusals.proofs.Refused.{no-sentence-from-9}
+use Rattle.replay_refusals.proofs.from_9.Statement.{statement}
+use Rattle.replay_refusals.proofs.from_9.Tie as tie
 
 slice-aggregate-piece : tie.Need-slice-aggregate-piece
 slice-aggregate-piece c = search needs

@@ -1,9 +1,9 @@
 -- `put`: four pieces. Assumes nothing.
 use native.Mathlib.Omega.{arith}
 use borrow.Author.Needs.{needs}
-use Rattle.replay_words.proofs.Words.{refused-put}
-use Rattle.replay_words.proofs.refused.put.Statement.{statement}
-use Rattle.replay_words.proofs.refused.put.Tie as tie
+use Rattle.replay_refusals.proofs.Refused.{refused-put}
+use Rattle.replay_refusals.proofs.put.Statement.{statement}
+use Rattle.replay_refusals.proofs.put.Tie as tie
 
 slice-aggregate-labelled : tie.Need-slice-aggregate-labelled
 slice-aggregate-labelled c = search needs

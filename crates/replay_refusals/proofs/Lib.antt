@@ -1,0 +1,2 @@
+-- The laws of a refusal in words.
+pub mod Refused

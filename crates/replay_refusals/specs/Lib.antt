@@ -1,0 +1,2 @@
+-- What the contracts of a refusal in words cite.
+pub mod Refused
