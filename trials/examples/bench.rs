@@ -1,7 +1,7 @@
 //! Times the proved engine beside the second one on the same calls, in one run: `cargo run --release --example bench`.
 //!
-//! A network grows to its size with joins in flight; then nodes are looked up in it, and it is judged, written and read back. The two
-//! engines play this in turn for many rounds; a call counts with its shortest time over the rounds. The share of `sound` in a call is
+//! A network grows to its size with joins in flight; then nodes are looked up in it, and it is judged, surveyed, written and read back. The
+//! two engines play this in turn for many rounds; a call counts with its shortest time over the rounds. The share of `sound` in a call is
 //! told by further rounds.
 
 use std::hint::black_box;
@@ -19,7 +19,7 @@ const ROUNDS: usize = 150;
 const IN_FLIGHT: usize = 4;
 
 /// Calls that judge the state first.
-const JUDGING: [&str; 5] = ["begin", "deliver", "lookup", "verdict", "write"];
+const JUDGING: [&str; 6] = ["begin", "deliver", "lookup", "verdict", "survey", "write"];
 
 /// A founding, then beginnings and deliveries in any order until all nodes are in system.
 fn growth(settings: [u64; 3], nodes: usize, rng: &mut Rng) -> Vec<Call> {
@@ -56,6 +56,7 @@ fn use_of(nodes: usize, image: &[u8], rng: &mut Rng) -> Vec<Call> {
             looked,
             Call::Sound,
             Call::Verdict,
+            Call::Survey,
             Call::Write,
             Call::Read { image },
         ]

@@ -1,6 +1,7 @@
 //! The proved engine, linked from its archive by the C interface. A slice passes as a pointer and a length.
 
 use crate::engine::Engine;
+use crate::second::Counts;
 
 /// The functions of the archive, as `include/overlay.h` declares them.
 pub mod interface {
@@ -74,6 +75,15 @@ pub mod interface {
             tables: *const u8,
             tables_len: usize,
         ) -> u64;
+
+        /// To `counts` go nine words.
+        pub fn overlay_survey(
+            state: *const u64,
+            state_len: usize,
+            tables: *const u8,
+            tables_len: usize,
+            counts: *mut u64,
+        ) -> u64;
     }
 }
 
@@ -134,5 +144,11 @@ impl Engine for Archive {
         unsafe {
             interface::overlay_write(state, words, tables, bytes, out.as_mut_ptr(), out.len())
         }
+    }
+
+    fn survey(&self, state: &mut [u64], tables: &mut [u8], counts: &mut Counts) -> u64 {
+        let (words, bytes) = (state.len(), tables.len());
+        let (state, tables) = (state.as_mut_ptr(), tables.as_mut_ptr());
+        unsafe { interface::overlay_survey(state, words, tables, bytes, counts.as_mut_ptr()) }
     }
 }

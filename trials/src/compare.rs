@@ -1,5 +1,5 @@
-//! One script on two engines: every answer, every byte of memory and output after every call, and what any
-//! engine must leave alone.
+//! One script on two engines: every answer, every byte of memory, output and counts after every call, what any
+//! engine must leave alone, and that a survey adds up.
 
 use std::fmt::{self, Display, Formatter};
 
@@ -7,6 +7,8 @@ use crate::engine::Engine;
 use crate::lent::Lent;
 use crate::script::{Call, Line, Script};
 use crate::second::memory::{STATE_WORDS, TABLE_BYTES};
+use crate::second::LOST;
+use crate::surveys::adds_up;
 
 /// Where the first difference was, and what it was.
 #[derive(Debug)]
@@ -51,10 +53,15 @@ impl<'a> Pair<'a> {
 
     /// Does what the line says with both engines; a call's packed answer, 0 for other lines.
     pub fn obey(&mut self, line: &Line) -> Result<u64, String> {
+        self.memories.iter_mut().for_each(Lent::spoil_counts);
         self.before.clone_from(&self.memories[0]);
         let [answer, other] = [0, 1].map(|at| self.memories[at].obey(self.engines[at], line));
         self.differ(answer, other)?;
-        left_alone(line, answer, &self.before, &self.memories[0])?;
+        let after = self.memory();
+        left_alone(line, answer, &self.before, after)?;
+        if *line == Line::Call(Call::Survey) && answer == 0 {
+            adds_up(after.used_state(), after.used_counts())?;
+        }
         Ok(answer)
     }
 
@@ -74,7 +81,8 @@ impl<'a> Pair<'a> {
         }
         same(names, "state word", &a.state, &b.state)?;
         same(names, "table byte", &a.tables, &b.tables)?;
-        same(names, "output byte", &a.out, &b.out)
+        same(names, "output byte", &a.out, &b.out)?;
+        same(names, "count", &a.counts, &b.counts)
     }
 }
 
@@ -87,6 +95,19 @@ pub fn compare(a: &dyn Engine, b: &dyn Engine, script: &Script) -> Result<(), Di
     Ok(())
 }
 
+/// How much of state, tables, output and counts a call may write.
+fn may_write(call: &Call, answer: u64) -> (usize, usize, usize, usize) {
+    match call {
+        _ if answer & 0xff != 0 => (0, 0, 0, 0),
+        Call::Found { .. } | Call::Read { .. } | Call::Begin { .. } | Call::Deliver { .. } => {
+            (STATE_WORDS, TABLE_BYTES, 0, 0)
+        }
+        Call::Lookup { .. } | Call::Verdict | Call::Sound => (0, 0, 0, 0),
+        Call::Write => (0, 0, (answer >> 8) as usize, 0),
+        Call::Survey => (0, 0, 0, LOST + 1),
+    }
+}
+
 /// What a call may not touch: guards always, everything on a refusal, the state in a call that only looks.
 fn left_alone(line: &Line, answer: u64, before: &Lent, after: &Lent) -> Result<(), String> {
     let Line::Call(call) = line else {
@@ -96,17 +117,7 @@ fn left_alone(line: &Line, answer: u64, before: &Lent, after: &Lent) -> Result<(
     if refused && answer > 0xff {
         return Err(format!("a refusal with other fields: {answer:#x}"));
     }
-    let changes = matches!(
-        call,
-        Call::Found { .. } | Call::Read { .. } | Call::Begin { .. } | Call::Deliver { .. }
-    );
-    let (words, bytes) = if changes && !refused {
-        (STATE_WORDS, TABLE_BYTES)
-    } else {
-        (0, 0)
-    };
-    let written = if *call == Call::Write { answer >> 8 } else { 0 };
-    let out = written as usize;
+    let (words, bytes, out, counts) = may_write(call, answer);
     let names = || "before and after".to_string();
     same(
         names,
@@ -120,7 +131,13 @@ fn left_alone(line: &Line, answer: u64, before: &Lent, after: &Lent) -> Result<(
         &before.tables[bytes..],
         &after.tables[bytes..],
     )?;
-    same(names, "output byte", &before.out[out..], &after.out[out..])
+    same(names, "output byte", &before.out[out..], &after.out[out..])?;
+    same(
+        names,
+        "count",
+        &before.counts[counts..],
+        &after.counts[counts..],
+    )
 }
 
 fn same<T: PartialEq + Display>(

@@ -1,8 +1,8 @@
 //! An engine as a caller of the C interface sees it: memory first, answers packed into one word.
 
-use crate::second::{self, Answer};
+use crate::second::{self, Answer, Counts};
 
-/// The eight calls. Memory is lent for writing even where a call must not write, so that a trial sees it if one does.
+/// The nine calls. Memory is lent for writing even where a call must not write, so that a trial sees it if one does.
 pub trait Engine {
     fn name(&self) -> &str;
 
@@ -21,6 +21,8 @@ pub trait Engine {
     fn verdict(&self, state: &mut [u64], tables: &mut [u8]) -> u64;
 
     fn write(&self, state: &mut [u64], tables: &mut [u8], out: &mut [u8]) -> u64;
+
+    fn survey(&self, state: &mut [u64], tables: &mut [u8], counts: &mut Counts) -> u64;
 }
 
 /// The second engine.
@@ -70,5 +72,13 @@ impl Engine for Second {
 
     fn write(&self, state: &mut [u64], tables: &mut [u8], out: &mut [u8]) -> u64 {
         second::write(state, tables, out).pack()
+    }
+
+    fn survey(&self, state: &mut [u64], tables: &mut [u8], counts: &mut Counts) -> u64 {
+        let answer = second::survey(state, tables);
+        if answer.refusal == 0 {
+            *counts = answer.counts;
+        }
+        answer.pack()
     }
 }

@@ -6,6 +6,7 @@ use std::{ptr, slice};
 
 use crate::archive::interface;
 use crate::engine::Engine;
+use crate::second::Counts;
 
 mod system {
     use std::ffi::{c_int, c_void};
@@ -206,6 +207,15 @@ impl Engine for FencedArchive {
             interface::overlay_write(words, n, bytes, m, fenced.pointer(), length)
         });
         fenced.put_back(out);
+        answer
+    }
+
+    fn survey(&self, state: &mut [u64], tables: &mut [u8], counts: &mut Counts) -> u64 {
+        let fenced = Fenced::new(self.0, counts);
+        let answer = self.looking(state, tables, &|words, n, bytes, m| unsafe {
+            interface::overlay_survey(words, n, bytes, m, fenced.pointer())
+        });
+        fenced.put_back(counts);
         answer
     }
 }

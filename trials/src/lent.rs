@@ -4,7 +4,7 @@ use crate::engine::Engine;
 use crate::random::Rng;
 use crate::script::{Call, Lend, Line};
 use crate::second::memory::{State, Tables, STATE_WORDS, TABLE_BYTES};
-use crate::second::LONGEST_IMAGE;
+use crate::second::{Counts, LONGEST_IMAGE};
 
 /// Everything there is; the parts past what is lent, and past what a call may use, are guards.
 pub const ALL: Lend = Lend {
@@ -18,6 +18,8 @@ pub struct Lent {
     pub state: Vec<u64>,
     pub tables: Vec<u8>,
     pub out: Vec<u8>,
+    /// Counts, of which nine are always lent, and guards after them.
+    pub counts: [u64; 16],
     pub lend: Lend,
 }
 
@@ -25,12 +27,21 @@ impl Lent {
     /// The same noise each time, so that a script alone repeats a case.
     pub fn noise() -> Lent {
         let mut rng = Rng::new(1);
-        Lent {
+        let mut lent = Lent {
             state: (0..ALL.state).map(|_| rng.word()).collect(),
             tables: (0..ALL.tables).map(|_| rng.word() as u8).collect(),
             out: (0..ALL.out).map(|_| rng.word() as u8).collect(),
+            counts: [0; 16],
             lend: ALL,
-        }
+        };
+        lent.spoil_counts();
+        lent
+    }
+
+    /// Puts noise where counts go: those of an earlier survey would hide that one is not written.
+    pub fn spoil_counts(&mut self) {
+        let mut rng = Rng::new(2);
+        self.counts.fill_with(|| rng.word());
     }
 
     /// Does what the line says; a call's packed answer, 0 for other lines.
@@ -56,6 +67,10 @@ impl Lent {
             Call::Verdict => engine.verdict(state, tables),
             Call::Write => engine.write(state, tables, &mut self.out[..self.lend.out]),
             Call::Sound => engine.sound(state, tables),
+            Call::Survey => {
+                let counts = self.counts.first_chunk_mut().expect("there is enough");
+                engine.survey(state, tables, counts)
+            }
         }
     }
 
@@ -67,6 +82,11 @@ impl Lent {
     pub fn used_tables(&self) -> &Tables {
         self.tables.first_chunk().expect("there is enough")
     }
+
+    /// What a survey counted, if one was taken last.
+    pub fn used_counts(&self) -> &Counts {
+        self.counts.first_chunk().expect("there is enough")
+    }
 }
 
 /// Copies into the memory that is there already.
@@ -76,6 +96,7 @@ impl Clone for Lent {
             state: self.state.clone(),
             tables: self.tables.clone(),
             out: self.out.clone(),
+            counts: self.counts,
             lend: self.lend,
         }
     }
@@ -84,6 +105,7 @@ impl Clone for Lent {
         self.state.clone_from(&other.state);
         self.tables.clone_from(&other.tables);
         self.out.clone_from(&other.out);
+        self.counts = other.counts;
         self.lend = other.lend;
     }
 }

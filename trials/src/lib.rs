@@ -1,18 +1,21 @@
 //! Trials of overlay engines: a second engine, and what holds two engines against each other.
 //!
-//! - `second`: the second engine, written from document 01 alone.
+//! - `second`: the second engine, written from documents 01 and 02 alone.
 //! - `archive`: the proved engine.
 //! - `fenced`: the proved engine on memory beside a page without access.
 //! - `engine`: what every engine looks like from outside.
 //! - `script`: calls as lines of text, for failure reports and for running a case again.
 //! - `lent`: the memory that a caller lends, with guard space around what is lent.
 //! - `compare`: runs one script on two engines and finds the first difference.
+//! - `surveys`: what holds of every survey.
 //! - `paper`: the images of document 01.
+//! - `by_hand`: other images, some with the counts of their survey.
 //! - `random`: seeded settings, ids, runs, states and images, good and bad.
 //!
 //! `TRIALS_COUNT=50 TRIALS_SEED=1000000 cargo test --release` plays 50 times as many cases, with other seeds.
 
 pub mod archive;
+pub mod by_hand;
 pub mod compare;
 pub mod engine;
 pub mod fenced;
@@ -21,3 +24,4 @@ pub mod paper;
 pub mod random;
 pub mod script;
 pub mod second;
+pub mod surveys;

@@ -14,7 +14,7 @@ pub use images::{
 };
 pub use runs::{run, run_from_built, run_in};
 pub use seeds::seeds;
-pub use states::{built_state, reached_state, set_up_built};
+pub use states::{built_state, reached_state, set_up_built, some_state};
 
 /// Splitmix64.
 #[derive(Clone, Debug)]

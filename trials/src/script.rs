@@ -9,6 +9,7 @@
 //! verdict
 //! write
 //! sound                    what sentences 1 and 2 say of the memory
+//! survey
 //! lend 520 32768 23816     words of state, bytes of tables and of output lent from here on
 //! word 12 5                state word 12 becomes 5 (hexadecimal), by the caller's hand
 //! byte 300 7               table byte 300 becomes 7 (hexadecimal), by the caller's hand
@@ -28,6 +29,7 @@ pub enum Call {
     Verdict,
     Write,
     Sound,
+    Survey,
 }
 
 #[derive(Clone, Debug, PartialEq, Eq)]
@@ -74,6 +76,7 @@ impl Display for Call {
             Call::Verdict => out.write_str("verdict"),
             Call::Write => out.write_str("write"),
             Call::Sound => out.write_str("sound"),
+            Call::Survey => out.write_str("survey"),
         }
     }
 }
@@ -144,6 +147,7 @@ fn parse_line(words: &[&str]) -> Result<Option<Line>, ParseIntError> {
         ["verdict"] => Call::Verdict,
         ["write"] => Call::Write,
         ["sound"] => Call::Sound,
+        ["survey"] => Call::Survey,
         _ => return parse_memory_line(words),
     };
     Ok(Some(Line::Call(call)))

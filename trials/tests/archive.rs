@@ -18,5 +18,7 @@ mod orders;
 mod runs;
 #[path = "archive/support.rs"]
 mod support;
+#[path = "archive/survey.rs"]
+mod survey;
 #[path = "archive/writing.rs"]
 mod writing;

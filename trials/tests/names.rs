@@ -3,7 +3,7 @@
 use std::fs;
 
 use trials::second::memory::{MOST_NODES, STATE_WORDS, TABLE_BYTES};
-use trials::second::{Refusal, LONGEST_IMAGE, LONGEST_READ};
+use trials::second::{Refusal, LONGEST_IMAGE, LONGEST_READ, LOST};
 
 /// `ShortMemory` as `SHORT_MEMORY`.
 fn upper(name: &str) -> String {
@@ -58,6 +58,7 @@ fn the_header_has_the_lengths_of_the_second_engine() {
         ("TABLE_BYTES", TABLE_BYTES),
         ("MOST_NODES", MOST_NODES),
         ("MOST_IMAGE_BYTES", LONGEST_READ),
+        ("SURVEY_COUNTS", LOST + 1),
         ("MOST_WRITTEN_BYTES", LONGEST_IMAGE),
     ];
     let lengths = lengths.map(|(name, length)| (name.to_string(), length as u64));

@@ -6,6 +6,8 @@ mod edges;
 mod language;
 #[path = "replay_program/mangled.rs"]
 mod mangled;
+#[path = "programs/pipes.rs"]
+mod pipes;
 #[path = "replay_program/player.rs"]
 mod player;
 #[path = "replay_program/scripts.rs"]

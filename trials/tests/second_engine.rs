@@ -20,5 +20,7 @@ mod scripts;
 mod soundness;
 #[path = "second_engine/support.rs"]
 mod support;
+#[path = "second_engine/survey.rs"]
+mod survey;
 #[path = "second_engine/wrong_turns.rs"]
 mod wrong_turns;

@@ -102,6 +102,7 @@ impl<'a> Maker<'a> {
             3 | 4 => self.look(Call::Verdict),
             5..=8 => self.lookup(),
             9 => self.look(Call::Sound),
+            10 => self.look(Call::Survey),
             _ => self.deliver(),
         }
     }

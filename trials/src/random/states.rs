@@ -28,7 +28,19 @@ pub fn built_state(rng: &mut Rng) -> (Box<State>, Box<Tables>) {
     (state, tables)
 }
 
-/// Lines that make such a state: a founding, then every word and byte by hand that it leaves otherwise.
+/// A state of either kind.
+pub fn some_state(rng: &mut Rng) -> Lent {
+    if rng.once_in(2) {
+        return reached_state(rng);
+    }
+    let (state, tables) = built_state(rng);
+    let mut memory = Lent::noise();
+    memory.state[..STATE_WORDS].copy_from_slice(&state[..]);
+    memory.tables[..TABLE_BYTES].copy_from_slice(&tables[..]);
+    memory
+}
+
+/// Lines that make a built state: a founding, then every word and byte by hand that it leaves otherwise.
 pub fn set_up_built(rng: &mut Rng) -> Vec<Line> {
     let (state, tables) = built_state(rng);
     let found = Call::Found {

@@ -64,6 +64,18 @@ pub struct VerdictAnswer {
     pub digit: u64,
 }
 
+/// How many ordered pairs of different nodes a survey counts: at h − 1 those whose lookup arrives in h hops, 1 to 8; last the lost ones.
+pub type Counts = [u64; LOST + 1];
+/// The place of the lost ones.
+pub const LOST: usize = 8;
+
+/// A survey; its counts do not go into the packed word.
+#[derive(Clone, Copy, Debug, Default, PartialEq, Eq)]
+pub struct SurveyAnswer {
+    pub refusal: u8,
+    pub counts: Counts,
+}
+
 /// Writing: the image's length.
 #[derive(Clone, Copy, Debug, Default, PartialEq, Eq)]
 pub struct WriteAnswer {
@@ -136,6 +148,19 @@ impl Answer for VerdictAnswer {
             self.refusal,
             &[consistent, self.node, self.level, self.digit],
         )
+    }
+}
+
+impl Answer for SurveyAnswer {
+    fn refused(refusal: Refusal) -> SurveyAnswer {
+        SurveyAnswer {
+            refusal: refusal as u8,
+            ..SurveyAnswer::default()
+        }
+    }
+
+    fn pack(&self) -> u64 {
+        packed(self.refusal, &[])
     }
 }
 

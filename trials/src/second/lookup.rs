@@ -18,17 +18,21 @@ fn try_lookup(state: &[u64], tables: &[u8], from: u64, to: u64) -> Result<Lookup
     let (state, tables) = lent_and_sound(state, tables)?;
     let network = Network::decode(state);
     let (from, to) = (network.number(from)?, network.number(to)?);
+    Ok(follow(&network, tables, from, to))
+}
 
+/// What a lookup between these nodes answers.
+pub fn follow(network: &Network, tables: &Tables, from: usize, to: usize) -> LookupAnswer {
     let (hops, last) = (0..)
-        .zip(very_hops(&network, tables, from, to))
+        .zip(very_hops(network, tables, from, to))
         .last()
         .expect("a lookup goes through its start");
-    Ok(LookupAnswer {
+    LookupAnswer {
         refusal: 0,
         arrived: last == to,
         hops,
         last: last as u64,
-    })
+    }
 }
 
 /// The nodes that a lookup goes through, its start first.

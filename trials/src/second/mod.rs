@@ -1,4 +1,4 @@
-//! The second engine: document 01 in plain Rust, written without sight of the first engine.
+//! The second engine: document 01, and the tickets of document 02 that have landed, in plain Rust, written without sight of the first engine.
 //!
 //! A call judges the lent memory where it lies, decodes what it needs into a `Network` and `Table`s, works on
 //! those, and encodes them back only when nothing was refused.
@@ -17,11 +17,13 @@ mod reading;
 mod refusal;
 mod settings;
 mod soundness;
+mod survey;
 pub mod table;
 mod writing;
 
 pub use answers::{
-    Answer, BeginAnswer, DeliverAnswer, FoundAnswer, LookupAnswer, VerdictAnswer, WriteAnswer,
+    Answer, BeginAnswer, Counts, DeliverAnswer, FoundAnswer, LookupAnswer, SurveyAnswer,
+    VerdictAnswer, WriteAnswer, LOST,
 };
 pub use beginning::begin;
 pub use consistency::verdict;
@@ -33,4 +35,5 @@ pub use reading::{read, LONGEST_READ};
 pub use refusal::Refusal;
 pub use settings::{digit, Settings};
 pub use soundness::{lent_and_sound, sound};
+pub use survey::survey;
 pub use writing::{write, LONGEST_IMAGE};

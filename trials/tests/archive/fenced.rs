@@ -58,7 +58,7 @@ fn runs_agree_on_exact_memory() {
 }
 
 /// One call of each kind.
-fn each_call() -> [Call; 8] {
+fn each_call() -> [Call; 9] {
     let image = E1.to_vec();
     let settings = [2, 2, 1];
     let (sender, receiver) = (2, 1);
@@ -71,6 +71,7 @@ fn each_call() -> [Call; 8] {
         Call::Verdict,
         Call::Write,
         Call::Sound,
+        Call::Survey,
     ]
 }
 
@@ -90,7 +91,7 @@ fn around(fixed: usize) -> [usize; 6] {
 
 #[test]
 fn each_call_agrees_at_every_length() {
-    let mut taken = [0; 8];
+    let mut taken = [0; 9];
     for network in networks() {
         for state in around(STATE_WORDS) {
             for tables in around(TABLE_BYTES) {

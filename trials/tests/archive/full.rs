@@ -4,7 +4,7 @@ use trials::lent::Lent;
 use trials::random::{id, seeds, Rng};
 use trials::script::Call;
 use trials::second::memory::{STATE_WORDS, TABLE_BYTES};
-use trials::second::Settings;
+use trials::second::{Settings, LOST};
 
 use crate::support::Both;
 
@@ -50,7 +50,9 @@ fn networks_grow_to_64_nodes_saved_and_read_on_the_way() {
         let in_flight = rng.pick(&[1, 4, 20]);
         for nodes in [rng.between(2, 20) as usize, 40, 64] {
             both.grow(&mut rng, nodes, in_flight);
-            both.call(Call::Verdict);
+            let consistent = both.call(Call::Verdict) == 0x100;
+            let lost = both.survey()[LOST];
+            assert!(!consistent || lost == 0, "seed {seed}: {lost} lost");
             save_and_read(&mut both);
             look_up_each(&mut both, &mut rng);
         }

@@ -3,7 +3,7 @@
 use trials::archive::Archive;
 use trials::engine::{Engine, Second};
 use trials::lent::Lent;
-use trials::random::{built_state, damage, reached_state, seeds, Rng};
+use trials::random::{damage, seeds, some_state, Rng};
 use trials::second::memory::{STATE_WORDS, TABLE_BYTES};
 
 use crate::support::lent_lengths;
@@ -13,18 +13,6 @@ fn judged(ours: &mut Lent, words: usize, bytes: usize, case: &str) -> u64 {
     let other = Second.sound(&mut ours.state[..words], &mut ours.tables[..bytes]);
     assert_eq!(answer, other, "{case}");
     answer
-}
-
-/// A state that a run reaches, or one built from the clauses alone.
-fn some_state(rng: &mut Rng) -> Lent {
-    if rng.once_in(2) {
-        return reached_state(rng);
-    }
-    let (state, tables) = built_state(rng);
-    let mut memory = Lent::noise();
-    memory.state[..STATE_WORDS].copy_from_slice(&state[..]);
-    memory.tables[..TABLE_BYTES].copy_from_slice(&tables[..]);
-    memory
 }
 
 #[test]

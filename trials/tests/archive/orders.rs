@@ -7,7 +7,7 @@ use trials::compare::{Difference, Pair};
 use trials::engine::Second;
 use trials::script::{Call, Line, Script};
 use trials::second::network::Network;
-use trials::second::{sound, Settings};
+use trials::second::{sound, Settings, LOST};
 
 const MOST: usize = 4;
 const CONSISTENT: u64 = 0x100;
@@ -85,6 +85,7 @@ impl Walk {
             let network = Network::decode(self.pair.memory().used_state());
             let [verdict, written] =
                 [Call::Verdict, Call::Write].map(|call| self.call(place, &point, &call));
+            self.call(place, &point, &Call::Survey);
             let judged = self.judge(&network, &point, [verdict, written & 0xff]);
             judged.unwrap_or_else(|what| panic!("{}", self.report(place, what)));
             self.begin_each(place, &point, &network);
@@ -105,7 +106,7 @@ impl Walk {
         self.steps.len()
     }
 
-    /// What holds at every point: `ends` is the verdict's answer and the refusal of writing.
+    /// What holds at every point, of which a survey was taken last: `ends` is the verdict's answer and the refusal of writing.
     fn judge(&self, network: &Network, point: &Point, ends: [u64; 2]) -> Result<(), String> {
         let (state, tables) = (
             self.pair.memory().used_state(),
@@ -128,6 +129,10 @@ impl Walk {
         };
         if ends != expected {
             return Err(format!("verdict {:#x}, writing {}", ends[0], ends[1]));
+        }
+        let lost = self.pair.memory().used_counts()[LOST];
+        if network.all_in_system() && lost != 0 {
+            return Err(format!("{lost} pairs are lost"));
         }
         Ok(())
     }

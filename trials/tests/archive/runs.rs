@@ -45,7 +45,7 @@ fn runs_from_any_sound_state_agree() {
 }
 
 /// A call of each kind that judges the state: arguments mostly good, now and then a bad number.
-fn calls(rng: &mut Rng, network: &Network) -> [Call; 6] {
+fn calls(rng: &mut Rng, network: &Network) -> [Call; 7] {
     let count = network.count();
     let node = |rng: &mut Rng| match rng.below(8) {
         0 => bad_number(rng, count),
@@ -61,6 +61,7 @@ fn calls(rng: &mut Rng, network: &Network) -> [Call; 6] {
     };
     [
         Call::Sound,
+        Call::Survey,
         Call::Verdict,
         Call::Write,
         Call::Lookup {

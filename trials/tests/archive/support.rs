@@ -8,6 +8,7 @@ use trials::random::{fresh_id, Rng};
 use trials::script::{Call, Lend, Line, Script};
 use trials::second::memory::{STATE_WORDS, TABLE_BYTES};
 use trials::second::network::Network;
+use trials::second::Counts;
 
 /// How much of each memory is lent: mostly enough, now and then one place short or more than is needed.
 pub fn lent_lengths(rng: &mut Rng) -> (usize, usize) {
@@ -126,6 +127,12 @@ impl Both {
 
     pub fn network(&self) -> Network {
         Network::decode(self.pair.memory().used_state())
+    }
+
+    /// The counts of a survey, which is taken.
+    pub fn survey(&mut self) -> Counts {
+        assert_eq!(self.call(Call::Survey), 0);
+        *self.memory().used_counts()
     }
 
     /// The image of the network, which the call of writing gives.

@@ -2,14 +2,22 @@
 
 use std::fs;
 
+use trials::by_hand::surveyed;
+
 use crate::language::{lines, Command, Line};
+use crate::pipes::root;
 use crate::player::{expected, LONGEST_SCRIPT};
-use crate::support::{replay, root, Folder};
+use crate::support::{replay, File, Folder};
 
 /// What the program prints, which must also be what is expected of it by the second engine.
 fn printed(script: &[u8]) -> String {
-    let printed = replay(script, &Folder::new());
-    assert_eq!(printed, expected(script, &Folder::new()));
+    printed_beside(&[], script)
+}
+
+/// The same in a folder with these files.
+fn printed_beside(files: &[File], script: &[u8]) -> String {
+    let printed = replay(script, &Folder::holding(files));
+    assert_eq!(printed, expected(script, &Folder::holding(files)));
     printed
 }
 
@@ -122,6 +130,101 @@ refused 9: a node number is 0 or above the number of nodes
 }
 
 #[test]
+fn surveys_before_founding_and_while_a_node_joins() {
+    let script = b"survey\nfound 2 2 1 0\nsurvey\nbegin 1 1\nsurvey\ndeliver 2 1\nsurvey\nsurvey 1\ndeliver 2 1\nsurvey";
+    let expected = "\
+refused 2: the state is not sound
+found: node 1
+survey: 0 pairs
+  hops 1    0
+  hops 2    0
+  lost      0
+begin: node 2
+survey: 2 pairs
+  hops 1    0
+  hops 2    0
+  lost      2 ##################################################
+deliver: copied
+survey: 2 pairs
+  hops 1    1 #########################
+  hops 2    0
+  lost      1 #########################
+line 8: not understood
+deliver: attached at level 0, settled
+survey: 2 pairs
+  hops 1    2 ##################################################
+  hops 2    0
+  lost      0
+";
+    assert_eq!(printed(script), expected);
+}
+
+/// docs/REPLAY.md, "A survey": its first block is a script, and its second what is printed.
+#[test]
+fn the_survey_of_the_page_is_printed() {
+    let page = fs::read_to_string(root().join("docs/REPLAY.md")).expect("the page");
+    let (_, section) = page.split_once("## A survey\n").expect("the section");
+    let blocks: Vec<String> = section
+        .split("\n\n")
+        .filter(|part| part.starts_with("    "))
+        .map(|part| part.replace("\n    ", "\n")[4..].to_string() + "\n")
+        .collect();
+    let image = fs::read(root().join("samples/network64.image")).expect("the sample");
+    let script = blocks[0].replace("samples/", "");
+    let printed = printed_beside(&[("network64.image".into(), image)], script.as_bytes());
+    assert_eq!(printed, blocks[1]);
+}
+
+/// The chain, its gap and base 4 of the surveys worked out by hand: shares that are rounded up, and counts of one to four columns.
+#[test]
+fn bars_have_a_mark_for_each_started_fiftieth() {
+    let of = |name: &str| {
+        let case = surveyed().into_iter().find(|case| case.name == name);
+        let file = ("image".into(), case.expect("there is one").image);
+        let printed = printed_beside(&[file], b"load image\nsurvey");
+        let (_, lines) = printed.split_once('\n').expect("two answers");
+        lines.to_string()
+    };
+    assert_eq!(of("chain"), CHAIN);
+    assert_eq!(of("gap"), GAP);
+    assert_eq!(of("64 of base 4"), BASE_4);
+}
+
+const CHAIN: &str = "\
+survey: 72 pairs
+  hops 1    8 ######
+  hops 2    7 #####
+  hops 3    6 #####
+  hops 4    5 ####
+  hops 5    4 ###
+  hops 6    3 ###
+  hops 7    2 ##
+  hops 8    1 #
+  lost     36 #########################
+";
+
+const GAP: &str = "\
+survey: 72 pairs
+  hops 1    7 #####
+  hops 2    5 ####
+  hops 3    3 ###
+  hops 4    1 #
+  hops 5    0
+  hops 6    0
+  hops 7    0
+  hops 8    0
+  lost     56 #######################################
+";
+
+const BASE_4: &str = "\
+survey: 4032 pairs
+  hops 1  576 ########
+  hops 2 1728 ######################
+  hops 3 1728 ######################
+  lost      0
+";
+
+#[test]
 fn files_that_cannot_be_opened_are_named_and_folders_have_no_bytes() {
     let script = b"load .\nload nothing\nfound 2 2 1 0\nsave .\nsave nothing/x\nload nothing/x\nsave a\0b\nload a\0b\nsave a\nload a\nsave";
     let expected = "\
@@ -148,10 +251,8 @@ line 11: not understood
 fn images_are_kept_as_they_come_and_overlong_ones_meet_6_if_nothing_earlier() {
     let whole = fs::read(root().join("samples/network64.image")).expect("network64");
     let load = |image: &[u8]| {
-        let folder = Folder::holding(&[("image".into(), image.to_vec())]);
-        let printed = replay(b"load image", &folder);
-        assert_eq!(printed, expected(b"load image", &folder));
-        printed
+        let file = ("image".into(), image.to_vec());
+        printed_beside(&[file], b"load image")
     };
     assert_eq!(load(&whole), format!("load: {} bytes\n", whole.len()));
     for length in [whole.len() + 1, 65_535, 65_536, 65_537, 70_000, 1_000_000] {
@@ -193,6 +294,7 @@ fn name(line: &Line) -> &'static str {
             Command::Deliver { .. } => "deliver",
             Command::Lookup { .. } => "lookup",
             Command::Verdict => "verdict",
+            Command::Survey => "survey",
             Command::Sound => "sound",
             Command::Save { .. } => "save",
             Command::Load { .. } => "load",
@@ -219,6 +321,7 @@ fn the_script_of_the_docs_has_every_command_and_prints_what_stands_beside_it() {
         "not understood",
         "save",
         "sound",
+        "survey",
         "table",
         "verdict",
     ];

@@ -7,12 +7,13 @@ use std::os::unix::ffi::OsStrExt;
 use std::path::PathBuf;
 
 use trials::engine::{Engine, Second};
-use trials::second::memory::{COUNT, STATE_WORDS, TABLE_BYTES};
+use trials::second::memory::{COUNT, DIGITS, STATE_WORDS, TABLE_BYTES};
 use trials::second::network::Network;
+use trials::second::Counts;
 
 use crate::language::{lines, Command, Line};
 use crate::support::Folder;
-use crate::words::{delivered, field, judged, looked_up, refused, said, tabled};
+use crate::words::{delivered, field, judged, looked_up, refused, said, surveyed, tabled};
 
 /// The longest script that is played.
 pub const LONGEST_SCRIPT: usize = 1_048_575;
@@ -91,6 +92,11 @@ impl<'a> Player<'a> {
                 said(Second.lookup(state, tables, *from, *to), looked_up)
             }
             Command::Verdict => said(Second.verdict(state, tables), judged),
+            Command::Survey => {
+                let mut counts = Counts::default();
+                let answer = Second.survey(state, tables, &mut counts);
+                said(answer, |_| surveyed(state[DIGITS] as usize, &counts))
+            }
             Command::Sound => {
                 let answer = Second.sound(state, tables);
                 said(answer, |_| "sound: the state is sound".into())

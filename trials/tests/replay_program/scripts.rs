@@ -1,4 +1,4 @@
-//! Random scripts of commands in any layout, with tables and judgements of soundness among the calls.
+//! Random scripts of commands in any layout, with tables, surveys and judgements of soundness among the calls.
 
 use std::collections::BTreeMap;
 
@@ -21,7 +21,7 @@ struct Maker<'a> {
 pub struct Made {
     pub text: Vec<u8>,
     commands: Vec<Command>,
-    /// What each `table` and each `sound` was answered, its first line.
+    /// What each `table`, each `sound` and each `survey` was answered, its first line.
     looks: Vec<(&'static str, String)>,
     /// What the script reads and has not written itself.
     pub files: Vec<File>,
@@ -76,8 +76,9 @@ impl<'a> Maker<'a> {
         }
     }
 
-    /// With the table of every node at the end.
+    /// With a survey and the table of every node at the end.
     fn end(mut self) -> Made {
+        self.command(Command::Survey);
         for node in 0..=self.player.count() as u64 + 1 {
             self.command(Command::Table { node });
         }
@@ -93,6 +94,7 @@ impl Maker<'_> {
         match command {
             Command::Table { .. } => self.made.looks.push(("table", first)),
             Command::Sound => self.made.looks.push(("sound", first)),
+            Command::Survey => self.made.looks.push(("survey", first)),
             _ => {}
         }
         write_line(self.rng, &command, &mut self.made.text);
@@ -109,6 +111,7 @@ impl Maker<'_> {
                 Command::Table { node: one },
                 Command::Sound,
                 Command::Verdict,
+                Command::Survey,
                 Command::Lookup { from, to },
                 Command::Deliver { sender, receiver },
                 Command::Begin { id: 0, gateway: 1 },
@@ -151,6 +154,7 @@ impl Maker<'_> {
             Call::Deliver { sender, receiver } => Command::Deliver { sender, receiver },
             Call::Lookup { from, to } => Command::Lookup { from, to },
             Call::Verdict => Command::Verdict,
+            Call::Survey => Command::Survey,
             Call::Sound => Command::Sound,
             Call::Write => Command::Save {
                 file: self.saved_name(),
@@ -179,7 +183,7 @@ impl Maker<'_> {
         name
     }
 
-    /// At times a table, at times a judgement of soundness.
+    /// At times a table, at times a judgement of soundness or a survey.
     fn look(&mut self) {
         if self.rng.once_in(3) {
             let node = self.number();
@@ -187,6 +191,9 @@ impl Maker<'_> {
         }
         if self.rng.once_in(10) {
             self.command(Command::Sound);
+        }
+        if self.rng.once_in(10) {
+            self.command(Command::Survey);
         }
     }
 
@@ -239,6 +246,7 @@ fn command_words(rng: &mut Rng, command: &Command) -> Vec<Vec<u8>> {
         }
         Command::Lookup { from, to } => vec!["lookup".into(), number(*from), number(*to)],
         Command::Verdict => vec!["verdict".into()],
+        Command::Survey => vec!["survey".into()],
         Command::Sound => vec!["sound".into()],
         Command::Save { file } => return vec![b"save".to_vec(), file.clone()],
         Command::Load { file } => return vec![b"load".to_vec(), file.clone()],
@@ -291,6 +299,8 @@ fn random_scripts_print_what_the_second_engine_answers() {
         "table notifying",
         "sound refused 2",
         "sound sound",
+        "survey refused 2",
+        "survey pairs",
     ];
     assert!(wanted.iter().all(|&kind| looks.contains_key(kind)));
 }

@@ -2,11 +2,11 @@
 
 use std::collections::BTreeMap;
 use std::ffi::OsString;
-use std::io::Write;
 use std::path::{Path, PathBuf};
-use std::process::{self, Command, Stdio};
 use std::sync::atomic::{AtomicUsize, Ordering};
-use std::{env, fs, thread};
+use std::{env, fs, process};
+
+use crate::pipes::printed;
 
 /// A file that lies in the folder before a script is played: its name and its bytes.
 pub type File = (String, Vec<u8>);
@@ -56,29 +56,7 @@ impl Drop for Folder {
     }
 }
 
-pub fn root() -> PathBuf {
-    Path::new(env!("CARGO_MANIFEST_DIR")).join("..")
-}
-
 /// What the program prints for this script.
 pub fn replay(script: &[u8], folder: &Folder) -> String {
-    let program = root().join("target/bin/replay");
-    let mut child = Command::new(&program)
-        .current_dir(folder.path())
-        .stdin(Stdio::piped())
-        .stdout(Stdio::piped())
-        .stderr(Stdio::piped())
-        .spawn()
-        .unwrap_or_else(|error| {
-            panic!("{}: {error}; `rt check replay` makes it", program.display())
-        });
-    let mut pipe = child.stdin.take().expect("it is piped");
-    let script = script.to_vec();
-    // The program stops reading at 1,048,576 bytes, and then the pipe is closed.
-    let writer = thread::spawn(move || drop(pipe.write_all(&script)));
-    let output = child.wait_with_output().expect("it ends");
-    writer.join().expect("the writer ends");
-    assert!(output.status.success(), "{}", output.status);
-    assert!(output.stderr.is_empty(), "{:?}", output.stderr);
-    String::from_utf8(output.stdout).expect("it prints text")
+    printed("replay", folder.path(), script, script.len().max(1))
 }

@@ -3,7 +3,7 @@
 use trials::second::memory;
 use trials::second::network::{Network, Status};
 use trials::second::table::Table;
-use trials::second::{lent_and_sound, Refusal};
+use trials::second::{lent_and_sound, Counts, Refusal, LOST};
 
 const SENTENCES: [&str; 17] = [
     "",
@@ -73,6 +73,22 @@ pub fn judged(answer: u64) -> String {
     }
     let (node, level, digit) = (field(answer, 2), field(answer, 3), field(answer, 4));
     format!("verdict: node {node} level {level} digit {digit:x} falls short")
+}
+
+/// The pairs, then each count with a bar for its share of them: a mark for each 2 % begun.
+pub fn surveyed(digits: usize, counts: &Counts) -> String {
+    let pairs: u64 = counts.iter().sum();
+    let hops = (1..).zip(&counts[..digits]);
+    let hops = hops.map(|(hops, count)| (format!("hops {hops}"), count));
+    let mut words = format!("survey: {pairs} pairs");
+    for (name, &count) in hops.chain([("lost".to_string(), &counts[LOST])]) {
+        words += &format!("\n  {name:<6} {count:>4}");
+        if count > 0 {
+            let marks = (50 * count).div_ceil(pairs);
+            words += &format!(" {}", "#".repeat(marks as usize));
+        }
+    }
+    words
 }
 
 /// A node's id and status, then a line for each entry that is not empty.

@@ -3,14 +3,27 @@
 use trials::compare::compare;
 use trials::engine::{Engine, Second};
 use trials::script::Script;
+use trials::second::{Counts, LOST};
 
-/// The second engine, but spoiled in what a reading, a beginning, a lookup, a verdict or a writing does.
+/// The second engine, but spoiled in what a reading, a beginning, a lookup, a verdict, a writing or a survey does.
 struct Spoiled {
     read: fn(&mut [u64], &mut [u8], u64) -> u64,
     begin: fn(&mut [u64], &mut [u8], u64) -> u64,
     lookup: fn(&mut [u64], &mut [u8]),
     verdict: fn(u64) -> u64,
     write: fn(&mut [u8]),
+    survey: SpoilSurvey,
+}
+
+type SpoilSurvey = fn(&mut AfterSurvey);
+
+/// Its memory, its counts before and after it, and its answer.
+struct AfterSurvey<'a> {
+    state: &'a mut [u64],
+    tables: &'a mut [u8],
+    before: Counts,
+    counts: &'a mut Counts,
+    answer: u64,
 }
 
 const UNSPOILED: Spoiled = Spoiled {
@@ -19,6 +32,7 @@ const UNSPOILED: Spoiled = Spoiled {
     lookup: |_, _| {},
     verdict: |answer| answer,
     write: |_| {},
+    survey: |_| {},
 };
 
 impl Engine for Spoiled {
@@ -62,10 +76,25 @@ impl Engine for Spoiled {
         (self.write)(out);
         answer
     }
+
+    fn survey(&self, state: &mut [u64], tables: &mut [u8], counts: &mut Counts) -> u64 {
+        let before = *counts;
+        let answer = Second.survey(state, tables, counts);
+        let mut after = AfterSurvey {
+            state,
+            tables,
+            before,
+            counts,
+            answer,
+        };
+        (self.survey)(&mut after);
+        after.answer
+    }
 }
 
 const SCRIPT: &str = "found 2 2 1 0\nwrite\nlookup 1 1\nbegin 1 1\nbegin 1 1\nverdict\nsound\n\
-                      read 04\nread 0401020201010000000002000100000101010001\nverdict\n";
+                      read 04\nread 0401020201010000000002000100000101010001\nverdict\n\
+                      begin 1 1\nsurvey\nlend 519 32768 0\nsurvey\n";
 
 /// The line of the first difference between two engines.
 fn first_difference(a: &dyn Engine, b: &dyn Engine) -> Option<usize> {
@@ -184,4 +213,47 @@ fn a_report_has_the_seed_and_the_script() {
         "seed 77\nfound 2 2 1 0\nwrite\nlookup 1 1\nbegin 1 1\n\
          line 4: spoiled and second answer 0x3 and 0x200"
     );
+}
+
+/// Line 12 surveys two nodes that do not know each other, line 14 is refused 1.
+#[test]
+fn every_difference_of_a_survey_is_seen() {
+    let spoiled: [(SpoilSurvey, usize); 9] = [
+        (|after| after.answer = 2, 12),
+        (|after| after.answer |= 0x100, 12),
+        (|after| *after.counts = after.before, 12),
+        (|after| after.counts[7] = after.before[7], 12),
+        (|after| after.counts.swap(1, LOST), 12),
+        (|after| after.state[518] ^= 1, 12),
+        (|after| after.tables[32_767] ^= 1, 12),
+        (|after| after.answer *= 2, 14),
+        (|after| after.counts[LOST] ^= after.answer, 14),
+    ];
+    for (number, (survey, line)) in spoiled.into_iter().enumerate() {
+        let engine = Spoiled {
+            survey,
+            ..UNSPOILED
+        };
+        assert_eq!(first_difference(&engine, &Second), Some(line), "{number}");
+        assert_eq!(first_difference(&Second, &engine), Some(line), "{number}");
+    }
+}
+
+#[test]
+fn two_engines_with_the_same_fault_in_a_survey_are_seen() {
+    let faults: [(SpoilSurvey, usize); 5] = [
+        (|after| *after.counts = after.before, 12),
+        (|after| after.counts[LOST] -= 1, 12),
+        (|after| after.counts.swap(2, LOST), 12),
+        (|after| after.state[518] ^= 1, 12),
+        (|after| after.counts[LOST] ^= after.answer, 14),
+    ];
+    for (number, (survey, line)) in faults.into_iter().enumerate() {
+        let fault = || Spoiled {
+            survey,
+            ..UNSPOILED
+        };
+        let found = first_difference(&fault(), &fault());
+        assert_eq!(found, Some(line), "{number}");
+    }
 }

@@ -1,5 +1,5 @@
-//! Demand 3 on the second engine's histories: how many requests a node sends, how long lookups are, and that what a yes verdict
-//! found stays.
+//! Demand 3 on the second engine's histories: how many requests a node sends, how long lookups are, that what a yes verdict
+//! found stays, and that surveys add up.
 
 use trials::compare::{compare, Difference};
 use trials::engine::Second;
@@ -8,7 +8,8 @@ use trials::random::{run, run_from_built, run_in, seeds, Rng};
 use trials::script::{Call, Line, Script};
 use trials::second::memory::Tables;
 use trials::second::network::Network;
-use trials::second::{lookup, sound, verdict, very_hops, LookupAnswer, Settings};
+use trials::second::{lookup, sound, survey, verdict, very_hops, LookupAnswer, Settings, LOST};
+use trials::surveys::adds_up;
 
 /// What is known of a run from its history alone, and what must not change any more.
 #[derive(Default)]
@@ -42,6 +43,7 @@ impl Watch {
             lookup_is_short(memory, &network, from, to)?;
         }
         let passes = verdict(state, tables).consistent;
+        survey_fits(memory, passes)?;
         if passes || rng.once_in(8) {
             self.hops_are_kept(memory, &network)?;
         }
@@ -126,6 +128,15 @@ fn lookup_is_short(memory: &Lent, network: &Network, from: u64, to: u64) -> Resu
         return Err(format!("{from} to {to}, {matched} matched: {answer:?}"));
     }
     Ok(())
+}
+
+/// A survey is not refused and adds up, and where the network passes the verdict no pair is lost.
+fn survey_fits(memory: &Lent, passes: bool) -> Result<(), String> {
+    let answer = survey(&memory.state, &memory.tables);
+    if answer.refusal != 0 || passes && answer.counts[LOST] != 0 {
+        return Err(format!("{answer:?}, consistent: {passes}"));
+    }
+    adds_up(memory.used_state(), &answer.counts)
 }
 
 /// A script whose every point keeps the promises.

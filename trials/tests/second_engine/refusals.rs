@@ -163,12 +163,13 @@ fn a_held_wait_stays_outstanding() {
 }
 
 #[test]
-fn lookup_verdict_and_writing_judge_in_order() {
+fn lookup_survey_verdict_and_writing_judge_in_order() {
     let mut trial = two_joins();
     for (from, to) in [(0, 1), (1, 0), (5, 1), (1, 5), (1 << 63, 1)] {
         assert_eq!(trial.lookup(from, to).refusal, 9);
     }
     assert_eq!(trial.lookup(3, 4).refusal, 0);
+    assert_eq!(trial.survey().refusal, 0);
     assert_eq!(trial.verdict().refusal, 15);
     assert_eq!(trial.write().refusal, 15);
     let mut trial = Trial::read_in(&E1);
@@ -197,6 +198,7 @@ fn memory_too_short_comes_first_and_unsound_next() {
         assert_eq!(second::begin(state, tables, 0, 0).refusal, refusal);
         assert_eq!(second::deliver(state, tables, 0, 0).refusal, refusal);
         assert_eq!(second::lookup(state, tables, 0, 0).refusal, refusal);
+        assert_eq!(second::survey(state, tables).refusal, refusal);
         assert_eq!(second::verdict(state, tables).refusal, refusal);
         assert_eq!(second::write(state, tables, &mut out).refusal, refusal);
     }

@@ -15,9 +15,9 @@ fn printed_scripts_are_parsed_back() {
 fn every_line_has_its_text() {
     let text =
         "found 2 2 1 a0\nbegin ff 18446744073709551615\ndeliver 2 1\nlookup 1 2\nverdict\nwrite\n\
-                read 0401ff\nsound\nlend 520 32768 40\nword 12 ffffffffffffffff\nbyte 300 7\n";
+                read 0401ff\nsound\nsurvey\nlend 520 32768 40\nword 12 ffffffffffffffff\nbyte 300 7\n";
     let script: Script = text.parse().unwrap();
-    assert_eq!(script.lines.len(), 11);
+    assert_eq!(script.lines.len(), 12);
     assert_eq!(script.to_string(), text);
 }
 
@@ -31,6 +31,7 @@ fn other_lines_are_errors() {
         "begin 1 -1",
         "begin 1 1 1",
         "byte 3 100",
+        "survey 1",
     ] {
         assert!(text.parse::<Script>().is_err(), "{text}");
     }

@@ -3,7 +3,8 @@
 use trials::lent::Lent;
 use trials::second::network::Network;
 use trials::second::{
-    self, BeginAnswer, DeliverAnswer, FoundAnswer, LookupAnswer, VerdictAnswer, WriteAnswer,
+    self, BeginAnswer, DeliverAnswer, FoundAnswer, LookupAnswer, SurveyAnswer, VerdictAnswer,
+    WriteAnswer,
 };
 
 pub struct Trial {
@@ -56,6 +57,10 @@ impl Trial {
 
     pub fn verdict(&self) -> VerdictAnswer {
         second::verdict(&self.memory.state, &self.memory.tables)
+    }
+
+    pub fn survey(&self) -> SurveyAnswer {
+        second::survey(&self.memory.state, &self.memory.tables)
     }
 
     pub fn write(&mut self) -> WriteAnswer {

@@ -1,24 +1,9 @@
 //! The wrong turns that document 01 names, and one more: each case has another answer if the turn is taken.
 
+use trials::by_hand::image;
 use trials::second::Settings;
 
 use crate::support::Trial;
-
-/// An image of nodes that know only themselves, and of the further records (node, level, digit, neighbor).
-fn image([base, digits, depth]: [u8; 3], ids: &[u32], more: &[[u8; 4]]) -> Vec<u8> {
-    let mut records = more.to_vec();
-    for (node, id) in (1..).zip(ids) {
-        let own = (0..digits).map(|level| [node, level, (id >> (4 * level) & 15) as u8, node]);
-        records.extend(own);
-    }
-    // An owner stands before the others in its own entries.
-    records.sort_by_key(|&[node, level, digit, near]| (node, level, digit, near != node, near));
-    let mut image = vec![4, 1, base, digits, depth, ids.len() as u8];
-    image.extend(ids.iter().flat_map(|id| id.to_le_bytes()));
-    image.extend((records.len() as u16).to_le_bytes());
-    image.extend(records.as_flattened());
-    image
-}
 
 #[test]
 fn digits_are_counted_from_the_right() {

@@ -1,0 +1,94 @@
+//! What is tried of each program that reads an image from standard input.
+
+use std::fs;
+
+use trials::engine::{Engine, Second};
+use trials::lent::Lent;
+use trials::random::{cuts, damaged_image, image, seeds, Rng};
+
+use crate::pipes::{printed, root};
+
+/// A piece that holds a whole image.
+const WHOLE: usize = 65_536;
+
+/// A program, and what it must print.
+pub struct ImageProgram {
+    pub name: &'static str,
+    /// What stands behind a sample's name in that of the file with its lines.
+    pub ending: &'static str,
+    /// The lines after the first, of an image that was read into this memory.
+    pub lines: fn(&mut Lent) -> String,
+}
+
+impl ImageProgram {
+    pub fn printed(&self, image: &[u8], piece: usize) -> String {
+        printed(self.name, &root(), image, piece)
+    }
+
+    /// Its lines by the second engine.
+    fn expected(&self, image: &[u8]) -> String {
+        let mut memory = Lent::noise();
+        match Second.read(&mut memory.state, &mut memory.tables, image) {
+            0 => format!("refusal 0\n{}", (self.lines)(&mut memory)),
+            refusal => format!("refusal {refusal}\n"),
+        }
+    }
+
+    /// Answers what is printed, which must be what is expected.
+    fn agree(&self, image: &[u8], piece: usize, seed: u64) -> String {
+        let printed = self.printed(image, piece);
+        assert_eq!(printed, self.expected(image), "seed {seed}: {image:02x?}");
+        printed
+    }
+
+    pub fn samples_print_what_stands_beside_them(&self) {
+        for name in ["e1", "e1-short", "network64"] {
+            let beside = |ending: &str| root().join("samples").join(format!("{name}.{ending}"));
+            let image = fs::read(beside("image")).expect(name);
+            let lines = fs::read_to_string(beside(self.ending)).expect(name);
+            assert_eq!(self.printed(&image, WHOLE), lines, "{name}");
+            assert_eq!(self.expected(&image), lines, "{name}");
+        }
+    }
+
+    /// Also answers what was printed for each.
+    pub fn random_and_damaged_images_print_the_same(&self) -> Vec<String> {
+        let mut all = vec![];
+        for seed in seeds(0, 250) {
+            let mut rng = Rng::new(seed);
+            let whole = image(&mut rng);
+            all.push(self.agree(&whole, WHOLE, seed));
+            for _ in 0..8 {
+                all.push(self.agree(&damaged_image(&mut rng, &whole), WHOLE, seed));
+            }
+        }
+        all
+    }
+
+    pub fn cut_images_print_the_same(&self) {
+        let whole = image(&mut Rng::new(7));
+        for (place, cut) in cuts(&whole[..whole.len().min(300)]).enumerate() {
+            self.agree(&cut, WHOLE, place as u64);
+        }
+    }
+
+    pub fn a_pipe_may_deliver_in_pieces_of_any_size(&self) {
+        for seed in seeds(1_000, 40) {
+            let mut rng = Rng::new(seed);
+            let whole = image(&mut rng);
+            self.agree(&whole, 1 + rng.below(700), seed);
+        }
+    }
+
+    pub fn overlong_images_meet_6_if_nothing_earlier(&self) {
+        let whole = fs::read(root().join("samples/network64.image")).expect("network64");
+        for length in [whole.len() + 1, 65_535, 65_536, 65_537, 70_000, 1_000_000] {
+            let mut long = whole.clone();
+            long.resize(length, 0);
+            assert_eq!(self.printed(&long, WHOLE), "refusal 6\n", "{length}");
+            long[1] = 2;
+            assert_eq!(self.printed(&long, WHOLE), "refusal 4\n", "{length}");
+        }
+        assert_eq!(self.printed(&[], 1), "refusal 3\n");
+    }
+}
