@@ -4,7 +4,7 @@ use trials::archive::Archive;
 use trials::compare::{Difference, Pair};
 use trials::engine::Second;
 use trials::lent::Lent;
-use trials::random::{fresh_id, Rng};
+use trials::random::{fresh_id, run, run_from_built, Rng};
 use trials::script::{Call, Lend, Line, Script};
 use trials::second::memory::{STATE_WORDS, TABLE_BYTES};
 use trials::second::network::Network;
@@ -34,6 +34,17 @@ impl Both {
             pair: Pair::new(&Archive, &Second),
             script: Script::default(),
         }
+    }
+
+    /// After a short run, a long one, or one call on a built state.
+    pub fn after_some_run(rng: &mut Rng) -> Both {
+        let mut both = Both::new();
+        both.play(&match rng.below(3) {
+            0 => run(rng, 40).0,
+            1 => run(rng, 200).0,
+            _ => run_from_built(rng, 1).0,
+        });
+        both
     }
 
     pub fn founded(settings: [u64; 3], id: u32) -> Both {

@@ -6,7 +6,7 @@ use trials::engine::{Engine, Second};
 use trials::fenced::{FencedArchive, Place};
 use trials::lent::Lent;
 use trials::paper::E1;
-use trials::random::{damage, run, run_from_built, seeds, some_state, Rng};
+use trials::random::{damage, seeds, some_state, Rng};
 use trials::script::Call;
 use trials::second::LOST;
 use trials::surveys::by_lookups;
@@ -50,12 +50,7 @@ fn surveys_agree_in_any_state() {
     let (mut joining, mut losing, mut unsound) = (0, 0, 0);
     for seed in seeds(0, 400) {
         let mut rng = Rng::new(seed);
-        let mut both = Both::new();
-        both.play(&match rng.below(3) {
-            0 => run(&mut rng, 40).0,
-            1 => run(&mut rng, 200).0,
-            _ => run_from_built(&mut rng, 1).0,
-        });
+        let mut both = Both::after_some_run(&mut rng);
         let counts = both.survey();
         joining += usize::from(!both.network().all_in_system());
         losing += usize::from(counts[LOST] != 0);

@@ -1,7 +1,7 @@
 //! Verdict and writing: the memory for the image, joins in flight, and states that no run reaches.
 
 use trials::lent::ALL;
-use trials::random::{damage, image, run, run_from_built, seeds, with_records, Rng};
+use trials::random::{damage, image, seeds, with_records, Rng};
 use trials::script::{Call, Lend};
 use trials::second::LONGEST_IMAGE;
 
@@ -69,12 +69,7 @@ fn verdict_and_writing_agree_in_any_state() {
     let mut met = [0; 17];
     for seed in seeds(1_000, 400) {
         let mut rng = Rng::new(seed);
-        let mut both = Both::new();
-        both.play(&match rng.below(3) {
-            0 => run(&mut rng, 40).0,
-            1 => run(&mut rng, 200).0,
-            _ => run_from_built(&mut rng, 1).0,
-        });
+        let mut both = Both::after_some_run(&mut rng);
         let sound = both.memory().clone();
         for _ in 0..5 {
             let answers = [Call::Verdict, Call::Write].map(|call| both.call(call) & 0xff);
