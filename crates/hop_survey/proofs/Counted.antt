@@ -21,8 +21,9 @@ use Rattle.model.proofs.Loops.{count-le, count-same, sum-same, each-leads}
 use Rattle.model.proofs.Sums.{bit, bits, count-sum, sum-le}
 use Rattle.model.proofs.Status.{IsNode}
 use Rattle.model.proofs.Sound.{Sound}
-use Rattle.model.proofs.Lookup.{oneHopMore, arrives-is, loses-is, hop-node, left-falls, lookup-hop, hops-bound}
+use Rattle.model.proofs.Lookup.{arrives-is, loses-is, hops-bound}
 use Rattle.model.proofs.Survey.{Ends, arrived, lost, ends, some-hop, counted-at, lost-at, survey-length}
+use Rattle.routing.proofs.Hops.{Hop, next-node, falls, hop-is}
 use Rattle.hop_survey.specs.Counted.{Room, placeOf, countAt, countPair, countFrom}
 
 -- ---- counts that rose
@@ -206,22 +207,20 @@ module _ (s t : List ℕ) (S : Sound s t) (u z h v : ℕ) (nu : IsNode s u) (nz 
     along-lost e = rw (along .arrived, loses-is s t v z ne (sym next ∙ e))
 
     module _ (some : w ≢ 0) where
-      filled : nextHop s t v z ≢ 0
-      filled e = some (next ∙ e)
-
-      further : lookup s t v z ≡ oneHopMore (lookup s t w z)
-      further = lookup-hop s t S z nz v (along .node) ne filled ∙ ap (λ (w : ℕ). oneHopMore (lookup s t w z)) (sym next)
+      hop : Hop s t v z w
+      hop = record { sound = S; from = along .node; to = nz; apart = ne; next = next; some = some }
 
       pub along-hop : Along s t u z (h + 1) w
-      along-hop = record {
-        node = subst (IsNode s) (sym next) (hop-node s t S v z (along .node) nz ne filled .0);
-        arrived = along .arrived ∙ ap (λ (r : Lookup). r .arrived) further;
-        hops = omega (arith, along .hops, ap (λ (r : Lookup). r .hops) further);
-      }
+      along-hop =
+          let further = hop-is s t v z w hop in
+          record {
+            node = next-node s t v z w hop;
+            arrived = along .arrived ∙ ap (λ (r : Lookup). r .arrived) further;
+            hops = omega (arith, along .hops, ap (λ (r : Lookup). r .hops) further);
+          }
 
       pub along-falls : digits s - suffixOf s w z < digits s - suffixOf s v z
-      along-falls =
-          subst (λ (w : ℕ). digits s - suffixOf s w z < digits s - suffixOf s v z) (sym next) (left-falls s t S z nz v (along .node) ne filled)
+      along-falls = falls s t v z w hop
 
   module _ (there : v ≡ z) where
     pub along-some : u ≢ z → 1 ≤ h

@@ -1,5 +1,6 @@
 // The hop survey of a sound state: one pass over the ordered pairs of different nodes, each counted by its lookup. Place h − 1 of the counts is
-// for the pairs that arrive in h hops, place 8 for the lost ones.
+// for the pairs that arrive in h hops, place 8 for the lost ones. Each of 64 nodes adds at most 64 to a count: none passes 4,096 before a node's
+// pairs, nor 4,160 among them.
 ghost use mathlib.Core.Path.{_≡_};
 ghost use Prim.Native.Nat.{_<_};
 ghost use mathlib.Core.Logic.{_≢_};
@@ -62,6 +63,7 @@ fn count_from(state: &[u64], tables: &[u8], u: usize, counts: &mut [u64; 9])
     }
 }
 
+// The counts of all pairs.
 pub fn survey(state: &[u64], tables: &[u8]) -> [u64; 9]
     requires { ⌜ Sound (now state) (now tables) ⌝ }
     ensures { λ r. ⌜ r ≡ surveyCounts (now (state .entry)) (now (tables .entry)) ⌝ }

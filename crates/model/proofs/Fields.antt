@@ -2,6 +2,7 @@
 -- 4,096. Assumes nothing.
 use Prim.Native.Nat.{ℕ, zero, suc, _*_, _≤_, _<_}
 use mathlib.Core.Path.{_≡_, refl}
+use mathlib.Core.Logic.{_⊎_, inl, inr}
 use mathlib.Core.Bool.{Bool, true, false, cond}
 use mathlib.Core.List.{List, [], _∷_}
 use native.Mathlib.Nat.{mul-le-mul}
@@ -25,7 +26,7 @@ use Rattle.model.proofs.Status.{IsNode}
 use Rattle.model.proofs.Sound.{Sound}
 use Rattle.model.proofs.DeliveryDid.{delivery-small}
 use Rattle.model.proofs.Lookup.{arrives-is, loses-is, lookup-hop, hops-bound, walk}
-use Rattle.model.proofs.Survey.{pairs-most}
+use Rattle.model.proofs.Survey.{one-or-none, pairs-most}
 use Rattle.model.proofs.Taken.{state-taken, begin-taken, deliver-taken, lookup-taken, verdict-taken}
 
 -- each field is below n
@@ -79,14 +80,20 @@ deliver-bytes m x y =
     let d = delivery-small (m .state) (m .tables) (c .0) x y (c .1) in
     (omega arith, (d .0, (d .1, (bit-below (eqb (delivery (m .state) (m .tables) x y .sender .status) inSystem), _)))))
 
--- a lookup arrives or not, and ends at a node
-ends : (s t : List ℕ) → Sound s t → (z : ℕ) → IsNode s z → (u : ℕ) → IsNode s u
-    → (lookup s t u z .arrived ≤ 1) × (lookup s t u z .last ≤ nodeCount s)
+-- a lookup ends at a node
+ends : (s t : List ℕ) → Sound s t → (z : ℕ) → IsNode s z → (u : ℕ) → IsNode s u → lookup s t u z .last ≤ nodeCount s
 ends s t S z nz =
-    walk s t S z nz (λ (u : ℕ). (lookup s t u z .arrived ≤ 1) × (lookup s t u z .last ≤ nodeCount s))
-    (λ u nu e. rw (arrives-is s t u z e) (omega arith, nu .high))
-    (λ u nu e q. rw (loses-is s t u z e q) (omega arith, nu .high))
+    walk s t S z nz (λ (u : ℕ). lookup s t u z .last ≤ nodeCount s) (λ u nu e. rw (arrives-is s t u z e) (nu .high))
+    (λ u nu e q. rw (loses-is s t u z e q) (nu .high))
     (λ u nu e q ih. rw (lookup-hop s t S z nz u nu e q) ih)
+
+-- and has arrived or not
+arrived-below : (s t : List ℕ) (u z : ℕ) → lookup s t u z .arrived < 256
+arrived-below s t u z = go (one-or-none s t u z)
+  where
+    go : (lookup s t u z .arrived ≡ 1) ⊎ (lookup s t u z .arrived ≡ 0) → lookup s t u z .arrived < 256
+    go (inl e) = omega arith
+    go (inr e) = omega arith
 
 pub lookup-bytes : (m : Memory) (u z : ℕ) → Bytes (lookupCall m u z .answer)
 unfolding Below lookupRefusal lookupCall taken numbered
@@ -98,7 +105,7 @@ lookup-bytes m u z =
     let h = hops-bound (m .state) (m .tables) (c .0) z (c .2) u (c .1) in
     let few : nodeCount (m .state) ≤ 64 = c .0 .few in
     let most : digits (m .state) ≤ 8 = c .0 .settings .digits-most in
-    (omega arith, (omega (arith, e .0), (omega (arith, h, most), (omega (arith, e .1, few), _)))))
+    (omega arith, (arrived-below (m .state) (m .tables) u z, (omega (arith, h, most), (omega (arith, e, few), _)))))
 
 judged-bytes : (s t : List ℕ) → Sound s t → Bytes (verdictFields (verdict s t))
 unfolding Below verdict firstShort

@@ -29,7 +29,7 @@ pub data Ends (s t : List ℕ) (u z : ℕ) : Type 0 where
   lost : lookup s t u z .arrived ≡ 0 → Ends s t u z
 
 -- it has arrived or not
-one-or-none : (s t : List ℕ) (u z : ℕ) → (lookup s t u z .arrived ≡ 1) ⊎ (lookup s t u z .arrived ≡ 0)
+pub one-or-none : (s t : List ℕ) (u z : ℕ) → (lookup s t u z .arrived ≡ 1) ⊎ (lookup s t u z .arrived ≡ 0)
 unfolding lookup answerOf
 one-or-none s t u z = go (eqb (lastOf (veryHops s t u z)) z)
   where

@@ -1,9 +1,8 @@
 -- Laws of all pairs: a count is among them, and so a bar has at most 50 marks. Assumes nothing.
-use Prim.Native.Nat.{ℕ, zero, suc, _+_, _*_, _≤_, _<_}
+use Prim.Native.Nat.{ℕ, _*_, _≤_, _<_}
 use mathlib.Core.Path.{_≡_, ap, _∙_}
 use mathlib.Core.List.{List}
 use native.Mathlib.Nat.{le-antisymm, div-lt-iff-lt-mul}
-use native.Mathlib.Decide.{ℕ-discrete}
 use native.Mathlib.Omega.{arith}
 use Rattle.model.specs.Loops.{sumBelow}
 use Rattle.model.proofs.Sums.{sum-at}

@@ -54,6 +54,12 @@ module _ (s t : List ℕ) (u z v : ℕ) (h : Hop s t u z v) where
       subst (λ (v : ℕ). digits s - suffixOf s v z < digits s - suffixOf s u z) (sym (h .next))
       (left-falls s t (h .sound) z (h .to) u (h .from) (h .apart) filled)
 
+  -- the lookup from u is that from v with one hop more
+  pub hop-is : book.lookup s t u z ≡ oneHopMore (book.lookup s t v z)
+  hop-is =
+      lookup-hop s t (h .sound) z (h .to) u (h .from) (h .apart) filled
+      ∙ ap (λ (v : ℕ). oneHopMore (book.lookup s t v z)) (sym (h .next))
+
   -- r is what the lookup from the next node has answered
   module _ (r : Lookup) (further : bookLookup r ≡ book.lookup s t v z) where
     pub few-hops : r .hops ≤ 8
@@ -62,6 +68,4 @@ module _ (s t : List ℕ) (u z v : ℕ) (h : Hop s t u z v) where
         omega (arith, hops-bound s t (h .sound) z (h .to) v next-node, h .sound .settings .digits-most)
 
     pub one-hop-more : oneHopMore (bookLookup r) ≡ book.lookup s t u z
-    one-hop-more =
-        ap oneHopMore (further ∙ ap (λ (v : ℕ). book.lookup s t v z) (h .next))
-        ∙ sym (lookup-hop s t (h .sound) z (h .to) u (h .from) (h .apart) filled)
+    one-hop-more = ap oneHopMore further ∙ sym hop-is

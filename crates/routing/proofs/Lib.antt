@@ -1,2 +1,2 @@
--- Laws that the proofs of lookup cite.
-mod Hops
+-- Laws that the proofs of lookup and of the survey cite.
+pub mod Hops
