@@ -1,24 +1,25 @@
 -- The frame of an image, its first bytes and its length: what reading asks of it beside the rules, both ways. Assumes nothing.
 use Prim.Native.Nat.{ℕ, _+_, _-_, _*_, _≤_, _<_}
 use mathlib.Core.Path.{_≡_, refl, sym, ap, ap₂}
-use mathlib.Core.Bool.{true, false, not, _||_}
+use mathlib.Core.Bool.{true, false, not, _&&_, _||_}
 use mathlib.Core.List.{List, []}
 use native.Mathlib.Omega.{arith}
 use lib.Dec.{eqb, ltb, leb}
 use lib.ListN.{length}
-use borrow.Author.Tests.{eqb-true, eq-eqb, ne-eqb, le-ltb, leb-true, le-leb, not-false}
+use borrow.Author.Tests.{eqb-true, eq-eqb, ne-eqb, le-ltb, le-leb, not-false}
 use Rattle.model.specs.Loops.{allBelow, node}
 use Rattle.model.specs.Ids.{settingsInRange}
 use Rattle.model.specs.Memory.{Memory}
-use Rattle.model.specs.Image.{byteAt, imBase, imDigits, imDepth, imNodes, imRecords, imId, lengthRight, imIdValid, imIdDiffers, imIdNew, recNode, recNeighbor, recNodesGood, recOrdered, recAllowed, recOwnerFirst, ownHaveRecords, recordsGood}
+use Rattle.model.specs.Image.{byteAt, imBase, imDigits, imDepth, imNodes, imRecords, imId, lengthRight, imIdValid, imIdDiffers, imIdNew, recNode, recNeighbor, recNodesGood, recOrdered, recAllowed, recOwnerFirst, ownHaveRecords, recordsOrdered, recordsAllowed, ownPresent, recordsOwned}
 use Rattle.model.specs.Refusals.{firstTrue, memoryShort, noSettings, otherVersion, countsWrong, imageSentences, readRefusal}
-use Rattle.model.proofs.Bools.{and-left, and-right, and-intro, or-none-right}
+use Rattle.model.proofs.Bools.{and-intro, or-none-right}
 use Rattle.model.proofs.Refusals.{numbered, testOf, passed, free, sentence-none}
 use Rattle.model.proofs.Loops.{all-of}
 use Rattle.model.proofs.Nodes.{nodes-of}
 use Rattle.model.proofs.Ids.{settings-of}
 use Rattle.model.proofs.Sound.{Long}
 use Rattle.model.proofs.LoadingIsSound.{GoodImage}
+use Rattle.model.proofs.Counts.{counts-ok}
 use Rattle.model.proofs.Taken.{not-short}
 
 pub record Framed (im : List ℕ) : Type 0 where
@@ -53,13 +54,6 @@ module _ (im : List ℕ) (F : Framed im) (R : GoodImage im) where
       and-intro _ _ (and-intro _ _ (le-leb 1 (recNode im r) (R .owners r h .0)) (le-leb _ _ (R .owners r h .1)))
       (and-intro _ _ (le-leb 1 (recNeighbor im r) (R .neighbors r h .0)) (le-leb _ _ (R .neighbors r h .1)))
 
-  rules-kept : recordsGood im ≡ true
-  unfolding recordsGood
-  rules-kept =
-      and-intro _ _ (all-of (imRecords im) (recOrdered im) (R .ordered))
-      (and-intro _ _ (all-of (imRecords im) (recAllowed im) (R .allowed))
-      (and-intro _ _ (all-of (imRecords im) (recOwnerFirst im) (R .owner-first)) (nodes-of (imNodes im) (ownHaveRecords im) (R .own))))
-
   image-free : firstTrue (imageSentences im) ≡ 0
   image-free =
       free (noSettings im) 3 _ settings-there
@@ -69,7 +63,11 @@ module _ (im : List ℕ) (F : Framed im) (R : GoodImage im) where
       (free (not (allBelow (imNodes im) (node (imIdValid im)))) 7 _ (ap not (nodes-of (imNodes im) (imIdValid im) (R .ids)))
       (free (not (allBelow (imNodes im) (node (imIdNew im)))) 8 _ (ap not (nodes-of (imNodes im) (imIdNew im) ids-new))
       (free (not (allBelow (imRecords im) (recNodesGood im))) 9 _ (ap not (all-of (imRecords im) (recNodesGood im) nodes-good))
-      (free (not (recordsGood im)) 10 [] (ap not rules-kept) (sym sentence-none))))))))
+      (free (not (recordsOrdered im)) 10 _ (ap not (all-of (imRecords im) (recOrdered im) (R .ordered)))
+      (free (not (recordsAllowed im)) 17 _ (ap not (all-of (imRecords im) (recAllowed im) (R .allowed)))
+      (free (not (ownPresent im && recordsOwned im)) 18 []
+      (ap not (and-intro _ _ (nodes-of (imNodes im) (ownHaveRecords im) (R .own)) (all-of (imRecords im) (recOwnerFirst im) (R .owner-first))))
+      (sym sentence-none))))))))))
 
   pub read-free : (m : Memory) → Long (m .state) (m .tables) → readRefusal m im ≡ 0
   unfolding readRefusal
@@ -79,15 +77,13 @@ module _ (im : List ℕ) (F : Framed im) (R : GoodImage im) where
 
 -- the same back
 pub read-framed : (m : Memory) (im : List ℕ) → readRefusal m im ≡ 0 → Framed im
-unfolding readRefusal lengthRight numbered testOf
+unfolding readRefusal numbered testOf
 read-framed m im e =
     let p = passed _ refl e in
-    let right : lengthRight im ≡ true =
-    not-false _ (or-none-right (ltb 64 (imNodes im)) _ (or-none-right (eqb (imNodes im) 0) _ (or-none-right (ltb (length im) 6) _ (p 6)))) in
-    let more = and-right (leb (8 + 4 * imNodes im) (length im)) _ right in
+    let counts = counts-ok im (p 6) in
     record {
       first = eqb-true _ 4 (not-false _ (or-none-right (ltb (length im) 5) _ (p 3)));
       version = eqb-true _ 1 (not-false _ (p 4));
-      size = eqb-true _ _ (and-left _ _ more);
-      short = leb-true (length im) 65535 (and-right (eqb (length im) (8 + 4 * imNodes im + 4 * imRecords im)) _ more);
+      size = counts .size;
+      short = counts .short;
     }

@@ -59,7 +59,9 @@ pub mod ReadGivesRecords
 pub mod RoundTrip
 -- ---- refusals and calls
 pub mod Refusals
+pub mod Counts
 pub mod Taken
+pub mod Places
 pub mod Calls
 pub mod RequestsSent
 pub mod Fields

@@ -2,13 +2,14 @@
 -- the number. Assumes nothing.
 use Prim.Native.Nat.{ℕ, _≤_, _<_}
 use mathlib.Core.Path.{_≡_, refl, sym, ap, ap₂, subst, _∙_}
+use mathlib.Core.Logic.{_≢_}
 use mathlib.Core.Bool.{Bool, true, false, cond, not, _&&_}
 use mathlib.Core.List.{List, [], _∷_, _++_}
 use native.Mathlib.Omega.{arith}
 use lib.Dec.{eqb, ltb}
 use borrow.Author.Tests.{eq-eqb, ne-eqb, ltb-true, lt-ltb, le-ltb, not-true, not-false}
 use Rattle.model.specs.Refusals.{Sentence, firstTrue}
-use Rattle.model.proofs.Bools.{and-left, and-right}
+use Rattle.model.proofs.Bools.{and-left, and-right, not-both}
 
 -- ---- early returns
 
@@ -128,6 +129,35 @@ sentences-later (c ∷ cs) later g r x e z q =
     let p = one-passed (c .0) (c .1) cs (ltb-true 0 (c .1) (and-left _ _ g)) (sym e ∙ z) in
     sentence-goes (c .0) (c .1) (cs ++ later) x (c .0) refl (p .0)
     (sentences-later cs later (and-right (ltb (c .1) 256) _ (and-right (ltb 0 (c .1)) _ g)) 0 x (sym (p .1)) refl q)
+
+-- ---- the sentence that refused
+
+-- no sentence of the list has this number
+unfoldable pub lacks : ℕ → List Sentence → Bool
+lacks n [] = true
+lacks n (c ∷ cs) = not (eqb (c .1) n) && lacks n cs
+
+pub lacking : (n : ℕ) (cs : List Sentence) → 0 < n → lacks n cs ≡ true → firstTrue cs ≢ n
+unfolding firstTrue lacks
+lacking n [] some e q = omega arith
+lacking n (c ∷ cs) some e q = go (c .0) (lacking n cs some (and-right (not (eqb (c .1) n)) _ e)) q
+  where
+    go : (b : Bool) → firstTrue cs ≢ n → cond b (c .1) (firstTrue cs) ≢ n
+    go true f q = not-both (eqb (c .1) n) (eq-eqb (c .1) n q) (not-true _ (and-left _ _ e))
+    go false f q = f q
+
+-- refused by the number of one sentence, which no other has: its test is true, and none before it
+pub stopped : (pre : List Sentence) (test : Bool) (n : ℕ) (post : List Sentence) → 0 < n → lacks n pre ≡ true → lacks n post ≡ true
+    → firstTrue (pre ++ ((test, n) ∷ post)) ≡ n → (firstTrue pre ≡ 0) × (test ≡ true)
+unfolding firstTrue lacks
+stopped [] true n post some e f q = (refl, refl)
+stopped [] false n post some e f q = absurd (lacking n post some f q)
+stopped (c ∷ cs) test n post some e f q = go (c .0) (stopped cs test n post some (and-right (not (eqb (c .1) n)) _ e) f) q
+  where
+    go : (b : Bool) → (firstTrue (cs ++ ((test, n) ∷ post)) ≡ n → (firstTrue cs ≡ 0) × (test ≡ true))
+        → cond b (c .1) (firstTrue (cs ++ ((test, n) ∷ post))) ≡ n → (cond b (c .1) (firstTrue cs) ≡ 0) × (test ≡ true)
+    go true g q = absurd (not-both (eqb (c .1) n) (eq-eqb (c .1) n q) (not-true _ (and-left _ _ e)))
+    go false g q = g q
 
 -- ---- a refusal is a byte
 

@@ -250,12 +250,12 @@ read-again m m′ im byte e long =
 
 -- what a writing wrote, read into any memory
 pub write-then-read : (m m′ : Memory) (out : List ℕ) → writeRefusal m out ≡ 0 → Long (m′ .state) (m′ .tables)
-    → readCall m′ (imageOf (m .state) (m .tables)) ≡ taken (onto m m′) [] []
+    → readCall m′ (imageOf (m .state) (m .tables)) ≡ taken (onto m m′) [] (0 ∷ [])
 unfolding readCall
 write-then-read m m′ out e long =
     let k = write-taken m out e in
     taken-is _ _ _ (written-taken (m .state) (m .tables) (k .0) m′ long)
-    ∙ ap (λ (m : Memory). taken m [] []) (written-read (m .state) (m .tables) (k .0) m′ long (k .1))
+    ∙ ap (λ (m : Memory). taken m [] (0 ∷ [])) (written-read (m .state) (m .tables) (k .0) m′ long (k .1))
 
 -- what a reading read, written
 pub read-then-write : (m : Memory) (im out : List ℕ) → ((a : ℕ) → byteAt im a < 256) → readRefusal m im ≡ 0 → length im ≤ length out

@@ -2,20 +2,21 @@
 use Prim.Native.Nat.{ℕ, _+_, _-_, _≤_, _<_}
 use mathlib.Core.Path.{_≡_, refl, sym, ap, ap₂, subst}
 use mathlib.Core.Logic.{_≢_}
-use mathlib.Core.Bool.{true, false, not, _||_}
+use mathlib.Core.Bool.{true, false, not, _&&_, _||_}
 use mathlib.Core.List.{List, [], _++_}
 use native.Mathlib.Omega.{arith}
-use lib.Dec.{eqb, ltb, leb}
+use lib.Dec.{ltb, leb}
 use lib.ListN.{length}
 use borrow.Author.Tests.{eqb-false, ltb-false, le-ltb, leb-true, not-false, not-true}
 use Rattle.model.specs.Ids.{validId}
 use Rattle.model.specs.Memory.{Memory, stateLength, tablesLength, nodeCount, idOf, isInSystem}
 use Rattle.model.specs.Nodes.{isNode}
 use Rattle.model.specs.Sound.{sound}
-use Rattle.model.specs.Image.{imNodes, imBase, imDigits, imDepth, imRecords, imId, imIdValid, imIdDiffers, imIdNew, imIsNode, recNode, recNeighbor, recNodesGood, recOrdered, recAllowed, recOwnerFirst, ownHaveRecords, recordsGood, imageOf}
+use Rattle.model.specs.Image.{imNodes, imBase, imDigits, imDepth, imRecords, imId, imIdValid, imIdDiffers, imIdNew, imIsNode, recNode, recNeighbor, recNodesGood, recOrdered, recAllowed, recOwnerFirst, ownHaveRecords, ownPresent, recordsOwned, imageOf}
 use Rattle.model.specs.Refusals.{Sentence, firstTrue, memoryShort, unsound, hasId, areNodes, someNotInSystem, stateSentences, foundRefusal, readRefusal, stateRefusal, beginRefusal, deliverRefusal, lookupRefusal, verdictRefusal, writeRefusal}
-use Rattle.model.proofs.Bools.{and-left, and-right, and-intro, or-none-left, or-none-right, parts}
+use Rattle.model.proofs.Bools.{and-left, and-right, and-intro, or-none-left, or-none-right}
 use Rattle.model.proofs.Refusals.{numbered, testOf, passed, free, sentence-none}
+use Rattle.model.proofs.Counts.{counts-ok}
 use Rattle.model.proofs.Loops.{all-at}
 use Rattle.model.proofs.Nodes.{nodes-at, no-node-at}
 use Rattle.model.proofs.Ids.{InRange, settings-range}
@@ -122,27 +123,25 @@ im-node : (im : List ℕ) (x : ℕ) → imIsNode im x ≡ true → (1 ≤ x) × 
 im-node im x e = (leb-true 1 x (and-left _ _ e), leb-true x (imNodes im) (and-right (leb 1 x) _ e))
 
 pub read-taken : (m : Memory) (im : List ℕ) → readRefusal m im ≡ 0 → Long (m .state) (m .tables) × GoodImage im
-unfolding readRefusal recordsGood numbered testOf
+unfolding readRefusal numbered testOf
 read-taken m im e =
     let p = passed _ refl e in
-    let counts = or-none-right (ltb (length im) 6) _ (p 6) in
-    let some = eqb-false (imNodes im) 0 (or-none-left _ _ counts) in
-    let many = or-none-right (eqb (imNodes im) 0) _ counts in
-    let good : recordsGood im ≡ true = not-false (recordsGood im) (p 10) in
+    let counts = counts-ok im (p 6) in
+    let own : (ownPresent im && recordsOwned im) ≡ true = not-false _ (p 18) in
     let nodes : (r : ℕ) → r < imRecords im → recNodesGood im r ≡ true = all-at (imRecords im) (recNodesGood im) (not-false _ (p 9)) in (
       long-of m (p 1),
       record {
         range = settings-range (imBase im) (imDigits im) (imDepth im) (not-false _ (p 5));
-        some = omega (arith, some);
-        few = ltb-false 64 (imNodes im) (or-none-left _ _ many);
+        some = counts .some;
+        few = counts .few;
         ids = nodes-at (imNodes im) (imIdValid im) (not-false _ (p 7));
         new = λ x y h l g. id-new x y l g (nodes-at (imNodes im) (imIdNew im) (not-false _ (p 8)) x (omega (arith, l, g)) h);
         owners = λ r h. im-node im (recNode im r) (and-left _ _ (nodes r h));
         neighbors = λ r h. im-node im (recNeighbor im r) (and-right (imIsNode im (recNode im r)) _ (nodes r h));
-        ordered = all-at (imRecords im) (recOrdered im) (search parts);
-        allowed = all-at (imRecords im) (recAllowed im) (search parts);
-        owner-first = all-at (imRecords im) (recOwnerFirst im) (search parts);
-        own = nodes-at (imNodes im) (ownHaveRecords im) (search parts);
+        ordered = all-at (imRecords im) (recOrdered im) (not-false _ (p 10));
+        allowed = all-at (imRecords im) (recAllowed im) (not-false _ (p 17));
+        owner-first = all-at (imRecords im) (recOwnerFirst im) (and-right (ownPresent im) _ own);
+        own = nodes-at (imNodes im) (ownHaveRecords im) (and-left _ (recordsOwned im) own);
       },
     )
   where

@@ -11,7 +11,7 @@ use Rattle.model.specs.Lookup.{Lookup, lookup}
 use Rattle.model.specs.Survey.{surveyCounts}
 use Rattle.model.specs.Consistency.{Verdict, verdict}
 use Rattle.model.specs.Image.{imageOf, loaded}
-use Rattle.model.specs.Refusals.{foundRefusal, readRefusal, beginRefusal, deliverRefusal, lookupRefusal, verdictRefusal, writeRefusal, stateRefusal}
+use Rattle.model.specs.Refusals.{foundRefusal, readRefusal, recordPlace, beginRefusal, deliverRefusal, lookupRefusal, verdictRefusal, writeRefusal, stateRefusal}
 
 -- what a call leaves: the memory, the memory for output (none but for writing), and the answer's fields, of which the refusal is the first
 pub record Outcome : Type 0 where
@@ -40,10 +40,12 @@ unfoldable pub foundCall : Memory → ℕ → ℕ → ℕ → ℕ → Outcome
 foundCall m b d K id =
     unlessRefused (foundRefusal m b d K id) (refused m [] 0) (taken (founded (m .state) (m .tables) b d K id) [] [])
 
--- answer: the refusal
+-- answer: the refusal, and the place of the record that it is about
 unfoldable pub readCall : Memory → List ℕ → Outcome
 readCall m im =
-    unlessRefused (readRefusal m im) (refused m [] 0) (taken (loaded (m .state) (m .tables) im) [] [])
+    let number = readRefusal m im in
+    unlessRefused number (refusedAt m [] (recordPlace im number ∷ []))
+    (taken (loaded (m .state) (m .tables) im) [] (0 ∷ []))
 
 -- answer: the refusal and the new node's number
 unfoldable pub beginCall : Memory → ℕ → ℕ → Outcome

@@ -172,12 +172,19 @@ ownHasRecord im x i = anyBelow (imRecords im) (recOfOwn im x i)
 unfoldable pub ownHaveRecords : List ℕ → ℕ → Bool
 ownHaveRecords im x = allBelow (imDigits im) (ownHasRecord im x)
 
--- the records are in their order and keep the rules of the tables
-unfoldable pub recordsGood : List ℕ → Bool
-recordsGood im =
-    allBelow (imRecords im) (recOrdered im)
-    && (allBelow (imRecords im) (recAllowed im)
-    && (allBelow (imRecords im) (recOwnerFirst im) && allBelow (imNodes im) (node (ownHaveRecords im))))
+-- the same of all records, and of all nodes: what 10, 17 and 18 ask
+
+abbrev pub recordsOrdered : List ℕ → Bool
+recordsOrdered im = allBelow (imRecords im) (recOrdered im)
+
+abbrev pub recordsAllowed : List ℕ → Bool
+recordsAllowed im = allBelow (imRecords im) (recAllowed im)
+
+abbrev pub ownPresent : List ℕ → Bool
+ownPresent im = allBelow (imNodes im) (node (ownHaveRecords im))
+
+abbrev pub recordsOwned : List ℕ → Bool
+recordsOwned im = allBelow (imRecords im) (recOwnerFirst im)
 
 -- ---- reading
 

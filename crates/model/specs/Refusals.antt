@@ -1,17 +1,17 @@
--- The refusals: document 01, "What a call declines". Each call has its own sentences, in the paper's order.
-use Prim.Native.Nat.{ℕ}
+-- The refusals: document 01, "What a call declines", and document 02, Ticket 2. Each call has its own sentences, in the papers' order.
+use Prim.Native.Nat.{ℕ, _+_}
 use mathlib.Core.Bool.{Bool, cond, not, _&&_, _||_}
 use mathlib.Core.List.{List, [], _∷_, _++_}
 use lib.ListN.{length}
 use lib.Dec.{ltb, eqb}
-use Rattle.model.specs.Loops.{allBelow, node}
+use Rattle.model.specs.Loops.{allBelow, firstBelow, node}
 use Rattle.model.specs.Ids.{settingsInRange, validId}
 use Rattle.model.specs.Memory.{Memory, stateLength, tablesLength, base, digits, nodeCount, idOf, statusOf, waiting, isInSystem}
 use Rattle.model.specs.Nodes.{isNode, allNodes, anyNode}
 use Rattle.model.specs.Sound.{sound}
 use Rattle.model.specs.Join.{outstanding}
 use Rattle.model.specs.Image.{byteAt, imBase, imDigits, imDepth, imNodes, imRecords, lengthRight, imIdValid, imIdNew, recNodesGood}
-use Rattle.model.specs.Image.{recordsGood, imageOf}
+use Rattle.model.specs.Image.{recOrdered, recAllowed, recOwnerFirst, recordsOrdered, recordsAllowed, ownPresent, recordsOwned, imageOf}
 
 -- a sentence: its test, and its number
 abbrev pub Sentence : Type 0
@@ -68,10 +68,10 @@ unfoldable pub foundRefusal : Memory → ℕ → ℕ → ℕ → ℕ → ℕ
 foundRefusal m b d K id =
     firstTrue ((memoryShort m, 1) ∷ (not (settingsInRange b d K), 5) ∷ (not (validId b d id), 7) ∷ [])
 
--- what the image itself decides, each sentence over the whole image: 3 to 6 of its settings and counts; 7, some id is not valid; 8, some id
--- occurs twice; 9, some record names no node; 10, the records are out of order or break a rule of the tables
-abbrev pub imageSentences : List ℕ → List Sentence
-imageSentences im =
+-- what the image itself decides, each sentence over the whole image. Of its settings and counts: 3 to 6; 7, some id is not valid; 8, some id occurs
+-- twice; 9, some record names no node
+abbrev pub frameSentences : List ℕ → List Sentence
+frameSentences im =
     (noSettings im, 3)
     ∷ (otherVersion im, 4)
     ∷ (not (settingsInRange (imBase im) (imDigits im) (imDepth im)), 5)
@@ -79,14 +79,34 @@ imageSentences im =
     ∷ (not (allBelow (imNodes im) (node (imIdValid im))), 7)
     ∷ (not (allBelow (imNodes im) (node (imIdNew im))), 8)
     ∷ (not (allBelow (imRecords im) (recNodesGood im)), 9)
-    ∷ (not (recordsGood im), 10)
     ∷ []
+
+-- of its records: 10, some level or digit is out of range, or a record is below the one before it; 17, some neighbour isn't qualified for its entry, is in
+-- it already, or finds it full; 18, some own entry has no record or does not start with its owner
+abbrev pub recordSentences : List ℕ → List Sentence
+recordSentences im =
+    (not (recordsOrdered im), 10) ∷ (not (recordsAllowed im), 17) ∷ (not (ownPresent im && recordsOwned im), 18) ∷ []
+
+abbrev pub imageSentences : List ℕ → List Sentence
+imageSentences im = frameSentences im ++ recordSentences im
 
 unfoldable pub imageRefusal : List ℕ → ℕ
 imageRefusal im = firstTrue (imageSentences im)
 
 unfoldable pub readRefusal : Memory → List ℕ → ℕ
 readRefusal m im = firstTrue ((memoryShort m, 1) ∷ imageSentences im)
+
+-- the place of the first record that fails a test, counted from 1
+abbrev pub firstFailing : List ℕ → (ℕ → Bool) → ℕ
+firstFailing im test = firstBelow (imRecords im) (λ r. not (test r)) + 1
+
+-- the place that a refusal of an image gives: for 10, 17 and 18 that of the first record to fail, but 0 where an own entry has no record at all, which
+-- goes before the other cause of 18; for every other number 0
+unfoldable pub recordPlace : List ℕ → ℕ → ℕ
+recordPlace im number =
+    cond (eqb number 10) (firstFailing im (recOrdered im))
+    (cond (eqb number 17) (firstFailing im (recAllowed im))
+    (cond (eqb number 18 && ownPresent im) (firstFailing im (recOwnerFirst im)) 0))
 
 -- the sentences that every call on a state has first
 abbrev pub stateSentences : Memory → List Sentence

@@ -13,8 +13,8 @@ use Rattle.model.specs.Lookup as routing
 use Rattle.model.specs.Survey.{surveyCounts}
 use Rattle.model.specs.Consistency as consistency
 use Rattle.model.specs.Image.{imageOf, loaded}
-use Rattle.model.specs.Refusals.{foundRefusal, readRefusal, beginRefusal, deliverRefusal, lookupRefusal, verdictRefusal, writeRefusal, stateRefusal}
-use Rattle.model.specs.Calls.{Outcome, refusedAt, refused, taken, unlessRefused, deliveryFields, lookupFields, verdictFields, foundCall, readCall, beginCall, deliverCall, lookupCall, surveyCall, verdictCall, writeCall, soundCall}
+use Rattle.model.specs.Refusals.{foundRefusal, readRefusal, recordPlace, beginRefusal, deliverRefusal, lookupRefusal, verdictRefusal, writeRefusal, stateRefusal}
+use Rattle.model.specs.Calls.{Outcome, refusedAt, taken, unlessRefused, deliveryFields, lookupFields, verdictFields, foundCall, readCall, beginCall, deliverCall, lookupCall, surveyCall, verdictCall, writeCall, soundCall}
 use Rattle.model.specs.Run.{Call, found, read, begin, deliver, lookup, survey, verdict, write, sound, step, after, play, history, isTaken}
 use Rattle.model.proofs.Sound.{Long}
 use Rattle.model.proofs.Taken.{state-taken, found-taken, read-taken, begin-taken, deliver-taken, lookup-taken, verdict-taken, write-taken, not-short}
@@ -29,7 +29,7 @@ use Rattle.model.proofs.AlikeLooking.{image-same}
 use Rattle.model.proofs.AlikeRefusals as alike
 use Rattle.model.proofs.AlikeRefusals.{long-alike}
 use Rattle.promise.specs.Fixed.{fixed, past}
-use Rattle.promise.specs.Demand1.{outputOf, ChangesNothing, SameUpToThere, Demand1}
+use Rattle.promise.specs.Demand1.{outputOf, carried, ChangesNothing, SameUpToThere, Demand1}
 
 -- ---- every call by its two ends
 
@@ -45,17 +45,17 @@ number m verdict = verdictRefusal m
 number m (write out) = writeRefusal m out
 number m sound = stateRefusal m
 
--- how many other fields its answer has
-abbrev others : Call → ℕ
-others (found b d K id) = 0
-others (read im) = 0
-others (begin id gateway) = 1
-others (deliver x y) = 3
-others (lookup u z) = 3
-others survey = 9
-others verdict = 4
-others (write out) = 1
-others sound = 0
+-- the other fields of its answer where it is refused with number n
+abbrev others : Call → ℕ → List ℕ
+others (found b d K id) n = []
+others (read im) n = recordPlace im n ∷ []
+others (begin id gateway) n = replicate 1 0
+others (deliver x y) n = replicate 3 0
+others (lookup u z) n = replicate 3 0
+others survey n = replicate 9 0
+others verdict n = replicate 4 0
+others (write out) n = replicate 1 0
+others sound n = []
 
 -- what it leaves where it is taken
 record Work : Type 0 where
@@ -65,7 +65,7 @@ record Work : Type 0 where
 
 abbrev work : Memory → Call → Work
 work m (found b d K id) = record { memory = founded (m .state) (m .tables) b d K id; out = []; fields = [] }
-work m (read im) = record { memory = loaded (m .state) (m .tables) im; out = []; fields = [] }
+work m (read im) = record { memory = loaded (m .state) (m .tables) im; out = []; fields = 0 ∷ [] }
 work m (begin id gateway) =
     record { memory = begun (m .state) (m .tables) id gateway; out = []; fields = (nodeCount (m .state) + 1) ∷ [] }
 work m (deliver x y) =
@@ -80,7 +80,7 @@ work m (write out) =
 work m sound = record { memory = m; out = []; fields = [] }
 
 abbrev ended : Memory → Call → ℕ → Work → Outcome
-ended m c n w = unlessRefused n (refused m (outputOf c) (others c)) (taken (w .memory) (w .out) (w .fields))
+ended m c n w = unlessRefused n (refusedAt m (outputOf c) (others c n)) (taken (w .memory) (w .out) (w .fields))
 
 step-is : (m : Memory) (c : Call) → step m c ≡ ended m c (number m c) (work m c)
 unfolding step foundCall readCall beginCall deliverCall lookupCall surveyCall verdictCall writeCall soundCall
@@ -95,10 +95,11 @@ step-is m (write out) = refl
 step-is m sound = refl
 
 -- what holds of both ends holds of the call
-by-ends : (P : Outcome → Type 0) (m : Memory) (c : Call) → (number m c ≢ 0 → P (refused m (outputOf c) (others c) (number m c)))
+by-ends : (P : Outcome → Type 0) (m : Memory) (c : Call)
+    → (number m c ≢ 0 → P (refusedAt m (outputOf c) (others c (number m c)) (number m c)))
     → (number m c ≡ 0 → P (taken (work m c .memory) (work m c .out) (work m c .fields))) → P (step m c)
 by-ends P m c f g =
-    subst P (sym (step-is m c)) (either-end P (number m c) (refused m (outputOf c) (others c)) _ f g)
+    subst P (sym (step-is m c)) (either-end P (number m c) (refusedAt m (outputOf c) (others c (number m c))) _ f g)
 
 -- ---- a refused call
 
@@ -108,16 +109,31 @@ zeros zero (suc j) = refl
 zeros (suc k) zero = refl
 zeros (suc k) (suc j) = zeros k j
 
+others-carried : (c : Call) (n k : ℕ) → getD (others c n) k 0 ≡ getD (carried c n) k 0
+others-carried (found b d K id) n k = refl
+others-carried (read im) n k = refl
+others-carried (begin id gateway) n k = zeros 1 k
+others-carried (deliver x y) n k = zeros 3 k
+others-carried (lookup u z) n k = zeros 3 k
+others-carried survey n k = zeros 9 k
+others-carried verdict n k = zeros 4 k
+others-carried (write out) n k = zeros 1 k
+others-carried sound n k = refl
+
 changes-nothing : (m : Memory) (c : Call) → isTaken (step m c .answer) ≡ false → ChangesNothing m c
 unfolding refusedAt taken
 changes-nothing m c e = record { memory = go .0; output = go .1; fields = go .2 }
   where
-    go : (step m c .memory ≡ m) × (step m c .out ≡ outputOf c) × ((k : ℕ) → getD (step m c .answer) (suc k) 0 ≡ 0)
+    Same : Outcome → Type 0
+    Same o =
+        (o .memory ≡ m)
+        × (o .out ≡ outputOf c)
+        × ((k : ℕ) → getD (o .answer) (suc k) 0 ≡ getD (carried c (getD (o .answer) 0 0)) k 0)
+
+    go : Same (step m c)
     go =
-        by-ends
-        (λ (o : Outcome).
-        isTaken (o .answer) ≡ false → (o .memory ≡ m) × (o .out ≡ outputOf c) × ((k : ℕ) → getD (o .answer) (suc k) 0 ≡ 0))
-        m c (λ nz q. (refl, refl, zeros (others c))) (λ z q. absurd (true≢false q)) e
+        by-ends (λ (o : Outcome). isTaken (o .answer) ≡ false → Same o) m c
+        (λ nz q. (refl, refl, others-carried c (number m c))) (λ z q. absurd (true≢false q)) e
 
 -- ---- what lies past the fixed lengths is kept
 
@@ -279,8 +295,8 @@ module _ (m m′ : Memory) (e : fixed m′ ≡ fixed m) where
       go =
           by-ends (λ (o : Outcome). Same o (step m′ c)) m c
           (λ nz.
-          by-ends (Same (refused m (outputOf c) (others c) (number m c))) m′ c
-          (λ nz′. (ap (λ (n : ℕ). n ∷ replicate (others c) 0) n, refl, e)) (λ z. absurd (nz (sym n ∙ z))))
+          by-ends (Same (refusedAt m (outputOf c) (others c (number m c)) (number m c))) m′ c
+          (λ nz′. (ap (λ (n : ℕ). n ∷ others c n) n, refl, e)) (λ z. absurd (nz (sym n ∙ z))))
           (λ z.
           by-ends (Same (taken (work m c .memory) (work m c .out) (work m c .fields))) m′ c (λ nz′. absurd (nz′ (n ∙ z)))
           (λ z′. let w = work-same c z in (ap (_∷_ 0) (w .fields), w .out, w .memory)))

@@ -146,7 +146,7 @@ module _ (m : Memory) (out : List ℕ) (e : isTaken (writeCall m out .answer) �
   written-back : (m′ : Memory) → memoryShort m′ ≡ false → WrittenThenRead m m′ out
   unfolding onto taken
   written-back m′ f =
-      let w : readCall m′ (written m out) ≡ taken (onto m m′) [] [] =
+      let w : readCall m′ (written m out) ≡ taken (onto m m′) [] (0 ∷ []) =
       ap (readCall m′) (in-front _ m image out wrote) ∙ write-then-read m m′ out can-write (long-of m′ f) in
       let long = sound-written .long in
       record {

@@ -53,7 +53,7 @@ module _ (m : Memory) where
       let z = taken-zero m (readRefusal m im) [] _ _ e in
       let k = read-taken m im z in
       let S = loaded-ok (m .state) (m .tables) im (k .0) (k .1) in
-      record { sound = subst SoundAfter (sym (taken-is (readRefusal m im) (refused m [] 0) _ z)) S; silent = quiet m (read im) (λ x a. refl) }
+      record { sound = subst SoundAfter (sym (taken-is (readRefusal m im) _ _ z)) S; silent = quiet m (read im) (λ x a. refl) }
   started (begin id g) e = absurd (false≢true e)
   started (deliver x y) e = absurd (false≢true e)
   started (lookup u z) e = absurd (false≢true e)

@@ -3,7 +3,7 @@ use Prim.Native.Nat.{ℕ, _+_}
 use mathlib.Core.Path.{_≡_, refl, ap, _∙_}
 use mathlib.Core.Logic.{_≢_}
 use mathlib.Core.Bool.{Bool, false, cond, _&&_, and-false}
-use mathlib.Core.List.{List, []}
+use mathlib.Core.List.{List, [], _∷_}
 use native.Mathlib.Decide.{ℕ-discrete}
 use borrow.Author.Tests.{ne-eqb}
 use Rattle.model.specs.Memory.{Memory}
@@ -48,7 +48,7 @@ module _ (m : Memory) where
   unfolding starts step after foundCall readCall beginCall deliverCall lookupCall surveyCall verdictCall writeCall soundCall
   effect (found b d K id) f =
       still (not-taken-same m _ [] _ _ [] [] f) (quiet m (found b d K id) (λ x a. refl))
-  effect (read im) f = still (not-taken-same m _ [] _ _ [] [] f) (quiet m (read im) (λ x a. refl))
+  effect (read im) f = still (not-taken-same m _ [] _ _ [] (0 ∷ []) f) (quiet m (read im) (λ x a. refl))
   effect (begin id g) f = go (ℕ-discrete (beginRefusal m id g) 0)
     where
       go : Dec (beginRefusal m id g ≡ 0) → Effect m (begin id g)

@@ -1,6 +1,7 @@
--- The three demands, and the total of a survey, as statements about the book's calls. docs/SOURCES.md says what they are.
+-- The three demands, the total of a survey, and what reading says of records, as statements about the book's calls. docs/SOURCES.md says what they are.
 pub mod Fixed
 pub mod Demand1
 pub mod Demand2
 pub mod Promise
 pub mod Survey
+pub mod Records

@@ -9,14 +9,14 @@ use Rattle.model.specs.Join.{founded}
 use Rattle.model.specs.Lookup.{nextHop, veryHopsWithin, lastOf, answerOf, lookup}
 use Rattle.model.specs.Survey.{arrivesIn, isLost, countPairs, surveyCounts}
 use Rattle.model.specs.Consistency.{howMany, entryWhole, levelWhole, nodeWhole, consistent, firstShort, verdict}
-use Rattle.model.specs.Image.{imId, lengthRight, sameEntry, risesFrom, recOrdered, recAllowed, recOwnerFirst, ownHasRecord, ownHaveRecords, recordsGood, loadRecord, loaded}
-use Rattle.model.specs.Refusals.{firstTrue, foundRefusal, readRefusal, stateRefusal, lookupRefusal, verdictRefusal}
+use Rattle.model.specs.Image.{imId, lengthRight, sameEntry, risesFrom, recOrdered, recAllowed, recOwnerFirst, ownHasRecord, ownHaveRecords, loadRecord, loaded}
+use Rattle.model.specs.Refusals.{firstTrue, foundRefusal, readRefusal, recordPlace, stateRefusal, lookupRefusal, verdictRefusal}
 use Rattle.model.specs.Calls.{refusedAt, taken, unlessRefused, foundCall, readCall, lookupCall, surveyCall, verdictCall}
-use Rattle.worked.specs.Examples.{dirty, founding, reading, verdictOn, lookupOn, surveyOn, headOfE1, rec, E1, E1Short, Worked, Surveyed}
+use Rattle.worked.specs.Examples.{dirty, founding, reading, verdictOn, lookupOn, surveyOn, headOfE1, rec, E1, E1Short, three, Worked, Surveyed, Damaged}
 
 -- what the examples compute with
 unfoldable pub computing : Unit {0}
-unfolding allBelow anyBelow countBelow sumBelow firstBelow eachBelow joinBelow settingsInRange digitOf validId commonSuffix lowDigits withNode hasNode tableOf withTable qualified entrySize append ownTable hasNewId slotSound entrySound levelSound inSystemSound joiningSound copyingSound waitingSound pendingSound notifiedSound notifyingSound statusSound allZero stateRestZero tablesRestZero tableSound unusedZero sound founded nextHop veryHopsWithin lastOf answerOf lookup arrivesIn isLost countPairs surveyCounts howMany entryWhole levelWhole nodeWhole consistent firstShort verdict imId lengthRight sameEntry risesFrom recOrdered recAllowed recOwnerFirst ownHasRecord ownHaveRecords recordsGood loadRecord loaded firstTrue foundRefusal readRefusal stateRefusal lookupRefusal verdictRefusal refusedAt taken unlessRefused foundCall readCall lookupCall surveyCall verdictCall dirty founding reading verdictOn lookupOn surveyOn headOfE1 rec E1 E1Short
+unfolding allBelow anyBelow countBelow sumBelow firstBelow eachBelow joinBelow settingsInRange digitOf validId commonSuffix lowDigits withNode hasNode tableOf withTable qualified entrySize append ownTable hasNewId slotSound entrySound levelSound inSystemSound joiningSound copyingSound waitingSound pendingSound notifiedSound notifyingSound statusSound allZero stateRestZero tablesRestZero tableSound unusedZero sound founded nextHop veryHopsWithin lastOf answerOf lookup arrivesIn isLost countPairs surveyCounts howMany entryWhole levelWhole nodeWhole consistent firstShort verdict imId lengthRight sameEntry risesFrom recOrdered recAllowed recOwnerFirst ownHasRecord ownHaveRecords loadRecord loaded firstTrue foundRefusal readRefusal recordPlace stateRefusal lookupRefusal verdictRefusal refusedAt taken unlessRefused foundCall readCall lookupCall surveyCall verdictCall dirty founding reading verdictOn lookupOn surveyOn headOfE1 rec E1 E1Short three
 computing = tt
 
 pub worked : Worked
@@ -26,3 +26,7 @@ worked = record { p1 = refl; p2 = refl; p3 = refl; p4 = refl; p5 = refl; p6 = re
 pub surveyed : Surveyed
 unfolding computing
 surveyed = record { e1 = refl; e1-short = refl; one = refl }
+
+pub damaged : Damaged
+unfolding computing
+damaged = record { below = refl; level = refl; unqualified = refl; number-first = refl; over = refl; absent = refl; empty = refl; misplaced = refl; absent-first = refl }

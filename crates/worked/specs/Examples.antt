@@ -1,4 +1,5 @@
--- P1 to P12 of document 01, "Trials at the edges", as one list about the book's definitions, and the surveys of its images (document 02, Ticket 1).
+-- P1 to P12 of document 01, "Trials at the edges", as one list about the book's definitions; the surveys of its images (document 02, Ticket 1); and
+-- what reading says of damaged ones (Ticket 2).
 use Prim.Native.Nat.{ℕ}
 use mathlib.Core.Path.{_≡_}
 use mathlib.Core.List.{List, [], _∷_}
@@ -47,6 +48,11 @@ unfoldable pub E1Short : List ℕ
 unfolding headOfE1 rec
 E1Short = headOfE1 5 (rec 1 0 0 1 (rec 1 1 0 1 (rec 2 0 0 1 (rec 2 0 1 2 (rec 2 1 0 2 [])))))
 
+-- three nodes, 00, 01 and 10, with these records, six unless one is left out
+unfoldable pub three : ℕ → List ℕ → List ℕ
+three count records =
+    4 ∷ 1 ∷ 2 ∷ 2 ∷ 1 ∷ 3 ∷ 0 ∷ 0 ∷ 0 ∷ 0 ∷ 1 ∷ 0 ∷ 0 ∷ 0 ∷ 16 ∷ 0 ∷ 0 ∷ 0 ∷ count ∷ 0 ∷ records
+
 -- The list. An answer is the refusal and then the call's fields.
 pub record Worked : Type 0 where
   -- b 8, d 5: the common suffix of 10261 and five ids. Excluded: counting digits from the left (P1 would be 1, P4 2); counting every equal
@@ -83,3 +89,23 @@ pub record Surveyed : Type 0 where
   pub e1-short : surveyOn (reading E1Short) ≡ 0 ∷ 1 ∷ 0 ∷ 0 ∷ 0 ∷ 0 ∷ 0 ∷ 0 ∷ 0 ∷ 1 ∷ []
   -- One node has no pairs.
   pub one : surveyOn (founding 8 5 2 0x10261) ≡ 0 ∷ 0 ∷ 0 ∷ 0 ∷ 0 ∷ 0 ∷ 0 ∷ 0 ∷ 0 ∷ 0 ∷ []
+
+-- Reading damaged images: the refusal and the place.
+pub record Damaged : Type 0 where
+  -- E1 with its second record before its first. Excluded: the place of the record before the one that is below, or counted from 0.
+  pub below : reading (headOfE1 6 (rec 1 0 1 2 (rec 1 0 0 1 (rec 1 1 0 1 (rec 2 0 0 1 (rec 2 0 1 2 (rec 2 1 0 2 []))))))) .answer ≡ 10 ∷ 2 ∷ []
+  -- E1 with level 2 in its third record
+  pub level : reading (headOfE1 6 (rec 1 0 0 1 (rec 1 0 1 2 (rec 1 2 0 1 (rec 2 0 0 1 (rec 2 0 1 2 (rec 2 1 0 2 []))))))) .answer ≡ 10 ∷ 3 ∷ []
+  -- E1 with node 1, whose digit is 0, as neighbour for digit 1
+  pub unqualified : reading (headOfE1 6 (rec 1 0 0 1 (rec 1 0 1 1 (rec 1 1 0 1 (rec 2 0 0 1 (rec 2 0 1 2 (rec 2 1 0 2 []))))))) .answer ≡ 17 ∷ 2 ∷ []
+  -- the same, and level 2 in the last record. Excluded: the number of the first bad record.
+  pub number-first : reading (headOfE1 6 (rec 1 0 0 1 (rec 1 0 1 1 (rec 1 1 0 1 (rec 2 0 0 1 (rec 2 0 1 2 (rec 2 2 0 2 []))))))) .answer ≡ 10 ∷ 6 ∷ []
+  -- E1 with its second record twice: the second finds its entry full, as K is 1. Excluded: the place of the first of its entry.
+  pub over : reading (headOfE1 7 (rec 1 0 0 1 (rec 1 0 1 2 (rec 1 0 1 2 (rec 1 1 0 1 (rec 2 0 0 1 (rec 2 0 1 2 (rec 2 1 0 2 [])))))))) .answer ≡ 17 ∷ 3 ∷ []
+  -- E1 without its third record, and without any
+  pub absent : reading (headOfE1 5 (rec 1 0 0 1 (rec 1 0 1 2 (rec 2 0 0 1 (rec 2 0 1 2 (rec 2 1 0 2 [])))))) .answer ≡ 18 ∷ 0 ∷ []
+  pub empty : reading (headOfE1 0 []) .answer ≡ 18 ∷ 0 ∷ []
+  -- node 3 first in an own entry of node 1
+  pub misplaced : reading (three 6 (rec 1 0 0 3 (rec 1 1 0 1 (rec 2 0 1 2 (rec 2 1 0 2 (rec 3 0 0 3 (rec 3 1 1 3 []))))))) .answer ≡ 18 ∷ 1 ∷ []
+  -- the same without the fourth record. Excluded: a misplaced owner before an absent own entry.
+  pub absent-first : reading (three 5 (rec 1 0 0 3 (rec 1 1 0 1 (rec 2 0 1 2 (rec 3 0 0 3 (rec 3 1 1 3 [])))))) .answer ≡ 18 ∷ 0 ∷ []
