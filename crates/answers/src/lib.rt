@@ -1,6 +1,12 @@
-// What the calls answer, and the refusals by name. Founding and reading answer the refusal alone, 0 for none. In the others it is the first
-// field, or of a delivery a kind of its own, and on a refusal every other field is zero or false.
+// What the calls answer, and the refusals by name. Founding and `sound` answer the refusal alone, 0 for none. In the others it is the first
+// field, or of a delivery a kind of its own, and on a refusal every other field is zero or false, but for the place that reading gives.
 pub mod refusal;
+
+// Reading an image: with refusals 10, 17 and 18 the place of the record, counted from 1, or 0 where an own entry has no record.
+pub struct ReadAnswer {
+    pub refusal: u64,
+    pub place: u64,
+}
 
 // Beginning a join: the new node's number.
 pub struct BeginAnswer {

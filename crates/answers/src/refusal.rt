@@ -1,4 +1,4 @@
-// The refusals by name: document 01, "What a call declines". include/overlay.h has the same names behind OVERLAY_.
+// The refusals by name: document 01, "What a call declines", and document 02, Ticket 2. include/overlay.h has the same names behind OVERLAY_.
 pub struct Refusal {
     pub number: u64,
 }
@@ -31,8 +31,8 @@ impl Refusal {
     // a number of the call, or of a record of the image, is no node's
     pub const NO_SUCH_NODE: u64 = 9;
 
-    // the image's records are out of order or break a rule of the tables
-    pub const BAD_RECORDS: u64 = 10;
+    // a record's level or digit is out of range, or it is below the one before it
+    pub const RECORD_ORDER: u64 = 10;
 
     // there are 64 nodes
     pub const FULL: u64 = 11;
@@ -51,4 +51,10 @@ impl Refusal {
 
     // the memory for the image is too short
     pub const SHORT_OUTPUT: u64 = 16;
+
+    // a record's neighbour isn't qualified for its entry, is in it already, or finds it full
+    pub const RECORD_NEIGHBOR: u64 = 17;
+
+    // an own entry has no record, or does not start with its owner
+    pub const OWN_ENTRY: u64 = 18;
 }

@@ -7,15 +7,17 @@ use borrow.Author.Tests.{not-false}
 use Rattle.model.specs.Memory.{Memory, stateLength, tablesLength}
 use Rattle.model.specs.Lookup.{Lookup}
 use Rattle.model.specs.Consistency.{Verdict}
-use Rattle.model.specs.Calls.{Outcome, refusedAt, refused, taken, lookupFields, verdictFields, soundCall}
-use Rattle.model.specs.Image.{byteAt, imageOf}
-use Rattle.model.specs.Refusals.{foundRefusal, readRefusal, beginRefusal, deliverRefusal, lookupRefusal, verdictRefusal, writeRefusal, stateRefusal}
-use Rattle.model.proofs.Calls.{either-end}
+use Rattle.model.specs.Calls.{Outcome, refusedAt, refused, taken, lookupFields, verdictFields, readCall, soundCall}
+use Rattle.model.specs.Image.{byteAt, imageOf, loaded}
+use Rattle.model.specs.Refusals.{foundRefusal, readRefusal, recordPlace, beginRefusal, deliverRefusal, lookupRefusal, verdictRefusal, writeRefusal, stateRefusal}
+use Rattle.model.proofs.Calls.{either-end, refused-end, taken-end, work-left}
 use Rattle.model.proofs.Refusals.{numbered, testOf, passed}
 use Rattle.model.proofs.Sound.{Sound}
 use Rattle.model.proofs.Status.{IsNode}
 use Rattle.model.proofs.Sender.{CanDeliver}
 use Rattle.model.proofs.Taken.{state-taken, found-taken, read-taken, begin-taken, deliver-taken, lookup-taken, verdict-taken, write-taken}
+use Rattle.answers.specs.declared.ReadAnswer.{ReadAnswer}
+use Rattle.image_judging.specs.Judged.{answerOf}
 use Rattle.image_judging.proofs.Sentences.{counted-of}
 use Rattle.join.specs.Begins.{Begins}
 use Rattle.image_loading.specs.Loads.{Loads}
@@ -39,6 +41,29 @@ sound-is m r e =
     ∙ either-end (λ (o : Outcome). leaves m (stateRefusal m ∷ []) ≡ o) (stateRefusal m) (refused m [] 0) (taken m [] []) (λ nz. refl)
     (λ z. ap (λ (r : ℕ). leaves m (r ∷ [])) z)
 
+-- reading: a is the answer that the code found
+module _ (m : Memory) (im : List ℕ) (a : ReadAnswer) (e : a ≡ answerOf im (readRefusal m im)) where
+  number : a .refusal ≡ readRefusal m im
+  unfolding answerOf
+  number = ap (λ (a : ReadAnswer). a .refusal) e
+
+  pub read-refused : (a .refusal ≡ 0 → ⊥) → leaves m (a .refusal ∷ a .place ∷ []) ≡ readCall m im
+  unfolding readCall answerOf
+  read-refused nz =
+      ap (λ (a : ReadAnswer). leaves m (a .refusal ∷ a .place ∷ [])) e
+      ∙ refused-end m [] (recordPlace im (readRefusal m im) ∷ []) (readRefusal m im) (readRefusal m im) _ refl (λ z. nz (number ∙ z))
+
+  pub read-done : (m₁ : Memory) → a .refusal ≡ 0 → m₁ ≡ loaded (m .state) (m .tables) im → leaves m₁ (0 ∷ 0 ∷ []) ≡ readCall m im
+  unfolding readCall
+  read-done m₁ z q = taken-end (readRefusal m im) (a .refusal) _ _ _ number z (work-left m₁ _ [] [] (0 ∷ []) (0 ∷ []) q refl refl)
+
+  pub loads : ((a : ℕ) → byteAt im a < 256) → a .refusal ≡ 0 → Loads (m .state) (m .tables) im
+  unfolding readRefusal numbered testOf
+  loads bytes z =
+      let k = read-taken m im (sym number ∙ z) in
+      let p = passed _ refl (sym number ∙ z) in
+      record { state = k .0 .state; tables = k .0 .tables; counts = counted-of im bytes (not-false _ (p 5)) (p 6); good = k .1 }
+
 -- r is the refusal that the code found
 module _ (m : Memory) (r : ℕ) where
   abbrev s : List ℕ
@@ -51,13 +76,6 @@ module _ (m : Memory) (r : ℕ) where
   founds b d K id e z =
       let k = found-taken m b d K id (sym e ∙ z) in
       (k .long .state, (k .long .tables, k .range .digits-most))
-
-  pub loads : (im : List ℕ) → ((a : ℕ) → byteAt im a < 256) → r ≡ readRefusal m im → r ≡ 0 → Loads s t im
-  unfolding readRefusal numbered testOf
-  loads im bytes e z =
-      let k = read-taken m im (sym e ∙ z) in
-      let p = passed _ refl (sym e ∙ z) in
-      record { state = k .0 .state; tables = k .0 .tables; counts = counted-of im bytes (not-false _ (p 5)) (p 6); good = k .1 }
 
   pub begins : (id g : ℕ) → r ≡ beginRefusal m id g → r ≡ 0 → Begins s t
   begins id g e z =

@@ -10,22 +10,15 @@ use lib.ListN.{length, getD, set, replicate, length-set, length-replicate, getD-
 use lib.Seq.{getD-set-same, getD-set-other}
 use borrow.Author.Tests.{eq-eqb, ne-eqb}
 use Rattle.model.specs.Loops.{allBelow, anyBelow, node}
-use Rattle.model.specs.Ids.{digitOf}
-use Rattle.model.specs.Image.{imDigits, imNodes, imRecords, imId, recNode, recLevel, recOwn, recOfOwn, ownHasRecord, ownHaveRecords}
-use Rattle.model.proofs.Bools.{and-left, and-intro}
-use Rattle.model.proofs.Loops.{all-at, all-same, any-zero, any-step}
-use Rattle.model.proofs.RecordRules.{in-order}
+use Rattle.model.specs.Image.{imDigits, imNodes, imRecords, recNode, recLevel, recOwn, recOfOwn, ownHasRecord, ownHaveRecords}
+use Rattle.model.proofs.Bools.{and-intro}
+use Rattle.model.proofs.Loops.{all-same, any-zero, any-step}
 use Rattle.image_fields.specs.Parts.{CountsRight, Headed, ImageNode, RecordOf}
-use Rattle.image_judging.specs.Judged.{RecordsNamed, recGood}
-use Rattle.image_judging.specs.Marks.{ownPlace, isMarked, levelsMarked, markedBy, RecordsGood, Marks}
+use Rattle.image_judging.specs.Judged.{RecordsNamed}
+use Rattle.image_judging.specs.Marks.{ownPlace, isMarked, levelsMarked, markedBy, Marks}
 use Rattle.image_fields.specs.declared.header.Header.{Header}
 use Rattle.image_fields.specs.declared.record.Record.{Record}
-use Rattle.image_judging.proofs.Rules.{owner-node, owner-held}
-
--- the level of a record that keeps its order
-pub level-below : (im : List ℕ) → RecordsGood im → (r : ℕ) → r < imRecords im → recLevel im r < imDigits im
-unfolding recGood
-level-below im s r l = in-order im r (and-left _ _ (all-at (imRecords im) (recGood im) (s .good) r l)) .level
+use Rattle.image_judging.proofs.Rules.{owner-node}
 
 pub marks-none : (im : List ℕ) → Marks im 0 (replicate 512 0)
 unfolding isMarked
@@ -92,48 +85,28 @@ module _ (im : List ℕ) (r : ℕ) (own : List ℕ) (m : Marks im r own) (n : Im
     mark-one true e = set-mark e
     mark-one false e = kept own refl (of-other false e (λ px pi. refl))
 
-  pub mark-goes : (own′ : List ℕ) → own′ ≡ markedBy im r own → Marks im (r + 1) own′
-  unfolding markedBy
-  mark-goes own′ e =
-      subst (Marks im (r + 1)) (sym e)
-      (record {
-        whole = whole (recOwn im r);
-        marked = λ x i a b h. mark-one x i a b h (recOwn im r) refl ∙ sym (any-step r (recOfOwn im x i));
-      })
+  pub mark-goes : Marks im (r + 1) (cond (recOwn im r) (set own place 1) own)
+  mark-goes = record {
+    whole = whole (recOwn im r);
+    marked = λ x i a b h. mark-one x i a b h (recOwn im r) refl ∙ sym (any-step r (recOfOwn im x i));
+  }
 
-pub marks-go : (im : List ℕ) (r : ℕ) (own own′ : List ℕ) → CountsRight im → RecordsNamed im → RecordsGood im → r < imRecords im → Marks im r own
-    → own′ ≡ markedBy im r own → Marks im (r + 1) own′
-marks-go im r own own′ w n s l m =
-    mark-goes im r own m (owner-node im n r l) (w .few) (omega (arith, level-below im s r l, w .digits)) own′
+-- record r, held as e
+pub marks-go : (im : List ℕ) (r : ℕ) (e : Record) (b : Bool) (own own′ : List ℕ) → CountsRight im → RecordsNamed im → r < imRecords im
+    → RecordOf im r e → e .level < 8 → b ≡ recOwn im r → Marks im r own → own′ ≡ markedBy e b own → Marks im (r + 1) own′
+unfolding markedBy
+marks-go im r e b own own′ w n l o low q m i =
+    subst (Marks im (r + 1)) (sym (i ∙ rw (q, o .node, o .level)))
+    (mark-goes im r own m (owner-node im n r l) (w .few) (omega (arith, o .level)))
 
-pub marks-end : (im : List ℕ) (n r : ℕ) (own : List ℕ) → n ≡ imRecords im → Marks im r own → r ≤ n → n ≤ r → Marks im (imRecords im) own
-marks-end im n r own e m l g = subst (λ (k : ℕ). Marks im k own) (omega arith) m
+-- the code's mark
+pub mark-own : (e : Record) (b : Bool) (own : List ℕ) → b ≡ true → set own (8 * (e .node - 1) + e .level) 1 ≡ markedBy e b own
+unfolding markedBy
+mark-own e b own g = rw g
 
--- the mark of record r, held as e, lies within the marks
-module _ (im : List ℕ) (r : ℕ) (e : Record) (n : RecordsNamed im) (l : r < imRecords im) (o : RecordOf im r e) where
-  pub node-least : 1 ≤ e .node
-  node-least = owner-held im r e n l o .first
-
-  pub place-within : (own : List ℕ) → CountsRight im → RecordsGood im → length own ≡ 512 → 8 * (e .node - 1) + e .level < length own
-  place-within own w s q =
-      let x = owner-held im r e n l o in
-      omega (arith, x .first, x .last, w .few, w .digits, o .level, level-below im s r l)
-
--- the code's mark, with record r held as e
-module _ (im : List ℕ) (r : ℕ) (e : Record) (own : List ℕ) (o : RecordOf im r e)
-    (a : Bool) (ea : a ≡ eqb (e .digit) (digitOf (imId im (e .node)) (e .level))) where
-  own-is : a ≡ recOwn im r
-  own-is = ea ∙ rw (o .node, o .level, o .digit)
-
-  pub mark-own : a ≡ true → set own (8 * (e .node - 1) + e .level) 1 ≡ markedBy im r own
-  unfolding markedBy
-  mark-own g =
-      ap₂ (λ (x i : ℕ). set own (ownPlace x i) 1) (o .node) (o .level)
-      ∙ ap (λ (b : Bool). cond b (set own (ownPlace (recNode im r) (recLevel im r)) 1) own) (sym g ∙ own-is)
-
-  pub mark-other : a ≡ false → own ≡ markedBy im r own
-  unfolding markedBy
-  mark-other g = ap (λ (b : Bool). cond b (set own (ownPlace (recNode im r) (recLevel im r)) 1) own) (sym g ∙ own-is)
+pub mark-other : (e : Record) (b : Bool) (own : List ℕ) → b ≡ false → own ≡ markedBy e b own
+unfolding markedBy
+mark-other e b own g = rw g
 
 -- every own entry is marked where each has a record
 pub marks-say : (im own : List ℕ) → Marks im (imRecords im) own → CountsRight im

@@ -1,40 +1,42 @@
--- What judging a record finds, from what its steps say. Assumes nothing.
+-- What judging a record and the walk over the records leave, from what their steps say. Assumes nothing.
 use Prim.Native.Nat.{ℕ, _+_, _-_, _≤_, _<_}
 use mathlib.Core.Path.{_≡_, sym, ap, subst, _∙_}
-use mathlib.Core.Bool.{Bool, true, false, not, _&&_, and-false}
+use mathlib.Core.Bool.{Bool, true, false, not}
 use mathlib.Core.List.{List}
 use native.Mathlib.Omega.{arith}
-use borrow.Author.Tests.{not-true, not-false}
+use borrow.Author.Tests.{not-true, not-false, ltb-true}
+use lib.Dec.{eqb}
 use Rattle.model.specs.Loops.{allBelow}
-use Rattle.model.specs.Image.{imRecords, recOrdered, recAllowed, recOwnerFirst}
-use Rattle.model.proofs.Bools.{and-intro}
-use Rattle.model.proofs.Loops.{all-false, all-ends}
+use Rattle.model.specs.Ids.{digitOf}
+use Rattle.model.specs.Image.{imId, imRecords, recOwn, recOrdered, recAllowed, recOwnerFirst}
+use Rattle.model.proofs.Bools.{and-left}
 use Rattle.image_fields.specs.Parts.{Headed, RecordOf, keyOf}
-use Rattle.image_judging.specs.Judged.{RecordsNamed, recGood}
-use Rattle.image_judging.specs.Cursors.{Follows, Enters, keepsOrder, started, entered, passed, Finds}
+use Rattle.image_judging.specs.Judged.{RecordsNamed}
+use Rattle.image_judging.specs.Faults.{faultBelow}
+use Rattle.image_judging.specs.Cursors.{Follows, Enters, keepsOrder, ownerLeads, started, entered, passed}
+use Rattle.image_judging.specs.Marks.{Marks}
+use Rattle.image_judging.specs.Walked.{Walked}
 use Rattle.image_fields.specs.declared.header.Header.{Header}
 use Rattle.image_fields.specs.declared.record.Record.{Record}
 use Rattle.image_judging.specs.declared.cursor.Cursor.{Cursor}
-use Rattle.image_judging.specs.declared.cursor.Finding.{Finding}
-use Rattle.image_judging.specs.declared.cursor.Finding.the-variants.{Good, Disordered, Forbidden, OwnerNotFirst}
-use Rattle.image_judging.proofs.Rules.{key-held, order-held, order-rises, neighbor-held}
+use Rattle.image_judging.proofs.Faults.{none-fault, fault-here}
+use Rattle.image_judging.proofs.Rules.{key-held, order-held, order-rises, neighbor-held, first-held}
 use Rattle.image_judging.proofs.Runs.{start-follows, enter-enters, enter-next, pass-follows}
 
+-- ---- a record in its order is judged
+
 module _ (im : List ℕ) (h : Header) (c : Cursor) (e : Record) (w : Headed im h) (f : Follows im c) (o : RecordOf im (c .next) e)
-    (b : Bool) (q : b ≡ keepsOrder h c e) where
-  ordered : b ≡ recOrdered im (c .next)
-  ordered = q ∙ order-held im (w .counted) c f h e w o
+    (q : keepsOrder h c e ≡ true) where
+  pub ordered : recOrdered im (c .next) ≡ true
+  ordered = sym (order-held im (w .counted) c f h e w o) ∙ q
 
-  pub finds-disordered : not b ≡ true → Finds im (c .next) Disordered
-  finds-disordered g = sym ordered ∙ not-true b g
-
-  module _ (g : not b ≡ false) (k : ℕ) (p : k ≡ keyOf e) (d : Cursor) (v : d ≡ entered c k) where
+  module _ (k : ℕ) (p : k ≡ keyOf e) (d : Cursor) (v : d ≡ entered c k) where
     pub entry-next : d .next ≡ c .next
     entry-next = ap (λ (d : Cursor). d .next) v ∙ enter-next c k
 
     pub entry-enters : Enters im d
     entry-enters =
-        let rises : c .key ≤ keyOf e = order-rises h c e (sym q ∙ not-false b g) in
+        let rises : c .key ≤ keyOf e = order-rises h c e q in
         subst (Enters im) (sym v) (enter-enters im c f k (omega arith) (p ∙ key-held im (c .next) e o))
 
     pub entry-record : RecordOf im (d .next) e
@@ -43,70 +45,63 @@ module _ (im : List ℕ) (h : Header) (c : Cursor) (e : Record) (w : Headed im h
     pub entry-within : c .next < imRecords im → d .next < imRecords im
     entry-within l = omega (arith, entry-next)
 
-    module _ (a : Bool) (ea : a ≡ recAllowed im (d .next)) where
-      pub finds-forbidden : not a ≡ true → Finds im (c .next) Forbidden
-      finds-forbidden z = ap (recAllowed im) (sym entry-next) ∙ sym ea ∙ not-true a z
+    pub past-is : RecordsNamed im → c .next < imRecords im → (own a t : Bool) → own ≡ recOwn im (c .next) → a ≡ recAllowed im (d .next)
+        → t ≡ ownerLeads d e own → (s : Cursor) → s ≡ passed d (e .neighbor) a t → (s .next ≡ c .next + 1) × Follows im s
+    past-is n l own a t z ea et s i = (
+      ap (λ (s : Cursor). s .next) i ∙ ap (λ (r : ℕ). r + 1) entry-next,
+      subst (Follows im) (sym i)
+          (pass-follows im d entry-enters (e .neighbor) (entry-record .neighbor) (neighbor-held im (c .next) e n l o .first)
+          (ap (recOrdered im) entry-next ∙ ordered) a t ea
+          (et ∙ first-held im (w .counted) d entry-enters e own entry-record (z ∙ ap (recOwn im) (sym entry-next)))),
+    )
 
-      module _ (za : not a ≡ false) (t : Bool) (et : t ≡ recOwnerFirst im (d .next)) where
-        pub finds-not-first : not t ≡ true → Finds im (c .next) OwnerNotFirst
-        finds-not-first z = ap (recOwnerFirst im) (sym entry-next) ∙ sym et ∙ not-true t z
+-- ---- the walk
 
-        pub finds-good : not t ≡ false → RecordsNamed im → c .next < imRecords im → (s : Cursor) → s ≡ passed d (e .neighbor)
-            → Finds im (c .next) (Good s)
-        unfolding recGood
-        finds-good z n l s i =
-            let good : recGood im (d .next) ≡ true =
-            and-intro _ _ (ap (recOrdered im) entry-next ∙ sym ordered ∙ not-false b g)
-            (and-intro _ _ (sym ea ∙ not-false a za) (sym et ∙ not-false t z)) in (
-              ap (λ (s : Cursor). s .next) i ∙ ap (λ (r : ℕ). r + 1) entry-next,
-              subst (Follows im) (sym i)
-                  (pass-follows im d entry-enters (e .neighbor) (entry-record .neighbor)
-                  (neighbor-held im (c .next) e n l o .first) good),
-            )
+-- what the walk holds before each record
+abbrev pub Walking : List ℕ → Cursor → List ℕ → Type 0
+Walking im c own = (c .next ≤ imRecords im) × (Follows im c × Marks im (c .next) own)
 
--- ---- the loop over the records
+pub start-held : (im : List ℕ) (c : Cursor) (own : List ℕ) → c ≡ started → Marks im 0 own → Walking im c own
+start-held im c own e m = subst (λ (d : Cursor). Walking im d own) (sym e) (omega arith, (start-follows im, m))
 
-pub start-held : (im : List ℕ) (c : Cursor) → c ≡ started → (c .next ≤ imRecords im) × Follows im c
-start-held im c e = (subst (λ (d : Cursor). d .next ≤ imRecords im) (sym e) (omega arith), subst (Follows im) (sym e) (start-follows im))
+pub kept : (h : Header) (c : Cursor) (e : Record) (b : Bool) → b ≡ keepsOrder h c e → not b ≡ false → keepsOrder h c e ≡ true
+kept h c e b q g = sym q ∙ not-false b g
 
-module _ (im : List ℕ) (h : Header) (d : Headed im h) (c : Cursor) (l : c .next < h .records) (f : Finding) (w : Finds im (c .next) f) where
-  module _ (past : Cursor) (e : f ≡ Good past) where
-    goes-on : (past .next ≡ c .next + 1) × Follows im past
-    goes-on = subst (Finds im (c .next)) e w
+-- past one record
+pub step-held : (im : List ℕ) (r : ℕ) (past : Cursor) (own : List ℕ) → r < imRecords im → (past .next ≡ r + 1) × Follows im past → Marks im (r + 1) own
+    → Walking im past own
+step-held im r past own l (e, f) m = (omega arith, (f, subst (λ (k : ℕ). Marks im k own) (sym e) m))
 
-    pub read-less : h .records - past .next < h .records - c .next
-    read-less = omega (arith, goes-on .0)
+-- the record's own entry, as the code finds it
+pub own-held : (im : List ℕ) (r : ℕ) (e : Record) (b : Bool) → RecordOf im r e → b ≡ eqb (e .digit) (digitOf (imId im (e .node)) (e .level)) → b ≡ recOwn im r
+own-held im r e b o q = q ∙ rw (o .node, o .level, o .digit)
 
-    pub read-within : past .next ≤ imRecords im
-    read-within = omega (arith, goes-on .0, d .records)
+-- the level of a record in its order
+pub level-low : (im : List ℕ) (h : Header) (c : Cursor) (e : Record) → Headed im h → keepsOrder h c e ≡ true → e .level < 8
+unfolding keepsOrder
+level-low im h c e w q = omega (arith, ltb-true (e .level) (h .digits) (and-left _ _ q), w .digits, w .counted .digits)
 
-    pub read-follows : Follows im past
-    read-follows = goes-on .1
+-- it ends at a record out of order, or behind the last
+module _ (im : List ℕ) (h : Header) (w : Headed im h) (c : Cursor) (f : Follows im c) (own : List ℕ) where
+  pub ends-early : (e : Record) → RecordOf im (c .next) e → c .next < h .records → (b : Bool) → b ≡ keepsOrder h c e → not b ≡ true
+      → Walked im (record { disordered = c .next + 1; forbidden = c .forbidden; misplaced = c .misplaced }) own
+  ends-early e o l b q g =
+      record {
+        disordered =
+            fault-here (imRecords im) (recOrdered im) (c .next) (omega (arith, w .records)) (f .ordered)
+            (sym (order-held im (w .counted) c f h e w o) ∙ sym q ∙ not-true b g);
+        through = λ z. absurd (omega arith);
+      }
 
-  -- a record that is not good ends the loop
-  stop : recGood im (c .next) ≡ false → false ≡ allBelow (imRecords im) (recGood im)
-  stop z = sym (all-false (imRecords im) (recGood im) (c .next) (omega (arith, d .records)) z)
-
-  pub stop-disordered : f ≡ Disordered → false ≡ allBelow (imRecords im) (recGood im)
-  unfolding recGood
-  stop-disordered e =
-      stop (ap (λ (b : Bool). b && (recAllowed im (c .next) && recOwnerFirst im (c .next))) (subst (Finds im (c .next)) e w))
-
-  pub stop-forbidden : f ≡ Forbidden → false ≡ allBelow (imRecords im) (recGood im)
-  unfolding recGood
-  stop-forbidden e =
-      stop
-      (ap (λ (b : Bool). recOrdered im (c .next) && (b && recOwnerFirst im (c .next))) (subst (Finds im (c .next)) e w)
-      ∙ and-false (recOrdered im (c .next)))
-
-  pub stop-not-first : f ≡ OwnerNotFirst → false ≡ allBelow (imRecords im) (recGood im)
-  unfolding recGood
-  stop-not-first e =
-      stop
-      (ap (λ (b : Bool). recOrdered im (c .next) && (recAllowed im (c .next) && b)) (subst (Finds im (c .next)) e w)
-      ∙ ap (λ (b : Bool). recOrdered im (c .next) && b) (and-false (recAllowed im (c .next)))
-      ∙ and-false (recOrdered im (c .next)))
-
-pub all-read : (im : List ℕ) (h : Header) → Headed im h → (c : Cursor) → Follows im c → c .next ≤ imRecords im → h .records ≤ c .next
-    → true ≡ allBelow (imRecords im) (recGood im)
-all-read im h d c f l g = all-ends (imRecords im) (recGood im) (c .next) (f .good) l (omega (arith, d .records))
+  pub ends-late : Marks im (c .next) own → c .next ≤ imRecords im → h .records ≤ c .next
+      → Walked im (record { disordered = 0; forbidden = c .forbidden; misplaced = c .misplaced }) own
+  ends-late m l g =
+      let n : c .next ≡ imRecords im = omega (arith, w .records) in
+      record {
+        disordered = none-fault (imRecords im) (recOrdered im) (subst (λ (k : ℕ). allBelow k (recOrdered im) ≡ true) n (f .ordered));
+        through = λ z. record {
+          forbidden = f .forbidden ∙ ap (λ (k : ℕ). faultBelow k (recAllowed im)) n;
+          misplaced = f .misplaced ∙ ap (λ (k : ℕ). faultBelow k (recOwnerFirst im)) n;
+          marked = subst (λ (k : ℕ). Marks im k own) n m;
+        };
+      }

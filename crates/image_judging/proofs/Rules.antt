@@ -9,18 +9,17 @@ use native.Mathlib.Omega.{arith}
 use lib.Dec.{eqb, leb, ltb}
 use borrow.Author.Tests.{eq-eqb, ne-eqb, le-leb, leb-true}
 use Rattle.model.specs.Loops.{anyBelow, countBelow}
-use Rattle.model.specs.Ids.{digitOf}
 use Rattle.model.specs.Memory.{hasNode}
 use Rattle.model.specs.Tables.{qualified}
 use Rattle.model.specs.Image.{imNodes, imId, imRecords, imIsNode, recNode, recLevel, recDigit, recNeighbor}
-use Rattle.model.specs.Image.{recNodesGood, sameEntry, risesFrom, recOrdered, sameNeighbor, recAllowed, recOwnerFirst}
+use Rattle.model.specs.Image.{recNodesGood, sameEntry, risesFrom, recOrdered, sameNeighbor, recAllowed, recOwn, recOwnerFirst}
 use Rattle.model.proofs.Bools.{and-left, and-right, and-leaves, and-goes, true-or-false}
 use Rattle.model.proofs.Early.{true-or-leaves, false-or-goes}
 use Rattle.model.proofs.Loops.{all-at, any-at, any-same, any-found, count-same, count-some, count-none, count-le}
 use Rattle.state.specs.Loaded.{Numbered}
 use Rattle.image_fields.specs.Parts.{CountsRight, Headed, ImageNode, RecordOf, keyOf}
 use Rattle.image_judging.specs.Judged.{RecordsNamed}
-use Rattle.image_judging.specs.Cursors.{recKey, ofEntry, namesIn, Follows, Enters, keepsOrder}
+use Rattle.image_judging.specs.Cursors.{recKey, ofEntry, namesIn, Follows, Enters, keepsOrder, ownerLeads}
 use Rattle.image_fields.specs.declared.header.Header.{Header}
 use Rattle.image_fields.specs.declared.record.Record.{Record}
 use Rattle.image_judging.specs.declared.cursor.Cursor.{Cursor}
@@ -68,7 +67,7 @@ module _ (im : List ℕ) (bytes : CountsRight im) (c : Cursor) (f : Follows im c
           ∙ ap (λ (k : ℕ). leb k (recKey im (c .next))) (sym (f .last (omega arith)))
 
   pub order-held : (h : Header) (e : Record) → Headed im h → RecordOf im (c .next) e → keepsOrder h c e ≡ recOrdered im (c .next)
-  unfolding recOrdered
+  unfolding recOrdered keepsOrder
   order-held h e w o =
       ap₂ (λ (a b : Bool). a && b) (ap₂ ltb (o .level) (w .digits))
       (ap₂ (λ (a b : Bool). a && b) (ap₂ ltb (o .digit) (w .base))
@@ -76,6 +75,7 @@ module _ (im : List ℕ) (bytes : CountsRight im) (c : Cursor) (f : Follows im c
 
 -- the record does not stand below the cursor's entry
 pub order-rises : (h : Header) (c : Cursor) (e : Record) → keepsOrder h c e ≡ true → c .key ≤ keyOf e
+unfolding keepsOrder
 order-rises h c e q =
     leb-true (c .key) (keyOf e) (and-right (ltb (e .digit) (h .base)) _ (and-right (ltb (e .level) (h .digits)) _ q))
 
@@ -125,11 +125,9 @@ module _ (im : List ℕ) (bytes : CountsRight im) (c : Cursor) (w : Enters im c)
       quals = rw (o .node, o .neighbor, o .level, o .digit)
 
   -- an own entry begins with its owner, by what the code holds
-  pub first-held : (e : Record) → RecordOf im (c .next) e
-      → (not (eqb (e .digit) (digitOf (imId im (e .node)) (e .level))) || (not (eqb (c .count) 0) || eqb (e .neighbor) (e .node)))
-      ≡ recOwnerFirst im (c .next)
+  pub first-held : (e : Record) (own : Bool) → RecordOf im (c .next) e → own ≡ recOwn im (c .next) → ownerLeads c e own ≡ recOwnerFirst im (c .next)
   unfolding recOwnerFirst
-  first-held e o = rw (o .node, o .neighbor, o .level, o .digit, some-held)
+  first-held e own o q = rw (q, o .node, o .neighbor, some-held)
 
 -- ---- the ways of the code through these rules
 
@@ -161,23 +159,15 @@ module _ (im : List ℕ) (h : Header) (c : Cursor) (e : Record) (w : Headed im h
           whole _
           (and-goes _ _ a _ quals g (ap (λ (t : Bool). not t && ltb (c .count) (h .depth)) (sym z ∙ eb)))
 
-  module _ (a : Bool) (ea : a ≡ eqb (e .digit) (digitOf (imId im (e .node)) (e .level))) where
-    firsts : (s : Bool) → s ≡ (not a || (not (eqb (c .count) 0) || eqb (e .neighbor) (e .node))) → s ≡ recOwnerFirst im (c .next)
-    firsts s q =
-        q
-        ∙ ap (λ (t : Bool). not t || (not (eqb (c .count) 0) || eqb (e .neighbor) (e .node))) ea
-        ∙ first-held im (w .counted) c v e o
+module _ (c : Cursor) (e : Record) (a : Bool) where
+  pub not-own : not a ≡ true → true ≡ ownerLeads c e a
+  not-own g = true-or-leaves (not a) _ g
 
-    pub not-own : not a ≡ true → true ≡ recOwnerFirst im (c .next)
-    not-own g = firsts true (true-or-leaves (not a) _ g)
+  pub own-begun : not a ≡ false → (c .count ≡ 0 → ⊥) → true ≡ ownerLeads c e a
+  own-begun g z = false-or-goes (not a) _ true g (true-or-leaves _ _ (ap not (ne-eqb (c .count) 0 z)))
 
-    pub own-begun : not a ≡ false → (c .count ≡ 0 → ⊥) → true ≡ recOwnerFirst im (c .next)
-    own-begun g z =
-        firsts true (false-or-goes (not a) _ true g (true-or-leaves _ _ (ap not (ne-eqb (c .count) 0 z))))
-
-    pub own-begins : not a ≡ false → c .count ≡ 0 → eqb (e .neighbor) (e .node) ≡ recOwnerFirst im (c .next)
-    own-begins g z =
-        firsts _ (false-or-goes (not a) _ _ g (false-or-goes _ _ _ (ap not (eq-eqb (c .count) 0 z)) refl))
+  pub own-begins : not a ≡ false → c .count ≡ 0 → eqb (e .neighbor) (e .node) ≡ ownerLeads c e a
+  own-begins g z = false-or-goes (not a) _ _ g (false-or-goes _ _ _ (ap not (eq-eqb (c .count) 0 z)) refl)
 
 -- ---- numbers within their bounds
 
@@ -190,3 +180,6 @@ count-within im c w v l = omega (arith, v .read .count, count-le (c .next) (ofEn
 
 pub next-within : (im : List ℕ) (c : Cursor) → CountsRight im → c .next < imRecords im → c .next < 65535
 next-within im c w l = omega (arith, w .whole, w .short)
+
+pub owner-numbered : (im : List ℕ) (r : ℕ) (e : Record) → CountsRight im → RecordsNamed im → r < imRecords im → RecordOf im r e → Numbered (e .node)
+owner-numbered im r e w n l o = let u = owner-held im r e n l o in record { first = u .first; last = omega (arith, u .last, w .few) }

@@ -12,12 +12,13 @@ use borrow.Author.Count.{below-none, below-more}
 use borrow.Author.Tests.{eqb-true, eqb-false, eq-eqb, ne-eqb}
 use Rattle.model.specs.Loops.{anyBelow}
 use Rattle.model.specs.Memory.{hasNode, addNode}
-use Rattle.model.specs.Image.{recNeighbor}
+use Rattle.model.specs.Image.{recNeighbor, recOrdered, recAllowed, recOwnerFirst}
 use Rattle.model.proofs.Loops.{all-zero, all-step, any-zero, any-step, any-false, count-zero, count-none, count-hit}
 use Rattle.model.proofs.Sets.{has-none, has-added, has-add-other}
-use Rattle.image_judging.specs.Judged.{recGood}
-use Rattle.image_judging.specs.Cursors.{recKey, ofEntry, namesIn, EntryRead, Follows, Enters, started, entered, passed}
+use Rattle.image_judging.specs.Faults.{noted}
+use Rattle.image_judging.specs.Cursors.{recKey, ofEntry, namesIn, EntryRead, Follows, Enters, started, moved, entered, passed}
 use Rattle.image_judging.specs.declared.cursor.Cursor.{Cursor}
+use Rattle.image_judging.proofs.Faults.{fault-zero, fault-next}
 
 -- nothing is read
 nothing : (im : List ℕ) (k : ℕ) → EntryRead im 0 k 0 0
@@ -25,11 +26,13 @@ nothing im k = record { count = sym (count-zero _); names = λ u l. has-none u �
 
 pub start-follows : (im : List ℕ) → Follows im started
 start-follows im = record {
-  good = all-zero (recGood im);
+  ordered = all-zero (recOrdered im);
   below = below-none _;
   last = λ l. absurd (omega arith);
   none = λ e. refl;
   read = nothing im 0;
+  forbidden = sym (fault-zero (recAllowed im));
+  misplaced = sym (fault-zero (recOwnerFirst im));
 }
 
 -- entering an entry
@@ -53,25 +56,29 @@ module _ (im : List ℕ) (c : Cursor) (f : Follows im c) (k : ℕ) (rises : c .k
   unfolding entered
   enter-enters = go (eqb (c .key) k) refl
     where
-      go : (b : Bool) → eqb (c .key) k ≡ b → Enters im (cond b c (record { next = c .next; key = k; count = 0; named = 0 }))
+      go : (b : Bool) → eqb (c .key) k ≡ b → Enters im (cond b c (moved c k))
       go true e = record {
-        good = f .good;
+        ordered = f .ordered;
         below = f .below;
         key = eqb-true (c .key) k e ∙ is;
         read = f .read;
+        forbidden = f .forbidden;
+        misplaced = f .misplaced;
       }
       go false e = record {
-        good = f .good;
+        ordered = f .ordered;
         below = λ q l. omega (arith, f .below q l);
         key = is;
         read = unread (eqb-false (c .key) k e);
+        forbidden = f .forbidden;
+        misplaced = f .misplaced;
       }
 
 pub enter-next : (c : Cursor) (k : ℕ) → entered c k .next ≡ c .next
 unfolding entered
 enter-next c k = go (eqb (c .key) k)
   where
-    go : (b : Bool) → cond b c (record { next = c .next; key = k; count = 0; named = 0 }) .next ≡ c .next
+    go : (b : Bool) → cond b c (moved c k) .next ≡ c .next
     go true = refl
     go false = refl
 
@@ -105,9 +112,10 @@ module _ (im : List ℕ) (c : Cursor) (w : Enters im c) (u : ℕ) (is : u ≡ re
           ∙ sym (or-false (anyBelow (c .next) (namesIn im (c .key) v)))
           ∙ ap (λ (b : Bool). anyBelow (c .next) (namesIn im (c .key) v) || b) (sym (named-here v ∙ ne-eqb u v (λ q. e (sym q))))
 
-  pub pass-follows : recGood im (c .next) ≡ true → Follows im (passed c u)
-  pass-follows good = record {
-    good = all-step (c .next) (recGood im) ∙ ap₂ _&&_ (w .good) good;
+  pub pass-follows : recOrdered im (c .next) ≡ true → (a o : Bool) → a ≡ recAllowed im (c .next) → o ≡ recOwnerFirst im (c .next)
+      → Follows im (passed c u a o)
+  pass-follows e a o ea eo = record {
+    ordered = all-step (c .next) (recOrdered im) ∙ ap₂ _&&_ (w .ordered) e;
     below = below-more _ (c .next) (w .below) (omega (arith, w .key));
     last = λ g. w .key ∙ ap (recKey im) (omega arith);
     none = λ e. absurd (omega arith);
@@ -115,6 +123,8 @@ module _ (im : List ℕ) (c : Cursor) (w : Enters im c) (u : ℕ) (is : u ≡ re
       count = count-hit (c .next) (ofEntry im (c .key)) true (c .count) (c .count + 1) (w .read .count) (sym here) refl refl;
       names = named-next;
     };
+    forbidden = fault-next (c .next) (recAllowed im) (c .forbidden) a (w .forbidden) ea;
+    misplaced = fault-next (c .next) (recOwnerFirst im) (c .misplaced) o (w .misplaced) eo;
   }
 
 -- ---- the cursors that the code makes
@@ -123,10 +133,11 @@ pub enter-stays : (c : Cursor) (k : ℕ) → c .key ≡ k → c ≡ entered c k
 unfolding entered
 enter-stays c k e = rw (eq-eqb (c .key) k e)
 
-pub enter-moves : (c : Cursor) (k : ℕ) → (c .key ≡ k → ⊥) → record { next = c .next; key = k; count = 0; named = 0 } ≡ entered c k
+pub enter-moves : (c : Cursor) (k : ℕ) → (c .key ≡ k → ⊥) → moved c k ≡ entered c k
 unfolding entered
 enter-moves c k e = rw (ne-eqb (c .key) k e)
 
-pub pass-is : (c : Cursor) (u n : ℕ) → n ≡ addNode (c .named) u
-    → record { next = c .next + 1; key = c .key; count = c .count + 1; named = n } ≡ passed c u
-pass-is c u n e = rw e
+pub pass-is : (c : Cursor) (u n f g : ℕ) (a o : Bool) → n ≡ addNode (c .named) u → f ≡ noted (c .forbidden) a (c .next + 1)
+    → g ≡ noted (c .misplaced) o (c .next + 1)
+    → record { next = c .next + 1; key = c .key; count = c .count + 1; named = n; forbidden = f; misplaced = g } ≡ passed c u a o
+pass-is c u n f g a o e ef eg = rw (e, ef, eg)

@@ -1,18 +1,16 @@
 -- What the cursor over the records holds. im is the image.
 use Prim.Native.Nat.{ℕ, _+_, _-_, _≤_, _<_}
 use mathlib.Core.Path.{_≡_}
-use mathlib.Core.Bool.{Bool, true, false, cond, _&&_}
+use mathlib.Core.Bool.{Bool, true, cond, not, _&&_, _||_}
 use mathlib.Core.List.{List}
 use lib.Dec.{eqb, leb, ltb}
 use Rattle.model.specs.Loops.{allBelow, anyBelow, countBelow}
 use Rattle.model.specs.Memory.{hasNode, addNode}
 use Rattle.model.specs.Image.{recNode, recLevel, recDigit, recNeighbor, recOrdered, recAllowed, recOwnerFirst}
-use Rattle.image_judging.specs.Judged.{recGood}
+use Rattle.image_judging.specs.Faults.{noted, faultBelow}
 use Rattle.image_fields.specs.declared.header.Header.{Header}
 use Rattle.image_fields.specs.declared.record.Record.{Record}
 use Rattle.image_judging.specs.declared.cursor.Cursor.{Cursor}
-use Rattle.image_judging.specs.declared.cursor.Finding.{Finding}
-use Rattle.image_judging.specs.declared.cursor.Finding.the-variants.{Good, Disordered, Forbidden, OwnerNotFirst}
 use Rattle.model.proofs.RecordRules.{entryKey}
 use Rattle.image_fields.specs.Parts.{keyOf}
 
@@ -33,40 +31,52 @@ pub record EntryRead (im : List ℕ) (r k n named : ℕ) : Type 0 where
   pub count : n ≡ countBelow r (ofEntry im k)
   pub names : (u : ℕ) → 1 ≤ u → hasNode named u ≡ anyBelow r (namesIn im k u)
 
--- the cursor after good records: its entry is that of the last one, and no entry before is above it
+-- the cursor after records in their order: its entry is that of the last one, no entry before is above it, and their first faults are kept
 pub record Follows (im : List ℕ) (c : Cursor) : Type 0 where
-  pub good : allBelow (c .next) (recGood im) ≡ true
+  pub ordered : allBelow (c .next) (recOrdered im) ≡ true
   pub below : (q : ℕ) → q < c .next → recKey im q ≤ c .key
   pub last : 1 ≤ c .next → c .key ≡ recKey im (c .next - 1)
   pub none : c .next ≡ 0 → c .key ≡ 0
   pub read : EntryRead im (c .next) (c .key) (c .count) (c .named)
+  pub forbidden : c .forbidden ≡ faultBelow (c .next) (recAllowed im)
+  pub misplaced : c .misplaced ≡ faultBelow (c .next) (recOwnerFirst im)
 
 -- the cursor in the entry of the record that it is about to pass
 pub record Enters (im : List ℕ) (c : Cursor) : Type 0 where
-  pub good : allBelow (c .next) (recGood im) ≡ true
+  pub ordered : allBelow (c .next) (recOrdered im) ≡ true
   pub below : (q : ℕ) → q < c .next → recKey im q ≤ c .key
   pub key : c .key ≡ recKey im (c .next)
   pub read : EntryRead im (c .next) (c .key) (c .count) (c .named)
+  pub forbidden : c .forbidden ≡ faultBelow (c .next) (recAllowed im)
+  pub misplaced : c .misplaced ≡ faultBelow (c .next) (recOwnerFirst im)
 
 -- before the first record
 abbrev pub started : Cursor
-started = record { next = 0; key = 0; count = 0; named = 0 }
+started = record { next = 0; key = 0; count = 0; named = 0; forbidden = 0; misplaced = 0 }
+
+-- the cursor c at the start of the entry k
+abbrev pub moved : Cursor → ℕ → Cursor
+moved c k = record { next = c .next; key = k; count = 0; named = 0; forbidden = c .forbidden; misplaced = c .misplaced }
 
 -- the cursor in the entry k, of which nothing is read where the cursor was in another
 unfoldable pub entered : Cursor → ℕ → Cursor
-entered c k = cond (eqb (c .key) k) c (record { next = c .next; key = k; count = 0; named = 0 })
+entered c k = cond (eqb (c .key) k) c (moved c k)
 
--- the cursor past a record of its entry that names u
-abbrev pub passed : Cursor → ℕ → Cursor
-passed c u = record { next = c .next + 1; key = c .key; count = c .count + 1; named = addNode (c .named) u }
+-- the cursor past a record of its entry that names u: whether u is allowed there, and whether an own entry is still led by its owner
+abbrev pub passed : Cursor → ℕ → Bool → Bool → Cursor
+passed c u allowed led = record {
+  next = c .next + 1;
+  key = c .key;
+  count = c .count + 1;
+  named = addNode (c .named) u;
+  forbidden = noted (c .forbidden) allowed (c .next + 1);
+  misplaced = noted (c .misplaced) led (c .next + 1);
+}
 
 -- the order of the record e behind the cursor c
-abbrev pub keepsOrder : Header → Cursor → Record → Bool
+unfoldable pub keepsOrder : Header → Cursor → Record → Bool
 keepsOrder h c e = ltb (e .level) (h .digits) && (ltb (e .digit) (h .base) && leb (c .key) (keyOf e))
 
--- what judging record r finds
-abbrev pub Finds : List ℕ → ℕ → Finding → Type 0
-Finds im r (Good c) = (c .next ≡ r + 1) × Follows im c
-Finds im r Disordered = recOrdered im r ≡ false
-Finds im r Forbidden = recAllowed im r ≡ false
-Finds im r OwnerNotFirst = recOwnerFirst im r ≡ false
+-- the record e does not put another node than the owner first in an own entry
+abbrev pub ownerLeads : Cursor → Record → Bool → Bool
+ownerLeads c e own = not own || (not (eqb (c .count) 0) || eqb (e .neighbor) (e .node))

@@ -1,4 +1,6 @@
--- What judging an image knows on its way, and what its cursor holds.
+-- What judging an image knows on its way, and what its cursor and its walk hold.
 pub mod Judged
+pub mod Faults
 pub mod Cursors
 pub mod Marks
+pub mod Walked

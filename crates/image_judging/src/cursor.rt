@@ -1,12 +1,14 @@
 // The cursor over the records of an image, by value. Records rise by node, level and digit, so the earlier records of an entry stand in one
 // run that ends at the cursor: it holds their number and the neighbours that they name, and reads no record twice.
 ghost use mathlib.Core.Path.{_≡_};
-ghost use Prim.Native.Nat.{_<_};
-ghost use Rattle.model.specs.Image.{imRecords, recAllowed, recOwnerFirst};
+ghost use mathlib.Core.Bool.{true};
+ghost use Prim.Native.Nat.{_+_, _<_};
+ghost use Rattle.model.specs.Image.{imRecords, recOwn, recAllowed};
 ghost use Rattle.state.specs.Loaded.{Numbered};
 ghost use Rattle.image_fields.specs.Parts.{Headed, RecordOf, Small};
 ghost use Rattle.image_judging.specs.Judged.{RecordsNamed};
-ghost use Rattle.image_judging.specs.Cursors.{Enters, Follows, Finds, started, entered, passed, keepsOrder};
+ghost use Rattle.image_judging.specs.Faults.{noted};
+ghost use Rattle.image_judging.specs.Cursors.{Enters, Follows, started, entered, passed, keepsOrder, ownerLeads};
 use ident::qualified;
 use image_fields::header::Header;
 use image_fields::ids::id;
@@ -14,24 +16,28 @@ use image_fields::record;
 use image_fields::record::Record;
 use state::sets;
 
-// The next record; the entry of the record before it, by its key, with how many records of this entry are read and whom they name.
+// The next record; the entry of the record before it, by its key, with how many records of this entry are read and whom they name; and the places
+// of the first record that is not allowed and of the first that begins an own entry with another than its owner, 0 for none.
 pub struct Cursor {
     pub next: usize,
     pub key: usize,
     pub count: usize,
     pub named: u64,
+    pub forbidden: usize,
+    pub misplaced: usize,
 }
 
-// What judging a record finds.
-pub enum Finding {
-    // It keeps its order and the table rules: the cursor past it.
-    Good(Cursor),
-    // Its level or digit is not one of the settings', or it stands below the record before it.
-    Disordered,
-    // Its neighbour isn't qualified or stands in the entry already, or the entry is full.
-    Forbidden,
-    // It begins an own entry with another node than the owner.
-    OwnerNotFirst,
+// The first place of a fault, where `first` is that of the records before and the one at this place is good or not.
+fn note(first: usize, good: bool, place: usize) -> usize
+    ensures { λ r. ⌜ r ≡ noted first good place ⌝ }
+{
+    if first != 0 {
+        return first;
+    }
+    if good {
+        return 0;
+    }
+    place
 }
 
 impl Cursor {
@@ -44,6 +50,8 @@ impl Cursor {
             key: 0,
             count: 0,
             named: sets::EMPTY,
+            forbidden: 0,
+            misplaced: 0,
         }
     }
 
@@ -59,11 +67,13 @@ impl Cursor {
             key,
             count: 0,
             named: sets::EMPTY,
+            forbidden: self.forbidden,
+            misplaced: self.misplaced,
         }
     }
 
     // Level and digit are the settings', and the entry is not below that of the record before.
-    fn in_order(self, h: Header, e: Record) -> bool
+    pub fn in_order(self, h: Header, e: Record) -> bool
         requires { ⌜ Small e ⌝ }
         ensures { λ r. ⌜ r ≡ keepsOrder h self e ⌝ }
     {
@@ -95,15 +105,10 @@ impl Cursor {
     }
 
     // The record does not begin an own entry with another node than the owner.
-    fn owner_first(self, image: &[u8], h: Header, e: Record) -> bool
-        requires { ⌜ Headed (now image) h ⌝ }
-        requires { ⌜ RecordsNamed (now image) ⌝ }
-        requires { ⌜ Enters (now image) self ⌝ }
-        requires { ⌜ self .next < imRecords (now image) ⌝ }
-        requires { ⌜ RecordOf (now image) (self .next) e ⌝ }
-        ensures { λ r. ⌜ r ≡ recOwnerFirst (now (image .entry)) (self .next) ⌝ }
+    fn owner_first(self, e: Record, own: bool) -> bool
+        ensures { λ r. ⌜ r ≡ ownerLeads self e own ⌝ }
     {
-        if !record::is_own(image, e) {
+        if !own {
             return true;
         }
         if self.count != 0 {
@@ -112,41 +117,38 @@ impl Cursor {
         e.neighbor == e.node
     }
 
-    // Past a record of the cursor's entry that names u.
-    fn pass(self, u: usize) -> Self
+    // Past a record of the cursor's entry that names u: whether u is allowed there, and whether an own entry is still led by its owner.
+    fn pass(self, u: usize, allowed: bool, led: bool) -> Self
         requires { ⌜ Numbered u ⌝ }
         requires { ⌜ self .next < 65535 ⌝ }
         requires { ⌜ self .count < 65535 ⌝ }
-        ensures { λ c. ⌜ c ≡ passed self u ⌝ }
+        ensures { λ c. ⌜ c ≡ passed self u allowed led ⌝ }
     {
+        let place = self.next + 1;
         Cursor {
-            next: self.next + 1,
+            next: place,
             key: self.key,
             count: self.count + 1,
             named: sets::add(self.named, u),
+            forbidden: note(self.forbidden, allowed, place),
+            misplaced: note(self.misplaced, led, place),
         }
     }
 
-    // Judges the record at the cursor, as it was read: where its fields stand in the image is nothing to the cursor.
-    pub fn judge(self, image: &[u8], h: Header, e: Record) -> Finding
+    // Judges the record at the cursor, as it was read, and goes past it: where its fields stand in the image is nothing to the cursor.
+    pub fn judge(self, image: &[u8], h: Header, e: Record, own: bool) -> Self
         requires { ⌜ Headed (now image) h ⌝ }
         requires { ⌜ RecordsNamed (now image) ⌝ }
         requires { ⌜ Follows (now image) self ⌝ }
         requires { ⌜ self .next < imRecords (now image) ⌝ }
         requires { ⌜ RecordOf (now image) (self .next) e ⌝ }
         requires { ⌜ Small e ⌝ }
-        ensures { λ r. ⌜ Finds (now (image .entry)) (self .next) r ⌝ }
+        requires { ⌜ keepsOrder h self e ≡ true ⌝ }
+        requires { ⌜ own ≡ recOwn (now image) (self .next) ⌝ }
+        ensures { λ c. ⌜ c .next ≡ self .next + 1 ⌝ }
+        ensures { λ c. ⌜ Follows (now (image .entry)) c ⌝ }
     {
-        if !self.in_order(h, e) {
-            return Finding::Disordered;
-        }
         let c = self.enter(record::key(e));
-        if !c.allowed(image, h, e) {
-            return Finding::Forbidden;
-        }
-        if !c.owner_first(image, h, e) {
-            return Finding::OwnerNotFirst;
-        }
-        Finding::Good(c.pass(e.neighbor))
+        c.pass(e.neighbor, c.allowed(image, h, e), c.owner_first(e, own))
     }
 }

@@ -1,9 +1,10 @@
-// Judging an image of bytes, sentence by sentence: document 01, "The image" and "What a call declines". Nothing is asked of the bytes or
-// of their number; the time is in proportion to the number of records.
+// Judging an image of bytes, sentence by sentence: document 01, "The image" and "What a call declines", and document 02, Ticket 2. Nothing is
+// asked of the bytes or of their number; the time is in proportion to the number of records.
 ghost use mathlib.Core.Path.{_≡_};
 ghost use Rattle.model.specs.Refusals.{imageRefusal};
 ghost use Rattle.image_fields.specs.Parts.{CountsRight};
-ghost use Rattle.image_judging.specs.Judged.{laterRefusal};
+ghost use Rattle.image_judging.specs.Judged.{namesRefusal, earlyRefusal, answerOf};
+use answers::ReadAnswer;
 use answers::refusal::Refusal;
 use ident::settings_in_range;
 use image_fields::header;
@@ -12,12 +13,13 @@ use image_fields::ids;
 
 mod cursor;
 mod own;
-mod passes;
+mod records;
+mod walk;
 
-// 7 to 10, once the counts are right.
-fn later_refusal(image: &[u8]) -> u64
+// 7 to 9, once the counts are right.
+fn names_refusal(image: &[u8]) -> u64
     requires { ⌜ CountsRight (now image) ⌝ }
-    ensures { λ r. ⌜ r ≡ laterRefusal (now (image .entry)) ⌝ }
+    ensures { λ r. ⌜ r ≡ namesRefusal (now (image .entry)) ⌝ }
 {
     let h = header::load(image);
     if !ids::valid(image, h) {
@@ -26,18 +28,15 @@ fn later_refusal(image: &[u8]) -> u64
     if !ids::different(image, h) {
         return Refusal::ID_TAKEN;
     }
-    if !passes::named(image, h) {
+    if !records::named(image, h) {
         return Refusal::NO_SUCH_NODE;
-    }
-    if !passes::good(image, h) {
-        return Refusal::BAD_RECORDS;
     }
     0
 }
 
-// The number of the first sentence that refuses the image, 3 to 10, or 0.
-pub fn refusal(image: &[u8]) -> u64
-    ensures { λ r. ⌜ r ≡ imageRefusal (now (image .entry)) ⌝ }
+// 3 to 9.
+fn early_refusal(image: &[u8]) -> u64
+    ensures { λ r. ⌜ r ≡ earlyRefusal (now (image .entry)) ⌝ }
 {
     if header::no_settings(image) {
         return Refusal::NOT_AN_IMAGE;
@@ -55,5 +54,19 @@ pub fn refusal(image: &[u8]) -> u64
     if header::counts_wrong(image) {
         return Refusal::IMAGE_COUNTS;
     }
-    later_refusal(image)
+    names_refusal(image)
+}
+
+// The number of the first sentence that refuses the image, 3 to 10, 17 or 18, or 0; and the place of the record that it is about.
+pub fn judge(image: &[u8]) -> ReadAnswer
+    ensures { λ r. ⌜ r ≡ answerOf (now (image .entry)) (imageRefusal (now (image .entry))) ⌝ }
+{
+    let early = early_refusal(image);
+    if early != 0 {
+        return ReadAnswer {
+            refusal: early,
+            place: 0,
+        };
+    }
+    records::judge(image, header::load(image))
 }

@@ -3,64 +3,43 @@ ghost use mathlib.Core.Path.{_≡_};
 ghost use Prim.Native.Nat.{_≤_, _<_};
 ghost use lib.ListN.{length};
 ghost use Rattle.model.specs.Loops.{allBelow, node};
-ghost use Rattle.model.specs.Image.{imNodes, imRecords, ownHaveRecords};
 ghost use Rattle.state.specs.Loaded.{Numbered};
-ghost use Rattle.image_fields.specs.Parts.{Headed};
-ghost use Rattle.image_judging.specs.Judged.{RecordsNamed};
-ghost use Rattle.image_judging.specs.Marks.{RecordsGood, Marks, isMarked, levelsMarked, markedBy};
+ghost use Rattle.image_judging.specs.Marks.{isMarked, levelsMarked, markedBy};
 use image_fields::header::Header;
-use image_fields::record;
+use image_fields::record::Record;
 
-// Marks the entry of record r, if it is an own entry.
-fn mark(image: &[u8], h: Header, own: &mut [u8], r: usize)
-    requires { ⌜ Headed (now image) h ⌝ }
-    requires { ⌜ RecordsNamed (now image) ⌝ }
-    requires { ⌜ RecordsGood (now image) ⌝ }
-    requires { ⌜ length (now own) ≡ 512 ⌝ }
-    requires { ⌜ r < imRecords (now image) ⌝ }
-    ensures { λ u. ⌜ now (own .exit) ≡ markedBy (now (image .entry)) r (now (own .entry)) ⌝ }
+// Marks the entry of a record, if that is an own entry.
+pub fn mark(marks: &mut [u8], e: Record, own: bool)
+    requires { ⌜ length (now marks) ≡ 512 ⌝ }
+    requires { ⌜ Numbered (e .node) ⌝ }
+    requires { ⌜ e .level < 8 ⌝ }
+    ensures { λ u. ⌜ now (marks .exit) ≡ markedBy e own (now (marks .entry)) ⌝ }
 {
-    let e = record::load(image, h, r);
-    if record::is_own(image, e) {
-        own[8 * (e.node - 1) + e.level] = 1;
-    }
-}
-
-// The marks of all records.
-fn mark_all(image: &[u8], h: Header, own: &mut [u8])
-    requires { ⌜ Headed (now image) h ⌝ }
-    requires { ⌜ RecordsNamed (now image) ⌝ }
-    requires { ⌜ RecordsGood (now image) ⌝ }
-    requires { ⌜ Marks (now image) 0 (now own) ⌝ }
-    ensures { λ u. ⌜ Marks (now (image .entry)) (imRecords (now (image .entry))) (now (own .exit)) ⌝ }
-{
-    let mut r = 0;
-    while r < h.records {
-        mark(image, h, own, r);
-        r += 1;
+    if own {
+        marks[8 * (e.node - 1) + e.level] = 1;
     }
 }
 
 // A record of x's own entry of level i was met.
-fn is_marked(own: &[u8], x: usize, i: usize) -> bool
-    requires { ⌜ length (now own) ≡ 512 ⌝ }
+fn is_marked(marks: &[u8], x: usize, i: usize) -> bool
+    requires { ⌜ length (now marks) ≡ 512 ⌝ }
     requires { ⌜ Numbered x ⌝ }
     requires { ⌜ i < 8 ⌝ }
-    ensures { λ r. ⌜ r ≡ isMarked (now (own .entry)) x i ⌝ }
+    ensures { λ r. ⌜ r ≡ isMarked (now (marks .entry)) x i ⌝ }
 {
-    own[8 * (x - 1) + i] == 1
+    marks[8 * (x - 1) + i] == 1
 }
 
 // All levels of x are marked.
-fn levels_marked(own: &[u8], digits: usize, x: usize) -> bool
-    requires { ⌜ length (now own) ≡ 512 ⌝ }
+fn levels_marked(marks: &[u8], digits: usize, x: usize) -> bool
+    requires { ⌜ length (now marks) ≡ 512 ⌝ }
     requires { ⌜ Numbered x ⌝ }
     requires { ⌜ digits ≤ 8 ⌝ }
-    ensures { λ r. ⌜ r ≡ levelsMarked (now (own .entry)) digits x ⌝ }
+    ensures { λ r. ⌜ r ≡ levelsMarked (now (marks .entry)) digits x ⌝ }
 {
     let mut i = 0;
     while i < digits {
-        if !is_marked(own, x, i) {
+        if !is_marked(marks, x, i) {
             return false;
         }
         i += 1;
@@ -69,30 +48,18 @@ fn levels_marked(own: &[u8], digits: usize, x: usize) -> bool
 }
 
 // All levels of all nodes are marked.
-fn all_marked(own: &[u8], h: Header) -> bool
-    requires { ⌜ length (now own) ≡ 512 ⌝ }
+pub fn all_marked(marks: &[u8], h: Header) -> bool
+    requires { ⌜ length (now marks) ≡ 512 ⌝ }
     requires { ⌜ h .nodes ≤ 64 ⌝ }
     requires { ⌜ h .digits ≤ 8 ⌝ }
-    ensures { λ r. ⌜ r ≡ allBelow (h .nodes) (node (levelsMarked (now (own .entry)) (h .digits))) ⌝ }
+    ensures { λ r. ⌜ r ≡ allBelow (h .nodes) (node (levelsMarked (now (marks .entry)) (h .digits))) ⌝ }
 {
     let mut k = 0;
     while k < h.nodes {
-        if !levels_marked(own, h.digits, k + 1) {
+        if !levels_marked(marks, h.digits, k + 1) {
             return false;
         }
         k += 1;
     }
     true
-}
-
-// Every node's own entries have records.
-pub fn have_records(image: &[u8], h: Header) -> bool
-    requires { ⌜ Headed (now image) h ⌝ }
-    requires { ⌜ RecordsNamed (now image) ⌝ }
-    requires { ⌜ RecordsGood (now image) ⌝ }
-    ensures { λ r. ⌜ r ≡ allBelow (imNodes (now (image .entry))) (node (ownHaveRecords (now (image .entry)))) ⌝ }
-{
-    let mut own = [0u8; 512];
-    mark_all(image, h, &mut own);
-    all_marked(&own, h)
 }

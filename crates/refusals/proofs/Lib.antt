@@ -1,3 +1,4 @@
 -- The laws by which the refusals meet the book.
+pub mod ReadLaws
 pub mod State
 pub mod DeliverLaws

@@ -1,10 +1,9 @@
 -- `read`: refused, or the state that the image gives. Assumes nothing.
 use native.Mathlib.Omega.{arith}
-use Rattle.model.specs.Calls.{unlessRefused, readCall}
-use Rattle.model.proofs.Calls.{refused-end, taken-end, work-left}
-use Rattle.engine.proofs.Laws.{loads}
-use native.Mathlib.Omega.{arith}
+use denote.Ref.{now}
 use borrow.Author.Needs.{needs}
+use Rattle.state.specs.Lent.{memory}
+use Rattle.engine.proofs.Laws.{read-refused, read-done, loads}
 use Rattle.engine.proofs.reading.read.Statement.{statement}
 use Rattle.engine.proofs.reading.read.Tie as tie
 
@@ -18,15 +17,13 @@ same-length-2 : tie.Need-same-length-2
 same-length-2 c = search needs
 
 returns : tie.Need-returns
-unfolding readCall unlessRefused
-returns c = search refused-end
+returns c = search read-refused
 
 load-requires : tie.Need-load-requires
 load-requires c κs =
-    let a = c .before .before .before .before .before .before .before .before .before .args in
-    loads _ _ (a .image .now)
-    (λ a. omega (arith, c .before .before .before .before .before .before .shared-slice-known .given a)) (c .before .before .before .refusal .ensures)
-    (c .before .before .if1 .left)
+    let a = c .before .before .before .before .before .before .before .before .before .before .args in
+    loads (memory (now (a .state)) (now (a .tables))) (now (a .image)) _ (c .before .before .before .before .refusal .ensures)
+    (λ a. omega (arith, c .before .before .before .before .before .before .before .shared-slice-known .given a)) (c .before .before .if1 .left)
 
 same-length-3 : tie.Need-same-length-3
 same-length-3 c = search needs
@@ -35,8 +32,7 @@ same-length-4 : tie.Need-same-length-4
 same-length-4 c = search needs
 
 returns-2 : tie.Need-returns-2
-unfolding readCall
-returns-2 c = search (taken-end, work-left)
+returns-2 c = search read-done
 
 pub read-spec : {M : Type 1} → statement M
 read-spec =

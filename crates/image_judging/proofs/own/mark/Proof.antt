@@ -1,27 +1,20 @@
 -- `mark`: the byte of an own entry, which lies within the marks. Assumes nothing.
 use borrow.Author.Needs.{needs}
-use Rattle.image_judging.proofs.Marked.{node-least, place-within, mark-own, mark-other}
-use Rattle.image_judging.proofs.Rules.{owner-held}
+use Rattle.image_judging.proofs.Marked.{mark-own, mark-other}
 use Rattle.image_judging.proofs.own.mark.Statement.{statement}
 use Rattle.image_judging.proofs.own.mark.Tie as tie
 
-load-requires : tie.Need-load-requires
-load-requires c κs = search needs
+sub-marks : tie.Need-sub-marks
+sub-marks c = search needs
 
-is-own-requires : tie.Need-is-own-requires
-is-own-requires c κs = search (needs, owner-held)
+mul-marks : tie.Need-mul-marks
+mul-marks c = search needs
 
-sub-own : tie.Need-sub-own
-sub-own c = search node-least
+add-marks : tie.Need-add-marks
+add-marks c = search needs
 
-mul-own : tie.Need-mul-own
-mul-own c = search needs
-
-add-own : tie.Need-add-own
-add-own c = search needs
-
-slice-write-own : tie.Need-slice-write-own
-slice-write-own c = search place-within
+slice-write-marks : tie.Need-slice-write-marks
+slice-write-marks c = search needs
 
 same-length : tie.Need-same-length
 same-length c = search needs
@@ -34,14 +27,4 @@ returns-2 c = search mark-other
 
 pub mark-spec : {M : Type 1} → statement M
 mark-spec =
-    tie.close
-    (tie.spec
-    load-requires
-    is-own-requires
-    sub-own
-    mul-own
-    add-own
-    slice-write-own
-    same-length
-    returns
-    returns-2)
+    tie.close (tie.spec sub-marks mul-marks add-marks slice-write-marks same-length returns returns-2)

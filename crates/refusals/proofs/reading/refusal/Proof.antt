@@ -1,7 +1,6 @@
 -- `refusal`: 1, or what the image itself decides. Assumes nothing.
 use borrow.Author.Needs.{needs}
-use Rattle.model.specs.Refusals.{imageRefusal, readRefusal}
-use Rattle.model.proofs.Refusals.{sentences}
+use Rattle.refusals.proofs.ReadLaws.{short-is, judged-is}
 use Rattle.refusals.proofs.reading.refusal.Statement.{statement}
 use Rattle.refusals.proofs.reading.refusal.Tie as tie
 
@@ -9,15 +8,13 @@ short-requires : tie.Need-short-requires
 short-requires c κs = search needs
 
 returns : tie.Need-returns
-unfolding readRefusal
-returns c = search sentences
+returns c = search short-is
 
-refusal-requires : tie.Need-refusal-requires
-refusal-requires c κs = search needs
+judge-requires : tie.Need-judge-requires
+judge-requires c κs = search needs
 
 returns-2 : tie.Need-returns-2
-unfolding readRefusal imageRefusal
-returns-2 c = search sentences
+returns-2 c = search judged-is
 
 pub refusal-spec : {M : Type 1} → statement M
-refusal-spec = tie.close (tie.spec short-requires returns refusal-requires returns-2)
+refusal-spec = tie.close (tie.spec short-requires returns judge-requires returns-2)

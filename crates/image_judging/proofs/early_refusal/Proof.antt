@@ -1,10 +1,10 @@
--- `refusal`: each return is a sentence of the chain. Assumes nothing.
+-- `early_refusal`: each return is a sentence of the chain. Assumes nothing.
 use native.Mathlib.Omega.{arith}
 use denote.Ref.{now}
 use borrow.Author.Needs.{needs}
 use Rattle.image_judging.proofs.Sentences.{reaches, says-3, says-4, says-5, says-6, says-later, counted}
-use Rattle.image_judging.proofs.refusal.Statement.{statement}
-use Rattle.image_judging.proofs.refusal.Tie as tie
+use Rattle.image_judging.proofs.early_refusal.Statement.{statement}
+use Rattle.image_judging.proofs.early_refusal.Tie as tie
 
 no-settings-requires : tie.Need-no-settings-requires
 no-settings-requires c κs = search needs
@@ -39,8 +39,8 @@ counts-wrong-requires c κs = search needs
 returns-4 : tie.Need-returns-4
 returns-4 c = search says-6
 
-later-refusal-requires : tie.Need-later-refusal-requires
-later-refusal-requires c κs =
+names-refusal-requires : tie.Need-names-refusal-requires
+names-refusal-requires c κs =
     let n = c .before .before .before .before .before .before .before in
     let s = n .before .before .before .before .before in
     counted (now (s .args .image)) _ (n .before .before .before .no-settings .ensures) (n .before .before .if1 .left) (n .if2 .left)
@@ -51,8 +51,8 @@ later-refusal-requires c κs =
 returns-5 : tie.Need-returns-5
 returns-5 c = search says-later
 
-pub refusal-spec : {M : Type 1} → statement M
-refusal-spec =
+pub early-refusal-spec : {M : Type 1} → statement M
+early-refusal-spec =
     tie.close
     (tie.spec
     no-settings-requires
@@ -66,5 +66,5 @@ refusal-spec =
     returns-3
     counts-wrong-requires
     returns-4
-    later-refusal-requires
+    names-refusal-requires
     returns-5)

@@ -7,8 +7,8 @@ use borrow.Author.Needs.{needs}
 use Rattle.model.specs.Loops.{allBelow}
 use Rattle.model.specs.Image.{recNodesGood}
 use Rattle.model.proofs.Nodes.{all-loop-to}
-use Rattle.image_judging.proofs.passes.named.Statement.{statement}
-use Rattle.image_judging.proofs.passes.named.Tie as tie
+use Rattle.image_judging.proofs.records.named.Statement.{statement}
+use Rattle.image_judging.proofs.records.named.Tie as tie
 
 abbrev Inv-loop : tie.InvT-loop
 Inv-loop image h r₀ r = (r ≤ h .records) × (allBelow r (recNodesGood image) ≡ true)
