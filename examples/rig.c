@@ -30,13 +30,15 @@ static const char *const refusals[] = {
     [OVERLAY_BAD_ID] = "a bad id",
     [OVERLAY_ID_TAKEN] = "the id is taken",
     [OVERLAY_NO_SUCH_NODE] = "no such node",
-    [OVERLAY_BAD_RECORDS] = "the image's records break the rules",
+    [OVERLAY_RECORD_ORDER] = "a record is out of range or order",
     [OVERLAY_FULL] = "the network is full",
     [OVERLAY_GATEWAY_NOT_IN_SYSTEM] = "the gateway is not in system",
     [OVERLAY_NOT_OUTSTANDING] = "nothing is outstanding",
     [OVERLAY_HELD] = "the request is held",
     [OVERLAY_JOIN_IN_FLIGHT] = "a join is in flight",
     [OVERLAY_SHORT_OUTPUT] = "the memory for the image is too short",
+    [OVERLAY_RECORD_NEIGHBOR] = "a record's neighbour may not stand there",
+    [OVERLAY_OWN_ENTRY] = "an own entry is absent or another's",
 };
 
 /* The refusal of an answer in words; a later version may have more. */
@@ -135,14 +137,34 @@ static void begin_joins(struct network *network, const uint32_t *ids, unsigned n
     print_refusal("a verdict now", overlay_verdict(LENT(network)));
 }
 
-/* Saves the one network and reads it into the memory of the other. */
-static void save_and_read(const struct network *from, struct network *to)
+/* Exchanges a record of an image with the next. */
+static void exchange(uint8_t *record)
+{
+    uint8_t kept[4];
+    memcpy(kept, record, 4);
+    memcpy(record, record + 4, 4);
+    memcpy(record + 4, kept, 4);
+}
+
+/* Reads the image with its first two records exchanged, and puts them back. */
+static void read_disordered(struct network *to, unsigned nodes, uint32_t length)
+{
+    uint8_t *record = image + 8 + 4 * nodes;
+    exchange(record);
+    uint64_t answer = overlay_read(LENT(to), image, length);
+    printf("read with two records exchanged: %s, at record %u\n", refusal(answer), (unsigned)overlay_record(answer));
+    exchange(record);
+}
+
+/* Saves the one network, of so many nodes, and reads it into the memory of the other. */
+static void save_and_read(const struct network *from, struct network *to, unsigned nodes)
 {
     uint32_t length = overlay_image_length(taken("write", overlay_write(LENT(from), image, sizeof image)));
     printf("saved: an image of %u bytes\n", (unsigned)length);
     print_refusal("in one byte less", overlay_write(LENT(from), image, length - 1));
     print_refusal("the other memory", overlay_sound(LENT(to)));
     print_refusal("read without its last byte", overlay_read(LENT(to), image, length - 1));
+    read_disordered(to, nodes, length);
     taken("read", overlay_read(LENT(to), image, length));
     printf("read: %s\n", memcmp(from, to, sizeof *from) == 0 ? "the same network" : "another network");
 }
@@ -158,7 +180,7 @@ int main(void)
     for (unsigned to = 1; to <= nodes; to++)
         print_lookup(&first, nodes, to);
     print_survey(&first, 4);
-    save_and_read(&first, &second);
+    save_and_read(&first, &second, nodes);
     print_verdict(&second);
     return 0;
 }

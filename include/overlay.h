@@ -12,8 +12,9 @@
  * - Nobody else writes lent memory during a call, nor reads what the call may write.
  *
  * An answer is one number: bits 0 to 7 are the refusal, 0 for none. On a refusal no byte has changed, and every field that this header reads
- * off the answer is zero but where a call says otherwise. Where several refusals hold, the answer is the first that holds, in the order of
- * docs/REFUSALS.md. A later version may add refusals, and give a new number where an old one stood: what is not 0 is a refusal.
+ * off the answer is zero, but for the place of a record that reading's refusals 10, 17 and 18 carry. Where several refusals hold, the answer is
+ * the first that holds, in the order of docs/REFUSALS.md. A later version may add refusals, give a new number where an old one stood, or let one carry
+ * fields: take the refusal by overlay_refusal, and what is not 0 as refused.
  * Nothing is kept between calls but in lent memory, so calls on different memories may run at the same time. Memory that one version filled
  * is for that version; between versions a network goes as an image.
  *
@@ -31,7 +32,7 @@ extern "C" {
 /* ---- version: of this header and of the archive that comes with it; CHANGES.md has a section for each */
 
 #define OVERLAY_VERSION_MAJOR 1
-#define OVERLAY_VERSION_MINOR 1
+#define OVERLAY_VERSION_MINOR 2
 
 /* ---- lengths */
 
@@ -56,13 +57,15 @@ extern "C" {
 #define OVERLAY_BAD_ID 7                 /* a digit not below the base, or a bit above the digits */
 #define OVERLAY_ID_TAKEN 8               /* the id is a node's already, or stands twice in the image */
 #define OVERLAY_NO_SUCH_NODE 9           /* no node has a number that the call or a record gives */
-#define OVERLAY_BAD_RECORDS 10           /* a record is out of its order, or no table may hold what the records say */
+#define OVERLAY_RECORD_ORDER 10          /* a record's level or digit is out of range, or it is below the one before it */
 #define OVERLAY_FULL 11                  /* there are 64 nodes */
 #define OVERLAY_GATEWAY_NOT_IN_SYSTEM 12 /* the gateway isn't in system */
 #define OVERLAY_NOT_OUTSTANDING 13       /* no request from the sender to the receiver is outstanding */
 #define OVERLAY_HELD 14                  /* a waiting sender's receiver isn't in system: the request stays outstanding */
 #define OVERLAY_JOIN_IN_FLIGHT 15        /* a node isn't in system */
 #define OVERLAY_SHORT_OUTPUT 16          /* the memory for the image is too short */
+#define OVERLAY_RECORD_NEIGHBOR 17       /* a record's neighbour isn't qualified for its entry, is in it already, or finds it full */
+#define OVERLAY_OWN_ENTRY 18             /* an own entry has no record, or doesn't start with its owner */
 
 /* ---- calls */
 
@@ -71,7 +74,7 @@ uint64_t overlay_found(uint64_t *state, size_t state_len, uint8_t *tables, size_
                        uint64_t base, uint64_t digits, uint64_t depth, uint32_t id);
 
 /* Makes the network of an image, whatever the memory held; every node of a version 1 image is in system. The whole image is judged first.
- * Refusals 1, 3 to 10. */
+ * Refusals 1, 3 to 10, 17, 18, in this order. 10, 17 and 18 come with the place of the record, by overlay_record. */
 uint64_t overlay_read(uint64_t *state, size_t state_len, uint8_t *tables, size_t tables_len,
                       const uint8_t *image, size_t image_len);
 
@@ -110,10 +113,14 @@ uint64_t overlay_write(const uint64_t *state, size_t state_len, const uint8_t *t
  * (docs/PROMISES.md). Refusals 1, 2. */
 uint64_t overlay_sound(const uint64_t *state, size_t state_len, const uint8_t *tables, size_t tables_len);
 
-/* ---- the fields of an answer, zero on a refusal */
+/* ---- the fields of an answer; on a refusal they are zero, but for the place that reading gives */
 
 /* Of every answer, bits 0 to 7: the refusal, 0 for none. */
 static inline unsigned overlay_refusal(uint64_t answer) { return (unsigned)(answer & 0xff); }
+
+/* Of read, bits 8 to 39: with refusals 10, 17 and 18 the place of the first record that fails, 1 for the first of the image, and 0 where 18
+ * stands for an own entry that has no record at all; with every other refusal, and with none, 0. */
+static inline uint32_t overlay_record(uint64_t answer) { return (uint32_t)(answer >> 8 & 0xffffffff); }
 
 /* Of begin, bits 8 to 15: the new node, 2 to 64. */
 static inline unsigned overlay_new_node(uint64_t answer) { return (unsigned)(answer >> 8 & 0xff); }

@@ -7,7 +7,8 @@ static int refused(uint64_t answer)
     unsigned fields = overlay_new_node(answer) | overlay_kind(answer) | overlay_attach_level(answer) | overlay_settled(answer) |
                       overlay_arrived(answer) | overlay_hops(answer) | overlay_last_node(answer) | overlay_consistent(answer) |
                       overlay_short_node(answer) | overlay_short_level(answer) | overlay_short_digit(answer);
-    return overlay_refusal(answer) == OVERLAY_SHORT_MEMORY && fields == 0 && overlay_image_length(answer) == 0;
+    return overlay_refusal(answer) == OVERLAY_SHORT_MEMORY && fields == 0 && overlay_record(answer) == 0 &&
+           overlay_image_length(answer) == 0;
 }
 
 #define NONE NULL, 0

@@ -1,4 +1,4 @@
 -- The laws by which the C interface packs the answers of the public calls.
 pub mod Fields
-pub mod Length
+pub mod Wide
 pub mod Surveying

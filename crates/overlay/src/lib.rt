@@ -9,7 +9,7 @@ ghost use Rattle.overlay.specs.Packed.{gives, fills, packing, surveying}
 use packing::delivered::as_numbers;
 use packing::pack::bit;
 use packing::pack::pack;
-use packing::pack::pack_length;
+use packing::pack::pack_wide;
 
 // Founding: base, digits, depth and the id of node 1. Answers the refusal.
 #[no_mangle]
@@ -26,12 +26,13 @@ pub extern "C" fn overlay_found(
     engine::founding::found(state, tables, base, digits, depth, id)
 }
 
-// Reading an image into the memory, every node in system. Answers the refusal.
+// Reading an image into the memory, every node in system. Answers with 10, 17 and 18 the place of the record.
 #[no_mangle]
 pub extern "C" fn overlay_read(state: &mut [u64], tables: &mut [u8], image: &[u8]) -> u64
-    ensures { λ r. ⌜ leaves (memory (now (state .exit)) (now (tables .exit))) (r ∷ []) ≡ readCall (memory (now (state .entry)) (now (tables .entry))) (now (image .entry)) ⌝ }
+    ensures { λ r. ⌜ gives (memory (now (state .exit)) (now (tables .exit))) r ≡ packing (readCall (memory (now (state .entry)) (now (tables .entry))) (now (image .entry))) ⌝ }
 {
-    engine::reading::read(state, tables, image)
+    let answer = engine::reading::read(state, tables, image);
+    pack_wide(answer.refusal, answer.place)
 }
 
 // Beginning a join: the id and the gateway. Answers the new node.
@@ -101,7 +102,7 @@ pub extern "C" fn overlay_write(state: &[u64], tables: &[u8], out: &mut [u8]) ->
     ensures { λ r. ⌜ fills (memory (now (state .entry)) (now (tables .entry))) (now (out .exit)) r ≡ packing (writeCall (memory (now (state .entry)) (now (tables .entry))) (now (out .entry))) ⌝ }
 {
     let written = engine::writing::write(state, tables, out);
-    pack_length(written.refusal, written.bytes)
+    pack_wide(written.refusal, written.bytes)
 }
 
 // The check of a state. Answers the refusal: 1 too short, 2 not sound, 0 neither.

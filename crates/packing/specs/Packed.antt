@@ -15,7 +15,7 @@ pub record Fit (f₀ f₁ f₂ f₃ f₄ : ℕ) : Type 0 where
   pub third : f₃ < 256
   pub fourth : f₄ < 256
 
--- a refusal that fits a byte and a length that fits 32 bits
-pub record FitLength (f₀ bytes : ℕ) : Type 0 where
+-- a refusal that fits a byte and one field that fits 32 bits
+pub record FitWide (f₀ f₁ : ℕ) : Type 0 where
   pub refusal : f₀ < 256
-  pub wide : bytes < 4294967296
+  pub wide : f₁ < 4294967296

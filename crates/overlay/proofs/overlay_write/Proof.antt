@@ -1,14 +1,14 @@
 -- `overlay_write`: the answer of `write`, packed. Assumes nothing.
 use borrow.Author.Needs.{needs}
-use Rattle.overlay.proofs.Length.{written-fits, write-packs}
+use Rattle.overlay.proofs.Wide.{written-fits, write-packs}
 use Rattle.overlay.proofs.overlay_write.Statement.{statement}
 use Rattle.overlay.proofs.overlay_write.Tie as tie
 
 write-requires : tie.Need-write-requires
 write-requires c κs = search needs
 
-pack-length-requires : tie.Need-pack-length-requires
-pack-length-requires c κs = search written-fits
+pack-wide-requires : tie.Need-pack-wide-requires
+pack-wide-requires c κs = search written-fits
 
 same-length : tie.Need-same-length
 same-length c = search needs
@@ -17,4 +17,4 @@ returns : tie.Need-returns
 returns c = search write-packs
 
 pub overlay-write-spec : {M : Type 1} → statement M
-overlay-write-spec = tie.close (tie.spec write-requires pack-length-requires same-length returns)
+overlay-write-spec = tie.close (tie.spec write-requires pack-wide-requires same-length returns)
