@@ -35,11 +35,14 @@ module _ (r : ℕ) (fields lines o p : List ℕ) (e : ℕ) where
   unfolding answerText
   answer-taken h q g P Q = rw (eq-eqb r 0 h) (put-then o 0 _ p e _ q g P Q)
 
--- ---- an image that reading left as memory m₁, with this refusal
+-- ---- an image that reading left as memory m₁, with this refusal and place
 
-module _ (m : Memory) (im : List ℕ) (m₁ : Memory) (r : ℕ) (e : record { memory = m₁; out = []; answer = r ∷ [] } ≡ readCall m im) where
+module _ (m : Memory) (im : List ℕ) (m₁ : Memory) (r place : ℕ) (e : record { memory = m₁; out = []; answer = r ∷ place ∷ [] } ≡ readCall m im) where
+  answered : readCall m im .answer ≡ r ∷ place ∷ []
+  answered = ap (λ (o : Outcome). o .answer) (sym e)
+
   number : getD (readCall m im .answer) 0 0 ≡ r
-  number = ap (λ (o : Outcome). getD (o .answer) 0 0) (sym e)
+  number = ap (λ (answer : List ℕ). getD answer 0 0) answered
 
   pub memory-read : m₁ ≡ readCall m im .memory
   memory-read = ap (λ (o : Outcome). o .memory) e
@@ -53,17 +56,18 @@ module _ (m : Memory) (im : List ℕ) (m₁ : Memory) (r : ℕ) (e : record { me
       subst (λ (m : Memory). Sound (m .state) (m .tables)) (ap (λ (o : Outcome). o .memory) (sym (taken-is _ _ _ free)) ∙ sym memory-read)
       (loaded-ok (m .state) (m .tables) im (k .0) (k .1))
 
-  module _ (text : Memory → List ℕ) (o p : List ℕ) (end : ℕ) where
-    pub image-refused : (r ≡ 0 → ⊥) → Put o 0 (lineOne r) p end → Put o 0 (imageText text m im) p end
+  module _ (refusal : List ℕ → List ℕ) (text : Memory → List ℕ) (o p : List ℕ) (end : ℕ) where
+    pub image-refused : (r ≡ 0 → ⊥) → Put o 0 (refusal (r ∷ place ∷ [])) p end → Put o 0 (imageText refusal text m im) p end
     unfolding imageText
-    image-refused h P = rw (number, ne-eqb r 0 h) P
+    image-refused h P = rw (number, ne-eqb r 0 h) (subst (λ (answer : List ℕ). Put o 0 (refusal answer) p end) (sym answered) P)
 
-    pub image-taken : r ≡ 0 → Put o 0 (text m₁) p end → Put o 0 (imageText text m im) p end
+    pub image-taken : r ≡ 0 → Put o 0 (text m₁) p end → Put o 0 (imageText refusal text m im) p end
     unfolding imageText
     image-taken h P = rw (number, eq-eqb r 0 h) (subst (λ (m : Memory). Put o 0 (text m) p end) memory-read P)
 
 -- a program prints for the first 65,536 bytes of an overlong input what the whole of it deserves
-pub overlong-text : (text : Memory → List ℕ) (m : Memory) (im : List ℕ) → 65536 ≤ length im → imageText text m (take 65536 im) ≡ imageText text m im
+pub overlong-text : (refusal : List ℕ → List ℕ) (text : Memory → List ℕ) (m : Memory) (im : List ℕ) → 65536 ≤ length im
+    → imageText refusal text m (take 65536 im) ≡ imageText refusal text m im
 unfolding imageText
-overlong-text text m im long =
-    ap (λ (r : Outcome). cond (eqb (getD (r .answer) 0 0) 0) (text (r .memory)) (lineOne (getD (r .answer) 0 0))) (overlong im m long)
+overlong-text refusal text m im long =
+    ap (λ (r : Outcome). cond (eqb (getD (r .answer) 0 0) 0) (text (r .memory)) (refusal (r .answer))) (overlong im m long)

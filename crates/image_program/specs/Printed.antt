@@ -17,8 +17,8 @@ lineOne number = line (ascii "refusal ") number
 unfoldable pub answerText : List ℕ → List ℕ → List ℕ
 answerText answer lines = cond (eqb (getD answer 0 0) 0) (lineOne 0 ++ lines) (lineOne (getD answer 0 0))
 
--- the output for an image that is read into memory m: line one alone where reading refuses it, else the text of what was read
-unfoldable pub imageText : (Memory → List ℕ) → Memory → List ℕ → List ℕ
-imageText text m im =
+-- the output for an image that is read into memory m: where reading refuses it, the text of its answer, else the text of what was read
+unfoldable pub imageText : (List ℕ → List ℕ) → (Memory → List ℕ) → Memory → List ℕ → List ℕ
+imageText refusal text m im =
     let r = readCall m im in
-    cond (eqb (getD (r .answer) 0 0) 0) (text (r .memory)) (lineOne (getD (r .answer) 0 0))
+    cond (eqb (getD (r .answer) 0 0) 0) (text (r .memory)) (refusal (r .answer))

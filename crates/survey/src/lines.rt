@@ -84,8 +84,8 @@ pub fn lines(state: &mut [u64], tables: &mut [u8], image: &[u8], out: &mut [u8])
     ensures { λ r. ⌜ r ≤ 431 ⌝ }
 {
     let r = reading::read(state, tables, image);
-    if r != 0 {
-        return line_one(out, r);
+    if r.refusal != 0 {
+        return line_one(out, r.refusal);
     }
     of_network(state, tables, out)
 }

@@ -1,16 +1,44 @@
-// The program's lines: the refusal; where it is 0, the verdict and the entry that falls short.
+// The program's lines: the refusal; where it is 0, the verdict and the entry that falls short; where it is about a record, its place.
 ghost use mathlib.Core.Path.{_≡_};
 ghost use mathlib.Core.Bool.{cond};
+ghost use mathlib.Core.List.{[], _∷_};
 ghost use Prim.Native.Nat.{_+_, _≤_};
 ghost use lib.ListN.{length};
 ghost use Rattle.model.specs.Calls.{readCall};
 ghost use Rattle.state.specs.Lent.{memory};
 ghost use Rattle.putting.specs.Put.{Put};
-ghost use Rattle.verdict.specs.Lines.{lineTwo, verdictAnswerFields, verdictText, verdictLines};
+ghost use Rattle.verdict.specs.Lines.{lineTwo, verdictAnswerFields, verdictText, aboutRecord, refusedLines, verdictLines};
+use answers::ReadAnswer;
 use answers::VerdictAnswer;
+use answers::refusal::Refusal;
 use engine::reading;
 use image_program::line_one;
 use packing::pack::bit;
+
+fn about_record(number: u64) -> bool
+    ensures { λ r. ⌜ r ≡ aboutRecord number ⌝ }
+{
+    if number == Refusal::RECORD_ORDER {
+        return true;
+    }
+    if number == Refusal::RECORD_NEIGHBOR {
+        return true;
+    }
+    number == Refusal::OWN_ENTRY
+}
+
+// The lines for a refused reading.
+fn refused(out: &mut [u8], r: ReadAnswer) -> usize
+    requires { ⌜ 57 ≤ length (now out) ⌝ }
+    ensures { λ k. ⌜ Put (now (out .entry)) 0 (refusedLines (r .refusal ∷ r .place ∷ [])) (now (out .exit)) k ⌝ }
+    ensures { λ k. ⌜ k ≤ 57 ⌝ }
+{
+    let at = line_one(out, r.refusal);
+    if !about_record(r.refusal) {
+        return at;
+    }
+    text::line(out, at, b"record ", r.place)
+}
 
 fn line_two(out: &mut [u8], at: usize, j: VerdictAnswer) -> usize
     requires { ⌜ at + 98 ≤ length (now out) ⌝ }
@@ -43,8 +71,8 @@ pub fn lines(state: &mut [u64], tables: &mut [u8], image: &[u8], out: &mut [u8])
     ensures { λ r. ⌜ r ≤ 127 ⌝ }
 {
     let r = reading::read(state, tables, image);
-    if r != 0 {
-        return line_one(out, r);
+    if r.refusal != 0 {
+        return refused(out, r);
     }
     judged(out, engine::verdict::verdict(state, tables))
 }

@@ -1,4 +1,4 @@
-// Reads an image from standard input and prints the verdict of document 01 in one or two lines.
+// Reads an image from standard input and prints the verdict of document 01 in one or two lines; on refusals 10, 17 and 18 the second is the record's place.
 mod lines;
 
 use libc::STDIN_FILENO;

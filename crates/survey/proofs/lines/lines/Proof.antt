@@ -26,8 +26,8 @@ returns c = (search image-refused, (search memory-read, omega arith))
 of-network-requires : tie.Need-of-network-requires
 of-network-requires c κs =
     let refused = c .before .before .before .if1 in
-    let read = c .before .before .before .before .before .before .before .before .read in
-    (read-sound _ _ _ _ (read .ensures) (refused .left), omega arith)
+    let read = c .before .before .before .before .before .before .before .before .before .read in
+    (read-sound _ _ _ _ _ (read .ensures) (refused .left), omega arith)
 
 same-length-4 : tie.Need-same-length-4
 same-length-4 c = search needs

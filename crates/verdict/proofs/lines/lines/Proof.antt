@@ -9,8 +9,8 @@ use Rattle.verdict.proofs.lines.lines.Tie as tie
 read-requires : tie.Need-read-requires
 read-requires c κs = search needs
 
-line-one-requires : tie.Need-line-one-requires
-line-one-requires c κs = search needs
+refused-requires : tie.Need-refused-requires
+refused-requires c κs = search needs
 
 same-length : tie.Need-same-length
 same-length c = search needs
@@ -47,7 +47,7 @@ lines-spec =
     tie.close
     (tie.spec
     read-requires
-    line-one-requires
+    refused-requires
     same-length
     same-length-2
     same-length-3
