@@ -81,7 +81,7 @@ module _ (m : Memory) (x r : ℕ) (e : r ≡ lookupRefusal m x x) where
   shows z = let k = lookup-taken m x x (sym e ∙ z) in (k .0, k .1)
 
   module _ (o : List ℕ) (p : List ℕ) (g : ℕ) where
-    pub table-refused : (r ≡ 0 → ⊥) → Put o 0 (refusedText r) p g → Put o 0 (tableSaid m x) p g
+    pub table-refused : (r ≡ 0 → ⊥) → Put o 0 (refusedText r 0) p g → Put o 0 (tableSaid m x) p g
     unfolding tableSaid
     table-refused nz P = rw (sym e, ne-eqb r 0 nz) P
 

@@ -19,7 +19,7 @@ use Rattle.script.specs.declared.command.Command.the-variants.{Nothing, Unknown
 -- `table`: the refusal that a lookup from the node to itself would have, or the node's record and table
 unfoldable pub tableSaid : Memory → ℕ → List ℕ
 tableSaid m x =
-    cond (eqb (lookupRefusal m x x) 0) (tableText (m .state) (m .tables) x) (refusedText (lookupRefusal m x x))
+    cond (eqb (lookupRefusal m x x) 0) (tableText (m .state) (m .tables) x) (refusedText (lookupRefusal m x x) 0)
 
 -- a line that is no command, by its number
 unfoldable pub unknownSaid : ℕ → List ℕ

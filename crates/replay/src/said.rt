@@ -67,7 +67,7 @@ fn table(state: &[u64], tables: &[u8], x: u64, words: &mut [u8]) -> usize
 {
     let r = refusals::lookup::refusal(state, tables, x, x);
     if r != 0 {
-        return replay_refusals::put(words, r);
+        return replay_refusals::put(words, r, 0);
     }
     replay_table::put(state, tables, x as usize, words)
 }

@@ -80,7 +80,8 @@ fn verdict(state: &[u64], tables: &[u8]) -> Words
 fn read(state: &mut [u64], tables: &mut [u8], image: &[u8]) -> Words
     ensures { λ r. ⌜ shown (memory (now (state .exit)) (now (tables .exit))) r ≡ playing (readCall (memory (now (state .entry)) (now (tables .entry))) (now (image .entry))) ⌝ }
 {
-    first_fields(reading::read(state, tables, image), 0, 0, 0, 0)
+    let r = reading::read(state, tables, image);
+    first_fields(r.refusal, r.place, 0, 0, 0)
 }
 
 fn write(state: &[u64], tables: &[u8], out: &mut [u8]) -> Words

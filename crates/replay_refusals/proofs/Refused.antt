@@ -1,14 +1,20 @@
--- What was put is what is said of a refusal, by its number. Assumes nothing.
+-- What was put is what is said of a refusal, by its number and place. Assumes nothing.
 use Prim.Native.Nat.{ℕ, _≤_, _<_}
 use mathlib.Core.Path.{_≡_}
 use mathlib.Core.List.{List}
 use lib.ListN.{length}
-use borrow.Author.Tests.{ne-eqb, lt-ltb, le-ltb}
+use borrow.Author.Tests.{eq-eqb, ne-eqb, lt-ltb, le-ltb}
 use Rattle.putting.specs.Put.{Put}
-use Rattle.putting.proofs.Putting.{put-none, four-pieces}
+use Rattle.putting.proofs.Putting.{put-none, three-pieces}
 use Rattle.text.specs.Ascii.{ascii}
 use Rattle.text.specs.Lines.{labelled}
-use Rattle.replay_refusals.specs.Refused.{sentenceTo8, sentenceFrom9, sentence, refusedText}
+use Rattle.text.proofs.Pieces.{by-key}
+use Rattle.replay_refusals.specs.Refused.{sentenceTo8, sentenceFrom9, ownEntry, sentenceFrom17, sentence, placeText, refusedText}
+
+-- what is put where the number is k
+pub by-number : (place n k : ℕ) → n ≡ k → (o : List ℕ) (a : ℕ) (p : List ℕ) (g : ℕ) → Put o a (sentenceFrom17 k place) p g
+    → Put o a (sentenceFrom17 n place) p g
+by-number place = by-key (λ (n : ℕ). sentenceFrom17 n place)
 
 module _ (n : ℕ) (o : List ℕ) (a : ℕ) (f : a ≤ length o) where
   pub no-sentence-to-8 : (n ≡ 1 → ⊥) → (n ≡ 2 → ⊥) → (n ≡ 3 → ⊥) → (n ≡ 4 → ⊥) → (n ≡ 5 → ⊥) → (n ≡ 6 → ⊥) → (n ≡ 7 → ⊥) → (n ≡ 8 → ⊥)
@@ -23,17 +29,44 @@ module _ (n : ℕ) (o : List ℕ) (a : ℕ) (f : a ≤ length o) where
   no-sentence-from-9 h₁ h₂ h₃ h₄ h₅ h₆ h₇ h₈ =
       rw (ne-eqb n 9 h₁, ne-eqb n 10 h₂, ne-eqb n 11 h₃, ne-eqb n 12 h₄, ne-eqb n 13 h₅, ne-eqb n 14 h₆, ne-eqb n 15 h₇, ne-eqb n 16 h₈) (put-none o a f)
 
-module _ (n : ℕ) (o : List ℕ) (a : ℕ) (p : List ℕ) (g : ℕ) where
-  pub sentence-low : n < 9 → Put o a (sentenceTo8 n) p g → Put o a (sentence n) p g
-  unfolding sentence
-  sentence-low l P = rw (lt-ltb n 9 l) P
+  pub no-sentence-from-17 : (place : ℕ) → (n ≡ 17 → ⊥) → (n ≡ 18 → ⊥) → Put o a (sentenceFrom17 n place) o a
+  unfolding sentenceFrom17
+  no-sentence-from-17 place h₁ h₂ = rw (ne-eqb n 17 h₁, ne-eqb n 18 h₂) (put-none o a f)
 
-  pub sentence-high : 9 ≤ n → Put o a (sentenceFrom9 n) p g → Put o a (sentence n) p g
-  unfolding sentence
-  sentence-high l P = rw (le-ltb n 9 l) P
+  -- n is a place
+  pub no-place : n ≡ 0 → Put o a (placeText n) o a
+  unfolding placeText
+  no-place z = rw (eq-eqb n 0 z) (put-none o a f)
 
-pub refused-put : (n : ℕ) (o : List ℕ) (a : ℕ) (p : List ℕ) (g : ℕ) (q : List ℕ) (h : ℕ) (r : List ℕ) (k : ℕ) (v : List ℕ) (l : ℕ)
-    → Put o a (labelled (ascii "refused ") n) p g → Put p g (ascii ": ") q h → Put q h (sentence n) r k → Put r k (ascii "\n") v l
-    → Put o a (refusedText n) v l
+module _ (place : ℕ) (o : List ℕ) (a : ℕ) (p : List ℕ) (g : ℕ) where
+  pub place-put : (place ≡ 0 → ⊥) → Put o a (labelled (ascii " at record ") place) p g → Put o a (placeText place) p g
+  unfolding placeText
+  place-put nz P = rw (ne-eqb place 0 nz) P
+
+  pub own-absent : place ≡ 0 → Put o a (ascii "an own entry has no record") p g → Put o a (ownEntry place) p g
+  unfolding ownEntry
+  own-absent z P = rw (eq-eqb place 0 z) P
+
+  pub own-other : (place ≡ 0 → ⊥) → Put o a (ascii "an own entry does not start with its owner") p g → Put o a (ownEntry place) p g
+  unfolding ownEntry
+  own-other nz P = rw (ne-eqb place 0 nz) P
+
+  module _ (n : ℕ) where
+    pub sentence-low : n < 9 → Put o a (sentenceTo8 n) p g → Put o a (sentence n place) p g
+    unfolding sentence
+    sentence-low l P = rw (lt-ltb n 9 l) P
+
+    pub sentence-middle : 9 ≤ n → n < 17 → Put o a (sentenceFrom9 n) p g → Put o a (sentence n place) p g
+    unfolding sentence
+    sentence-middle l m P = rw (le-ltb n 9 l, lt-ltb n 17 m) P
+
+    pub sentence-high : 9 ≤ n → 17 ≤ n → Put o a (sentenceFrom17 n place) p g → Put o a (sentence n place) p g
+    unfolding sentence
+    sentence-high l m P = rw (le-ltb n 9 l, le-ltb n 17 m) P
+
+pub refused-put : (n place : ℕ) (o : List ℕ) (a : ℕ) (p : List ℕ) (g : ℕ) (q : List ℕ) (h : ℕ) (r : List ℕ) (k : ℕ) (v : List ℕ) (l : ℕ) (y : List ℕ) (m : ℕ)
+    → Put o a (labelled (ascii "refused ") n) p g → Put p g (placeText place) q h → Put q h (ascii ": ") r k → Put r k (sentence n place) v l
+    → Put v l (ascii "\n") y m → Put o a (refusedText n place) y m
 unfolding refusedText
-refused-put n o a p g q h r k v l P Q R W = four-pieces o a _ p g _ q h P Q _ r k _ v l R W
+refused-put n place o a p g q h r k v l y m P Q R W Y =
+    three-pieces o a _ p g _ q h P Q _ y m (three-pieces q h _ r k _ v l R W _ y m Y)

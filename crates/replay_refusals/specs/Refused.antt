@@ -1,4 +1,4 @@
--- A refusal in words: its number, and its sentence of docs/REFUSALS.md in short.
+-- A refusal in words: its number, the place of the record that it is about, and its sentence of docs/REFUSALS.md in short.
 use Prim.Native.Nat.{ℕ}
 use mathlib.Core.Bool.{cond}
 use mathlib.Core.List.{List, [], _++_}
@@ -20,7 +20,7 @@ sentenceTo8 n =
 unfoldable pub sentenceFrom9 : ℕ → List ℕ
 sentenceFrom9 n =
     cond (eqb n 9) (ascii "a node number is 0 or above the number of nodes")
-    (cond (eqb n 10) (ascii "the image's records break their order or the table rules")
+    (cond (eqb n 10) (ascii "a level or digit is out of range, or the record is below the one before it")
     (cond (eqb n 11) (ascii "there are 64 nodes already")
     (cond (eqb n 12) (ascii "the gateway is not settled")
     (cond (eqb n 13) (ascii "no request from the first node to the second is outstanding")
@@ -28,9 +28,22 @@ sentenceFrom9 n =
     (cond (eqb n 15) (ascii "a node is not settled")
     (cond (eqb n 16) (ascii "the memory for the image is too short") [])))))))
 
--- a number that no sentence has is left without words
-unfoldable pub sentence : ℕ → List ℕ
-sentence n = cond (ltb n 9) (sentenceTo8 n) (sentenceFrom9 n)
+-- of an own entry: it has no record, where no place is given, or another node is first there
+unfoldable pub ownEntry : ℕ → List ℕ
+ownEntry place = cond (eqb place 0) (ascii "an own entry has no record") (ascii "an own entry does not start with its owner")
 
-unfoldable pub refusedText : ℕ → List ℕ
-refusedText n = labelled (ascii "refused ") n ++ (ascii ": " ++ (sentence n ++ ascii "\n"))
+unfoldable pub sentenceFrom17 : ℕ → ℕ → List ℕ
+sentenceFrom17 n place =
+    cond (eqb n 17) (ascii "the neighbour is not qualified, is in its entry already, or finds it full")
+    (cond (eqb n 18) (ownEntry place) [])
+
+-- a number that no sentence has is left without words
+unfoldable pub sentence : ℕ → ℕ → List ℕ
+sentence n place = cond (ltb n 9) (sentenceTo8 n) (cond (ltb n 17) (sentenceFrom9 n) (sentenceFrom17 n place))
+
+-- the record's place, counted from 1
+unfoldable pub placeText : ℕ → List ℕ
+placeText place = cond (eqb place 0) [] (labelled (ascii " at record ") place)
+
+unfoldable pub refusedText : ℕ → ℕ → List ℕ
+refusedText n place = labelled (ascii "refused ") n ++ (placeText place ++ (ascii ": " ++ (sentence n place ++ ascii "\n")))

@@ -1,8 +1,8 @@
-// A refusal in words: what `replay` says of its number.
+// A refusal in words: what `replay` says of its number and place.
 ghost use Prim.Native.Nat.{_+_, _≤_};
 ghost use lib.ListN.{length};
 ghost use Rattle.putting.specs.Put.{Put};
-ghost use Rattle.replay_refusals.specs.Refused.{sentenceTo8, sentenceFrom9, sentence as sentence·text, refusedText};
+ghost use Rattle.replay_refusals.specs.Refused.{sentenceTo8, sentenceFrom9, ownEntry, sentenceFrom17, sentence as sentence·text, placeText, refusedText};
 use answers::refusal::Refusal;
 use putting::piece;
 
@@ -51,11 +51,11 @@ fn from_9(out: &mut [u8], at: usize, number: u64) -> usize
         Refusal::NO_SUCH_NODE => {
             return piece(out, at, b"a node number is 0 or above the number of nodes");
         }
-        Refusal::BAD_RECORDS => {
+        Refusal::RECORD_ORDER => {
             return piece(
                 out,
                 at,
-                b"the image's records break their order or the table rules",
+                b"a level or digit is out of range, or the record is below the one before it",
             );
         }
         Refusal::FULL => return piece(out, at, b"there are 64 nodes already"),
@@ -74,25 +74,70 @@ fn from_9(out: &mut [u8], at: usize, number: u64) -> usize
     }
 }
 
-fn sentence(out: &mut [u8], at: usize, number: u64) -> usize
+fn own_entry(out: &mut [u8], at: usize, place: u64) -> usize
     requires { ⌜ at + 80 ≤ length (now out) ⌝ }
-    ensures { λ r. ⌜ Put (now (out .entry)) at (sentence·text number) (now (out .exit)) r ⌝ }
+    ensures { λ r. ⌜ Put (now (out .entry)) at (ownEntry place) (now (out .exit)) r ⌝ }
+    ensures { λ r. ⌜ r ≤ at + 80 ⌝ }
+{
+    if place == 0 {
+        return piece(out, at, b"an own entry has no record");
+    }
+    piece(out, at, b"an own entry does not start with its owner")
+}
+
+fn from_17(out: &mut [u8], at: usize, number: u64, place: u64) -> usize
+    requires { ⌜ at + 80 ≤ length (now out) ⌝ }
+    ensures { λ r. ⌜ Put (now (out .entry)) at (sentenceFrom17 number place) (now (out .exit)) r ⌝ }
+    ensures { λ r. ⌜ r ≤ at + 80 ⌝ }
+{
+    match number {
+        Refusal::RECORD_NEIGHBOR => {
+            return piece(
+                out,
+                at,
+                b"the neighbour is not qualified, is in its entry already, or finds it full",
+            );
+        }
+        Refusal::OWN_ENTRY => return own_entry(out, at, place),
+        _ => return at,
+    }
+}
+
+fn sentence(out: &mut [u8], at: usize, number: u64, place: u64) -> usize
+    requires { ⌜ at + 80 ≤ length (now out) ⌝ }
+    ensures { λ r. ⌜ Put (now (out .entry)) at (sentence·text number place) (now (out .exit)) r ⌝ }
     ensures { λ r. ⌜ r ≤ at + 80 ⌝ }
 {
     if number < 9 {
         return to_8(out, at, number);
     }
-    from_9(out, at, number)
+    if number < 17 {
+        return from_9(out, at, number);
+    }
+    from_17(out, at, number, place)
+}
+
+// The record's place; 0 is none.
+fn at_record(out: &mut [u8], at: usize, place: u64) -> usize
+    requires { ⌜ at + 31 ≤ length (now out) ⌝ }
+    ensures { λ r. ⌜ Put (now (out .entry)) at (placeText place) (now (out .exit)) r ⌝ }
+    ensures { λ r. ⌜ r ≤ at + 31 ⌝ }
+{
+    if place == 0 {
+        return at;
+    }
+    text::labelled(out, at, b" at record ", place)
 }
 
 // Puts the refusal's line at the start of out, and answers how many bytes it has.
-pub fn put(out: &mut [u8], number: u64) -> usize
-    requires { ⌜ 111 ≤ length (now out) ⌝ }
-    ensures { λ r. ⌜ Put (now (out .entry)) 0 (refusedText number) (now (out .exit)) r ⌝ }
-    ensures { λ r. ⌜ r ≤ 111 ⌝ }
+pub fn put(out: &mut [u8], number: u64, place: u64) -> usize
+    requires { ⌜ 142 ≤ length (now out) ⌝ }
+    ensures { λ r. ⌜ Put (now (out .entry)) 0 (refusedText number place) (now (out .exit)) r ⌝ }
+    ensures { λ r. ⌜ r ≤ 142 ⌝ }
 {
     let second = text::labelled(out, 0, b"refused ", number);
-    let third = piece(out, second, b": ");
-    let fourth = sentence(out, third, number);
-    piece(out, fourth, b"\n")
+    let third = at_record(out, second, place);
+    let fourth = piece(out, third, b": ");
+    let fifth = sentence(out, fourth, number, place);
+    piece(out, fifth, b"\n")
 }

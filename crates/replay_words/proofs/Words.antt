@@ -103,7 +103,7 @@ module _ (w : Words) (o : List ℕ) (a : ℕ) (p : List ℕ) (g : ℕ) where
   inconsistent-put h P = rw (ne-eqb (field w 0) 1 h) P
 
   module _ (d size : ℕ) (c : Call) where
-    pub said-refused : (w .refusal ≡ 0 → ⊥) → Put o a (refusedText (w .refusal)) p g → Put o a (said d size c (listed w)) p g
+    pub said-refused : (w .refusal ≡ 0 → ⊥) → Put o a (refusedText (w .refusal) (field w 0)) p g → Put o a (said d size c (listed w)) p g
     unfolding said
     said-refused h P = rw (ne-eqb (w .refusal) 0 h) P
 

@@ -62,6 +62,6 @@ takenText d n Verdict w = judgedText w
 takenText d n Write w = bytesText (ascii "save: ") (getD w 1 0)
 takenText d n Sound w = ascii "sound: the state is sound\n"
 
--- what is said of any answer: refused or taken
+-- what is said of any answer: refused or taken. Behind the refusal stands the place of a reading, and 0 in every other refused call
 unfoldable pub said : ℕ → ℕ → Call → List ℕ → List ℕ
-said d n c w = cond (eqb (getD w 0 0) 0) (takenText d n c w) (refusedText (getD w 0 0))
+said d n c w = cond (eqb (getD w 0 0) 0) (takenText d n c w) (refusedText (getD w 0 0) (getD w 1 0))

@@ -1,4 +1,4 @@
-// The answer of a call in words: a survey has at most 943 bytes, and any other answer is a line of at most 111.
+// The answer of a call in words: a survey has at most 943 bytes, and any other answer is a line of at most 142.
 ghost use mathlib.Core.Path.{_≡_};
 ghost use Prim.Native.Nat.{_+_, _≤_};
 ghost use lib.ListN.{length};
@@ -138,7 +138,7 @@ pub fn put(out: &mut [u8], digits: usize, n: u64, call: Call, w: Words) -> usize
     ensures { λ r. ⌜ r ≤ 943 ⌝ }
 {
     if w.refusal != 0 {
-        return replay_refusals::put(out, w.refusal);
+        return replay_refusals::put(out, w.refusal, w.fields[0]);
     }
     taken(out, digits, n, call, w)
 }

@@ -1,4 +1,4 @@
--- `put`: four pieces. Assumes nothing.
+-- `put`: five pieces. Assumes nothing.
 use native.Mathlib.Omega.{arith}
 use borrow.Author.Needs.{needs}
 use Rattle.replay_refusals.proofs.Refused.{refused-put}
@@ -10,6 +10,9 @@ slice-aggregate-labelled c = search needs
 
 labelled-requires : tie.Need-labelled-requires
 labelled-requires c κs = search needs
+
+at-record-requires : tie.Need-at-record-requires
+at-record-requires c κs = search needs
 
 slice-aggregate-piece : tie.Need-slice-aggregate-piece
 slice-aggregate-piece c = search needs
@@ -31,12 +34,13 @@ same-length c = search needs
 
 returns : tie.Need-returns
 returns c =
-    let fourth = c .before .before in
-    let third = fourth .before .before .before .before .before in
-    let second = third .before .before .before .before in
-    let first = second .before .before .before .before .before in (
-      refused-put _ _ _ _ _ _ _ _ _ _ _ (first .labelled .ensures .0) (second .piece .ensures) (third .sentence .ensures .0) (fourth .piece2 .ensures),
-      omega (arith, second .piece .ensures .ends, fourth .piece2 .ensures .ends),
+    let fifth = c .before .before in
+    let fourth = fifth .before .before .before .before .before in
+    let third = fourth .before .before .before .before in
+    let second = third .before .before .before .before .before in
+    let first = second .before .before .before .before in (
+      refused-put _ _ _ _ _ _ _ _ _ _ _ _ _ _ (first .labelled .ensures .0) (second .at-record .ensures .0) (third .piece .ensures) (fourth .sentence .ensures .0) (fifth .piece2 .ensures),
+      omega (arith, third .piece .ensures .ends, fifth .piece2 .ensures .ends),
     )
 
 pub put-spec : {M : Type 1} → statement M
@@ -45,6 +49,7 @@ put-spec =
     (tie.spec
     slice-aggregate-labelled
     labelled-requires
+    at-record-requires
     slice-aggregate-piece
     piece-requires
     sentence-requires

@@ -1,7 +1,7 @@
--- `sentence`: of the one half or the other. Assumes nothing.
+-- `sentence`: of one of three parts. Assumes nothing.
 use native.Mathlib.Omega.{arith}
 use borrow.Author.Needs.{needs}
-use Rattle.replay_refusals.proofs.Refused.{sentence-low, sentence-high}
+use Rattle.replay_refusals.proofs.Refused.{sentence-low, sentence-middle, sentence-high}
 use Rattle.replay_refusals.proofs.sentence.Statement.{statement}
 use Rattle.replay_refusals.proofs.sentence.Tie as tie
 
@@ -21,8 +21,27 @@ same-length-2 : tie.Need-same-length-2
 same-length-2 c = search needs
 
 returns-2 : tie.Need-returns-2
-returns-2 c = (search sentence-high, omega arith)
+returns-2 c = (search sentence-middle, omega arith)
+
+from-17-requires : tie.Need-from-17-requires
+from-17-requires c κs = search needs
+
+same-length-3 : tie.Need-same-length-3
+same-length-3 c = search needs
+
+returns-3 : tie.Need-returns-3
+returns-3 c = (search sentence-high, omega arith)
 
 pub sentence-spec : {M : Type 1} → statement M
 sentence-spec =
-    tie.close (tie.spec to-8-requires same-length returns from-9-requires same-length-2 returns-2)
+    tie.close
+    (tie.spec
+    to-8-requires
+    same-length
+    returns
+    from-9-requires
+    same-length-2
+    returns-2
+    from-17-requires
+    same-length-3
+    returns-3)

@@ -1,0 +1,52 @@
+-- `from_17`: each arm is the sentence of its number. Assumes nothing.
+use native.Mathlib.Omega.{arith}
+use borrow.Author.Needs.{needs}
+use Rattle.replay_refusals.specs.Refused.{sentenceFrom17}
+use Rattle.replay_refusals.proofs.Refused.{by-number, no-sentence-from-17}
+use Rattle.replay_refusals.proofs.from_17.Statement.{statement}
+use Rattle.replay_refusals.proofs.from_17.Tie as tie
+
+slice-aggregate-piece : tie.Need-slice-aggregate-piece
+slice-aggregate-piece c = search needs
+
+piece-requires : tie.Need-piece-requires
+piece-requires c κs = search needs
+
+same-length : tie.Need-same-length
+same-length c = search needs
+
+returns : tie.Need-returns
+unfolding sentenceFrom17
+returns c =
+    let P = c .before .before .piece .ensures in
+    (by-number _ _ 17 (c .before .before .before .before .before .match .keys1) _ _ _ _ P, omega (arith, P .ends))
+
+own-entry-requires : tie.Need-own-entry-requires
+own-entry-requires c κs = search needs
+
+same-length-2 : tie.Need-same-length-2
+same-length-2 c = search needs
+
+returns-2 : tie.Need-returns-2
+unfolding sentenceFrom17
+returns-2 c =
+    (by-number _ _ 18 (c .before .before .before .before .match .keys2) _ _ _ _ (c .before .before .own-entry .ensures .0), omega arith)
+
+returns-3 : tie.Need-returns-3
+unfolding sentenceFrom17
+returns-3 c =
+    let n = c .match .rest in
+    (no-sentence-from-17 _ _ _ (omega arith) _ (n .0 .1) (n .1), omega arith)
+
+pub from-17-spec : {M : Type 1} → statement M
+from-17-spec =
+    tie.close
+    (tie.spec
+    slice-aggregate-piece
+    piece-requires
+    same-length
+    returns
+    own-entry-requires
+    same-length-2
+    returns-2
+    returns-3)
