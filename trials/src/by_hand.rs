@@ -1,10 +1,12 @@
 //! Images made by hand, and the counts of some surveys, worked out by hand.
 
 use crate::paper::{e1_short, E1};
+use crate::random::{head, with_records};
 use crate::second::{digit, Counts, Settings};
 
 /// An image of nodes that know only themselves, and of the further records (node, level, digit, neighbor).
-pub fn image([base, digits, depth]: [u8; 3], ids: &[u32], more: &[[u8; 4]]) -> Vec<u8> {
+pub fn image(settings: [u8; 3], ids: &[u32], more: &[[u8; 4]]) -> Vec<u8> {
+    let [_, digits, _] = settings;
     let mut records = more.to_vec();
     for (node, id) in (1..).zip(ids) {
         let own = (0..digits).map(|level| [node, level, (id >> (4 * level) & 15) as u8, node]);
@@ -12,11 +14,7 @@ pub fn image([base, digits, depth]: [u8; 3], ids: &[u32], more: &[[u8; 4]]) -> V
     }
     // An owner stands before the others in its own entries.
     records.sort_by_key(|&[node, level, digit, near]| (node, level, digit, near != node, near));
-    let mut image = vec![4, 1, base, digits, depth, ids.len() as u8];
-    image.extend(ids.iter().flat_map(|id| id.to_le_bytes()));
-    image.extend((records.len() as u16).to_le_bytes());
-    image.extend(records.as_flattened());
-    image
+    with_records(&head(settings, ids), &records)
 }
 
 /// An image with the counts of its survey.
@@ -114,4 +112,29 @@ fn filled([base, digits, depth]: [u8; 3]) -> Vec<u8> {
         }
     }
     image([base, digits, depth], &ids, &records)
+}
+
+/// The longest image that is written, 92 records a node: 16 groups of four nodes that share all digits but the last; the groups differ in
+/// digit 0. A node has the other three of its group in its own entries at levels 0 to 6, and all 63 others outside its own entries.
+pub fn longest() -> Vec<u8> {
+    const FOUR: [u8; 4] = [0, 1, 2, 3];
+    let nodes = || (0..16).flat_map(|group| FOUR.map(|last| (group, last)));
+    let number = |group: u8, last: u8| 4 * group + last + 1;
+    let ids = nodes().map(|(group, last)| u32::from_le_bytes([group, 0, 0, last << 4]));
+    let ids: Vec<u32> = ids.collect();
+    let mut records = vec![];
+    for (group, last) in nodes() {
+        let owner = number(group, last);
+        let mut owner_first = FOUR;
+        owner_first.swap(0, last.into());
+        for digit in 0..16 {
+            let entry = if digit == group { owner_first } else { FOUR };
+            records.extend(entry.map(|near| [owner, 0, digit, number(digit, near)]));
+        }
+        for level in 1..7 {
+            records.extend(owner_first.map(|near| [owner, level, 0, number(group, near)]));
+        }
+        records.extend(FOUR.map(|near| [owner, 7, near, number(group, near)]));
+    }
+    with_records(&head([16, 8, 4], &ids), &records)
 }

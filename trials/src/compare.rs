@@ -1,5 +1,5 @@
 //! One script on two engines: every answer, every byte of memory, output and counts after every call, what any
-//! engine must leave alone, and that a survey adds up.
+//! engine must leave alone, what a refusal may have beside its number, and that a survey adds up.
 
 use std::fmt::{self, Display, Formatter};
 
@@ -114,7 +114,7 @@ fn left_alone(line: &Line, answer: u64, before: &Lent, after: &Lent) -> Result<(
         return Ok(());
     };
     let refused = answer & 0xff != 0;
-    if refused && answer > 0xff {
+    if refused && !may_be_refused(call, answer) {
         return Err(format!("a refusal with other fields: {answer:#x}"));
     }
     let (words, bytes, out, counts) = may_write(call, answer);
@@ -138,6 +138,21 @@ fn left_alone(line: &Line, answer: u64, before: &Lent, after: &Lent) -> Result<(
         &before.counts[counts..],
         &after.counts[counts..],
     )
+}
+
+/// A refusal has no other field, but that of a record has its place in the image; 18 may have none.
+fn may_be_refused(call: &Call, answer: u64) -> bool {
+    let (refusal, place) = (answer & 0xff, answer >> 8);
+    match (call, refusal) {
+        (Call::Read { image }, 10 | 17) => (1..=record_count(image)).contains(&place),
+        (Call::Read { image }, 18) => place <= record_count(image),
+        _ => place == 0,
+    }
+}
+
+fn record_count(image: &[u8]) -> u64 {
+    let head = image.get(5).map_or(0, |&nodes| 8 + 4 * usize::from(nodes));
+    (image.len().saturating_sub(head) / 4) as u64
 }
 
 fn same<T: PartialEq + Display>(

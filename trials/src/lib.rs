@@ -10,6 +10,7 @@
 //! - `surveys`: what holds of every survey.
 //! - `paper`: the images of document 01.
 //! - `by_hand`: other images, some with the counts of their survey.
+//! - `records`: images with bad records, and what reading must answer to each.
 //! - `random`: seeded settings, ids, runs, states and images, good and bad.
 //!
 //! `TRIALS_COUNT=50 TRIALS_SEED=1000000 cargo test --release` plays 50 times as many cases, with other seeds.
@@ -22,6 +23,7 @@ pub mod fenced;
 pub mod lent;
 pub mod paper;
 pub mod random;
+pub mod records;
 pub mod script;
 pub mod second;
 pub mod surveys;

@@ -10,7 +10,8 @@ mod states;
 pub use damage::damage;
 pub use ids::{bad_id, bad_number, fresh_id, id, settings};
 pub use images::{
-    changed_bytes, changed_records, cuts, damaged_image, image, image_damages, with_records,
+    changed_bytes, changed_records, cuts, damaged_image, head, image, image_damages, parts,
+    with_records, READING,
 };
 pub use runs::{run, run_from_built, run_in};
 pub use seeds::seeds;

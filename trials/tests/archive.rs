@@ -14,6 +14,8 @@ mod images;
 mod judging;
 #[path = "archive/orders.rs"]
 mod orders;
+#[path = "archive/records.rs"]
+mod records;
 #[path = "archive/runs.rs"]
 mod runs;
 #[path = "archive/support.rs"]

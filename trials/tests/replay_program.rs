@@ -10,6 +10,8 @@ mod mangled;
 mod pipes;
 #[path = "replay_program/player.rs"]
 mod player;
+#[path = "replay_program/records.rs"]
+mod records;
 #[path = "replay_program/scripts.rs"]
 mod scripts;
 #[path = "replay_program/support.rs"]

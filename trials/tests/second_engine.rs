@@ -8,8 +8,12 @@ mod edges;
 mod images;
 #[path = "second_engine/plain.rs"]
 mod plain;
+#[path = "second_engine/plain_records.rs"]
+mod plain_records;
 #[path = "second_engine/promises.rs"]
 mod promises;
+#[path = "second_engine/records.rs"]
+mod records;
 #[path = "second_engine/refusals.rs"]
 mod refusals;
 #[path = "second_engine/runs.rs"]

@@ -18,6 +18,7 @@ const SURVEY: ImageProgram = ImageProgram {
     name: "survey",
     ending: "survey",
     lines,
+    refused: |_| String::new(),
 };
 
 /// The lines of Ticket 1.
@@ -48,6 +49,21 @@ fn counts_worked_out_by_hand_are_printed() {
         let printed = SURVEY.printed(&case.image, case.image.len());
         assert_eq!(printed, format!("refusal 0\n{lines}"), "{}", case.name);
     }
+}
+
+/// A refusal is one line, whichever it is.
+#[test]
+fn bad_records_print_one_line() {
+    SURVEY.bad_records_print(&[
+        ("digit 2 of base 2 in the last", "refusal 10\n"),
+        ("not qualified by its suffix", "refusal 17\n"),
+        ("no records of one", "refusal 18\n"),
+    ]);
+}
+
+#[test]
+fn refused_records_are_printed() {
+    SURVEY.refused_records_are_printed();
 }
 
 #[test]

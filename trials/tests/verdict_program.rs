@@ -14,6 +14,7 @@ const VERDICT: ImageProgram = ImageProgram {
     name: "verdict",
     ending: "out",
     lines,
+    refused,
 };
 
 /// The line of document 01.
@@ -21,6 +22,32 @@ fn lines(memory: &mut Lent) -> String {
     let answer = memory.call(&Second, &Call::Verdict);
     let [_, consistent, node, level, digit, ..] = answer.to_le_bytes();
     format!("consistent {consistent} at {node} {level} {digit}\n")
+}
+
+/// The line of Ticket 2, of a refusal that speaks of records.
+fn refused(answer: u64) -> String {
+    match answer & 0xff {
+        10 | 17 | 18 => format!("record {}\n", answer >> 8),
+        _ => String::new(),
+    }
+}
+
+#[test]
+fn bad_records_print_these_lines() {
+    VERDICT.bad_records_print(&[
+        ("digit 2 of base 2 in the last", "refusal 10\nrecord 6\n"),
+        ("not qualified by its suffix", "refusal 17\nrecord 6\n"),
+        ("no records of one", "refusal 18\nrecord 0\n"),
+        ("an owner second", "refusal 18\nrecord 1\n"),
+        ("[1, 2, 0, 1] at 16380", "refusal 10\nrecord 16380\n"),
+        ("neighbor 3 of 2 in the last", "refusal 9\n"),
+        ("one record too many", "refusal 6\n"),
+    ]);
+}
+
+#[test]
+fn refused_records_are_printed() {
+    VERDICT.refused_records_are_printed();
 }
 
 #[test]

@@ -5,6 +5,9 @@ use crate::engine::Second;
 use crate::script::Call;
 use crate::second::network::Network;
 
+/// What reading an image can answer once there is memory: 0, and these refusals.
+pub const READING: [usize; 11] = [0, 3, 4, 5, 6, 7, 8, 9, 10, 17, 18];
+
 /// The image of a network of some size, K-consistent or not.
 pub fn image(rng: &mut Rng) -> Vec<u8> {
     let calls = rng.pick(&[1, 5, 20, 60, 200]);
@@ -58,7 +61,7 @@ pub fn changed_records(image: &[u8]) -> impl Iterator<Item = Vec<u8>> + '_ {
 }
 
 /// What stands before the records, and the records; None for an image without its counts.
-fn parts(image: &[u8]) -> Option<(Vec<u8>, Vec<[u8; 4]>)> {
+pub fn parts(image: &[u8]) -> Option<(Vec<u8>, Vec<[u8; 4]>)> {
     let count = usize::from(*image.get(5)?);
     let (head, records) = image.split_at_checked(8 + 4 * count)?;
     let records = records
@@ -66,6 +69,14 @@ fn parts(image: &[u8]) -> Option<(Vec<u8>, Vec<[u8; 4]>)> {
         .map(|record| record.try_into().expect("chunks of four"))
         .collect();
     Some((head.to_vec(), records))
+}
+
+/// What stands before the records, their count not yet set.
+pub fn head([base, digits, depth]: [u8; 3], ids: &[u32]) -> Vec<u8> {
+    let mut head = vec![4, 1, base, digits, depth, ids.len() as u8];
+    head.extend(ids.iter().flat_map(|id| id.to_le_bytes()));
+    head.extend([0; 2]);
+    head
 }
 
 /// An image of this head with these records and their count.
@@ -87,7 +98,7 @@ pub fn image_damages(rng: &mut Rng, image: &[u8]) -> Vec<Vec<u8>> {
     each.collect()
 }
 
-const KINDS: usize = 14;
+const KINDS: usize = 15;
 
 fn damaged(rng: &mut Rng, image: &[u8], kind: usize) -> Option<Vec<u8>> {
     let (mut head, mut records) = parts(image)?;
@@ -101,10 +112,11 @@ fn damaged(rng: &mut Rng, image: &[u8], kind: usize) -> Option<Vec<u8>> {
         5 => head[6 + rng.below(4 * count)] ^= 1 << rng.below(8),
         6 => repeat_id(rng, &mut head),
         7..=10 => damage_records(rng, &mut records, kind),
+        14 => damage_more_records(rng, &mut records),
         _ => {}
     }
     let mut image = match kind {
-        7..=10 => with_records(&head, &records),
+        7..=10 | 14 => with_records(&head, &records),
         _ => [&head, records.as_flattened()].concat(),
     };
     let longer = image.len() + [1, 4_000, 70_000][rng.below(3)];
@@ -142,6 +154,16 @@ fn damage_records(rng: &mut Rng, records: &mut Vec<[u8; 4]>, kind: usize) {
         _ => {
             let byte = &mut records[one][rng.below(4)];
             *byte = rng.pick(&[0, byte.wrapping_add(1), byte.wrapping_sub(1), 65, 255]);
+        }
+    }
+}
+
+/// Two to four damages of the records, so that several sentences may hold.
+fn damage_more_records(rng: &mut Rng, records: &mut Vec<[u8; 4]>) {
+    for _ in 0..rng.between(2, 4) {
+        let kind = 7 + rng.below(4);
+        if !records.is_empty() {
+            damage_records(rng, records, kind);
         }
     }
 }

@@ -1,4 +1,4 @@
-//! What each call answers: the refusal first, 0 if none; on a refusal every other field is zero.
+//! What each call answers: the refusal first, 0 if none; on a refusal every other field is zero, but for the place of a reading.
 
 use super::refusal::Refusal;
 
@@ -14,7 +14,7 @@ pub trait Answer: Sized {
     }
 }
 
-/// Puts eight-bit fields above the refusal, the first one lowest.
+/// Puts eight-bit fields above the refusal, the first one lowest; the last may be wider.
 fn packed(refusal: u8, fields: &[u64]) -> u64 {
     fields
         .iter()
@@ -23,10 +23,17 @@ fn packed(refusal: u8, fields: &[u64]) -> u64 {
         | u64::from(refusal)
 }
 
-/// Founding and reading.
+/// Founding.
 #[derive(Clone, Copy, Debug, Default, PartialEq, Eq)]
 pub struct FoundAnswer {
     pub refusal: u8,
+}
+
+/// Reading: where a record is refused its place, counted from 1, else 0.
+#[derive(Clone, Copy, Debug, Default, PartialEq, Eq)]
+pub struct ReadAnswer {
+    pub refusal: u8,
+    pub place: u64,
 }
 
 /// Beginning a join: the new node's number.
@@ -92,6 +99,19 @@ impl Answer for FoundAnswer {
 
     fn pack(&self) -> u64 {
         packed(self.refusal, &[])
+    }
+}
+
+impl Answer for ReadAnswer {
+    fn refused(refusal: Refusal) -> ReadAnswer {
+        ReadAnswer {
+            refusal: refusal as u8,
+            ..ReadAnswer::default()
+        }
+    }
+
+    fn pack(&self) -> u64 {
+        packed(self.refusal, &[self.place])
     }
 }
 

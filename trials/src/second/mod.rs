@@ -22,8 +22,8 @@ pub mod table;
 mod writing;
 
 pub use answers::{
-    Answer, BeginAnswer, Counts, DeliverAnswer, FoundAnswer, LookupAnswer, SurveyAnswer,
-    VerdictAnswer, WriteAnswer, LOST,
+    Answer, BeginAnswer, Counts, DeliverAnswer, FoundAnswer, LookupAnswer, ReadAnswer,
+    SurveyAnswer, VerdictAnswer, WriteAnswer, LOST,
 };
 pub use beginning::begin;
 pub use consistency::verdict;

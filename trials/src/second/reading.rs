@@ -1,6 +1,6 @@
 //! Reading an image: judged sentence by sentence, each over the whole image, then taken as a settled network.
 
-use super::answers::{Answer, FoundAnswer};
+use super::answers::{Answer, ReadAnswer};
 use super::founding::encode_all;
 use super::memory::{self, MOST_NODES};
 use super::network::Network;
@@ -26,16 +26,36 @@ struct Record {
     neighbor: usize,
 }
 
-pub fn read(state: &mut [u64], tables: &mut [u8], image: &[u8]) -> FoundAnswer {
-    FoundAnswer::of(try_read(state, tables, image))
+/// Why an image is declined, and the place of the record for which it is, 0 for none.
+struct Declined {
+    refusal: Refusal,
+    place: usize,
 }
 
-fn try_read(state: &mut [u64], tables: &mut [u8], image: &[u8]) -> Result<FoundAnswer, Refusal> {
+impl From<Refusal> for Declined {
+    fn from(refusal: Refusal) -> Declined {
+        Declined { refusal, place: 0 }
+    }
+}
+
+pub fn read(state: &mut [u64], tables: &mut [u8], image: &[u8]) -> ReadAnswer {
+    match try_read(state, tables, image) {
+        Ok(()) => ReadAnswer::default(),
+        Err(Declined { refusal, place }) => ReadAnswer {
+            place: place as u64,
+            ..ReadAnswer::refused(refusal)
+        },
+    }
+}
+
+fn try_read(state: &mut [u64], tables: &mut [u8], image: &[u8]) -> Result<(), Declined> {
     let (state, tables) = memory::lent_mut(state, tables).ok_or(Refusal::ShortMemory)?;
     let image = Image::parse(image)?;
     image.judge_ids()?;
     image.judge_numbers()?;
+    image.judge_order()?;
     let all = image.build_tables()?;
+    image.judge_own_entries(&all)?;
 
     encode_all(
         &Network::settled(image.settings, &image.ids),
@@ -43,7 +63,7 @@ fn try_read(state: &mut [u64], tables: &mut [u8], image: &[u8]) -> Result<FoundA
         state,
         tables,
     );
-    Ok(FoundAnswer::default())
+    Ok(())
 }
 
 impl Image {
@@ -99,35 +119,61 @@ impl Image {
         Refusal::NoSuchNode.when(!self.records.iter().all(known))
     }
 
-    /// Sentence 10: records rise, each finds room in its entry, and every node stands first in its own entries.
-    fn build_tables(&self) -> Result<Vec<Table>, Refusal> {
-        let falls = |pair: &[Record]| pair[1].entry() < pair[0].entry();
-        Refusal::BadRecords.when(self.records.windows(2).any(falls))?;
+    /// Sentence 10: levels and digits are in range, and no record is below the one before it.
+    fn judge_order(&self) -> Result<(), Declined> {
+        let (digits, base) = (self.settings.digits(), self.settings.base());
+        let mut before = (0, 0, 0);
+        self.none_is(Refusal::RecordOrder, |record| {
+            let below = record.entry() < before;
+            before = record.entry();
+            below || record.level >= digits || record.digit >= base
+        })
+    }
+
+    /// Sentence 17: each neighbor is qualified for its entry, new there, and finds room.
+    fn build_tables(&self) -> Result<Vec<Table>, Declined> {
         let mut all = vec![Table::empty(self.settings); self.ids.len()];
-        for record in &self.records {
-            Refusal::BadRecords.when(!self.qualified(record))?;
-            let taken = all[record.node - 1].append(record.level, record.digit, record.neighbor);
-            Refusal::BadRecords.when(!taken)?;
-        }
-        let owner_first = |(table, number): (&Table, usize)| self.owner_is_first(table, number);
-        Refusal::BadRecords.when(!all.iter().zip(1..).all(owner_first))?;
+        self.none_is(Refusal::RecordNeighbor, |record| {
+            let table = &mut all[record.node - 1];
+            !self.qualified(record) || !table.append(record.level, record.digit, record.neighbor)
+        })?;
         Ok(all)
     }
 
-    /// Is there such an entry, and may the neighbor stand in it?
-    fn qualified(&self, record: &Record) -> bool {
-        let (owner, neighbor) = (self.ids[record.node - 1], self.ids[record.neighbor - 1]);
-        record.level < self.settings.digits()
-            && record.digit < self.settings.base()
-            && self
-                .settings
-                .qualified(neighbor, owner, record.level, record.digit)
+    /// Sentence 18: no own entry is without a record, and each starts with its owner.
+    fn judge_own_entries(&self, all: &[Table]) -> Result<(), Declined> {
+        let absent = |(table, &id): (&Table, &u32)| {
+            (0..self.settings.digits()).any(|level| table.entry(level, digit(id, level)).is_empty())
+        };
+        Refusal::OwnEntry.when(all.iter().zip(&self.ids).any(absent))?;
+        let mut before = (0, 0, 0);
+        self.none_is(Refusal::OwnEntry, |record| {
+            let starts = record.entry() != before;
+            before = record.entry();
+            starts && record.neighbor != record.node && self.in_own_entry(record)
+        })
     }
 
-    fn owner_is_first(&self, table: &Table, number: usize) -> bool {
-        let id = self.ids[number - 1];
-        (0..self.settings.digits())
-            .all(|level| table.entry(level, digit(id, level)).first() == Some(number))
+    /// Declines at the first record that is bad; they are asked in order.
+    fn none_is(&self, refusal: Refusal, bad: impl FnMut(&Record) -> bool) -> Result<(), Declined> {
+        match self.records.iter().position(bad) {
+            Some(before) => Err(Declined {
+                refusal,
+                place: before + 1,
+            }),
+            None => Ok(()),
+        }
+    }
+
+    /// May the neighbor stand in the entry?
+    fn qualified(&self, record: &Record) -> bool {
+        let (owner, neighbor) = (self.ids[record.node - 1], self.ids[record.neighbor - 1]);
+        self.settings
+            .qualified(neighbor, owner, record.level, record.digit)
+    }
+
+    fn in_own_entry(&self, record: &Record) -> bool {
+        record.digit == digit(self.ids[record.node - 1], record.level)
     }
 }
 

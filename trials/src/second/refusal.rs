@@ -11,18 +11,20 @@ pub enum Refusal {
     BadId = 7,
     IdTaken = 8,
     NoSuchNode = 9,
-    BadRecords = 10,
+    RecordOrder = 10,
     Full = 11,
     GatewayNotInSystem = 12,
     NotOutstanding = 13,
     Held = 14,
     JoinInFlight = 15,
     ShortOutput = 16,
+    RecordNeighbor = 17,
+    OwnEntry = 18,
 }
 
 impl Refusal {
     /// Every refusal, in the order of the numbers.
-    pub const ALL: [Refusal; 16] = [
+    pub const ALL: [Refusal; 18] = [
         Refusal::ShortMemory,
         Refusal::Unsound,
         Refusal::NotAnImage,
@@ -32,14 +34,19 @@ impl Refusal {
         Refusal::BadId,
         Refusal::IdTaken,
         Refusal::NoSuchNode,
-        Refusal::BadRecords,
+        Refusal::RecordOrder,
         Refusal::Full,
         Refusal::GatewayNotInSystem,
         Refusal::NotOutstanding,
         Refusal::Held,
         Refusal::JoinInFlight,
         Refusal::ShortOutput,
+        Refusal::RecordNeighbor,
+        Refusal::OwnEntry,
     ];
+
+    /// How many numbers an answer may have: 0, and that of each refusal.
+    pub const NUMBERS: usize = Refusal::ALL.len() + 1;
 
     /// Declines when `so` holds; a call's sentences stand one below the other as `refusal.when(..)?`.
     pub fn when(self, so: bool) -> Result<(), Refusal> {

@@ -9,6 +9,7 @@ use trials::fenced::{Fenced, FencedArchive, Place};
 use trials::lent::ALL;
 use trials::paper::E1;
 use trials::random::{cuts, image, image_damages, run, run_from_built, seeds, Rng};
+use trials::records::{by_hand, long, Judged};
 use trials::script::{Call, Lend, Line, Script};
 use trials::second::memory::{STATE_WORDS, TABLE_BYTES};
 
@@ -146,6 +147,19 @@ fn images_of_every_length_are_judged_alike() {
         }
         agree(seed, &script);
     }
+}
+
+#[test]
+fn refused_records_are_judged_alike() {
+    let cases: Vec<Judged> = by_hand().into_iter().chain(long()).collect();
+    let mut script = Script::default();
+    script.lines.push(Line::Lend(EXACT));
+    for case in &cases {
+        let image = case.image.clone();
+        script.call(Call::Read { image });
+    }
+    let answers = agree(0, &script);
+    assert!(cases.iter().map(Judged::answer).eq(answers[1..].to_vec()));
 }
 
 #[test]

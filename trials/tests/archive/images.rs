@@ -5,9 +5,10 @@ use trials::compare::Pair;
 use trials::engine::Second;
 use trials::lent::ALL;
 use trials::random::{
-    changed_bytes, changed_records, cuts, image, image_damages, seeds, with_records, Rng,
+    changed_bytes, changed_records, cuts, image, image_damages, seeds, with_records, Rng, READING,
 };
 use trials::script::{Call, Lend, Line};
+use trials::second::Refusal;
 
 use crate::support::{full_image, Both};
 
@@ -15,7 +16,7 @@ use crate::support::{full_image, Both};
 struct Reader {
     pair: Pair<'static>,
     seed: u64,
-    refusals: [usize; 17],
+    refusals: [usize; Refusal::NUMBERS],
     consistent: usize,
     not: usize,
 }
@@ -25,7 +26,7 @@ impl Reader {
         Reader {
             pair: Pair::new(&Archive, &Second),
             seed: 0,
-            refusals: [0; 17],
+            refusals: [0; Refusal::NUMBERS],
             consistent: 0,
             not: 0,
         }
@@ -39,27 +40,33 @@ impl Reader {
         })
     }
 
-    /// Reads over what the memory holds. A taken image is judged, and written back byte for byte.
+    /// Reads over what the memory holds; the packed answer. A taken image is judged, and written back byte for byte.
     fn read(&mut self, image: &[u8]) -> u64 {
         let read = Call::Read {
             image: image.to_vec(),
         };
-        let refusal = self.call(read, image);
-        self.refusals[refusal as usize] += 1;
-        if refusal == 0 {
+        let answer = self.call(read, image);
+        self.refusals[(answer & 0xff) as usize] += 1;
+        if answer == 0 {
             let consistent = self.call(Call::Verdict, image) == 0x100;
             self.consistent += usize::from(consistent);
             self.not += usize::from(!consistent);
             let length = self.call(Call::Write, image) >> 8;
             assert_eq!(self.pair.memory().out[..length as usize], *image);
         }
-        refusal
+        answer
     }
 
     fn read_each(&mut self, images: impl IntoIterator<Item = Vec<u8>>) {
         for image in images {
             self.read(&image);
         }
+    }
+
+    /// Each of these more than so often.
+    fn met_each(&self, refusals: &[usize], times: usize) {
+        let often = |&refusal: &usize| self.refusals[refusal] > times;
+        assert!(refusals.iter().all(often), "{:?}", self.refusals);
     }
 }
 
@@ -96,9 +103,7 @@ fn images_with_each_byte_changed_are_judged_alike() {
             reader.read_each(changed_bytes(&mut rng, &image));
         }
     }
-    for refusal in [0, 3, 4, 5, 6, 7, 8, 9, 10] {
-        assert!(reader.refusals[refusal] > 10, "{:?}", reader.refusals);
-    }
+    reader.met_each(&READING, 10);
 }
 
 /// A few bytes changed at once, so that several sentences may hold.
@@ -127,9 +132,7 @@ fn images_with_several_bytes_changed_are_judged_alike() {
             reader.read(&bytes_changed(&mut rng, &image));
         }
     }
-    for refusal in [0, 3, 4, 5, 6, 7, 8, 9, 10] {
-        assert!(reader.refusals[refusal] > 10, "{:?}", reader.refusals);
-    }
+    reader.met_each(&READING, 10);
 }
 
 #[test]
@@ -142,11 +145,7 @@ fn images_with_records_changed_are_judged_alike() {
             reader.read_each(changed_records(&image));
         }
     }
-    assert!(
-        reader.refusals[0] > 1_000 && reader.refusals[10] > 1_000,
-        "{:?}",
-        reader.refusals
-    );
+    reader.met_each(&[0, 10, 17, 18], 500);
     assert!(reader.not > 1_000, "{} not consistent", reader.not);
 }
 
@@ -161,9 +160,7 @@ fn damaged_images_are_judged_alike() {
             reader.read_each(image_damages(&mut rng, &image));
         }
     }
-    for refusal in [0, 3, 4, 5, 6, 7, 8, 9, 10] {
-        assert!(reader.refusals[refusal] > 10, "{:?}", reader.refusals);
-    }
+    reader.met_each(&READING, 10);
 }
 
 #[test]
@@ -180,7 +177,7 @@ fn damaged_images_of_full_networks_are_judged_alike() {
             reader.read_each(image_damages(&mut rng, &image));
         }
     }
-    assert!(reader.refusals[0] > 100 && reader.refusals[10] > 100);
+    reader.met_each(&[0, 10, 17, 18], 100);
 }
 
 /// One byte more, thousands more, and as many records as the counts can say.
@@ -197,11 +194,12 @@ fn overlong_images_are_refused() {
         let head = &image[..8 + 4 * usize::from(image[5])];
         let record = *image.last_chunk().expect("a record ends it");
         let last = (65_532 - head.len()) / 4;
-        for (records, refusal) in [(last, 10), (last + 1, 6), (65_535, 6)] {
+        // The record is right, and the next repeats it: 17 at 2.
+        for (records, answer) in [(last, 0x211), (last + 1, 6), (65_535, 6)] {
             let long = with_records(head, &vec![record; records]);
             assert_eq!(
                 reader.read(&long),
-                refusal,
+                answer,
                 "seed {seed}, {} bytes",
                 long.len()
             );

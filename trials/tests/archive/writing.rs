@@ -1,9 +1,10 @@
 //! Verdict and writing: the memory for the image, joins in flight, and states that no run reaches.
 
+use trials::by_hand::longest;
 use trials::lent::ALL;
-use trials::random::{damage, image, seeds, with_records, Rng};
+use trials::random::{damage, image, seeds, Rng};
 use trials::script::{Call, Lend};
-use trials::second::LONGEST_IMAGE;
+use trials::second::{Refusal, LONGEST_IMAGE};
 
 use crate::support::Both;
 
@@ -24,36 +25,10 @@ fn writing_needs_the_length_of_the_image_and_leaves_the_rest_alone() {
     }
 }
 
-/// 16 groups of four nodes that share all digits but the last; the groups differ in digit 0. A node has the other three of its group in
-/// its own entries at levels 0 to 6, and all 63 others outside its own entries.
-fn longest_image() -> Vec<u8> {
-    const FOUR: [u8; 4] = [0, 1, 2, 3];
-    let nodes = || (0..16).flat_map(|group| FOUR.map(|last| (group, last)));
-    let number = |group: u8, last: u8| 4 * group + last + 1;
-    let mut head = vec![4, 1, 16, 8, 4, 64];
-    head.extend(nodes().flat_map(|(group, last)| [group, 0, 0, last << 4]));
-    head.extend([0; 2]);
-    let mut records = vec![];
-    for (group, last) in nodes() {
-        let owner = number(group, last);
-        let mut owner_first = FOUR;
-        owner_first.swap(0, last.into());
-        for digit in 0..16 {
-            let entry = if digit == group { owner_first } else { FOUR };
-            records.extend(entry.map(|near| [owner, 0, digit, number(digit, near)]));
-        }
-        for level in 1..7 {
-            records.extend(owner_first.map(|near| [owner, level, 0, number(group, near)]));
-        }
-        records.extend(FOUR.map(|near| [owner, 7, near, number(group, near)]));
-    }
-    with_records(&head, &records)
-}
-
 /// OVERLAY_MOST_WRITTEN_BYTES of the header: one network needs them all.
 #[test]
 fn the_longest_image_is_written() {
-    let image = longest_image();
+    let image = longest();
     assert_eq!(image.len(), LONGEST_IMAGE);
     let mut both = Both::read_in(&image);
     let lend = |out| Lend { out, ..ALL };
@@ -66,7 +41,7 @@ fn the_longest_image_is_written() {
 /// In any state, sound and settled or not, then after each of some damages.
 #[test]
 fn verdict_and_writing_agree_in_any_state() {
-    let mut met = [0; 17];
+    let mut met = [0; Refusal::NUMBERS];
     for seed in seeds(1_000, 400) {
         let mut rng = Rng::new(seed);
         let mut both = Both::after_some_run(&mut rng);

@@ -5,6 +5,7 @@ use std::fs;
 use trials::engine::{Engine, Second};
 use trials::lent::Lent;
 use trials::random::{cuts, damaged_image, image, seeds, Rng};
+use trials::records::{by_hand, long, moved, named, one_fault, Judged};
 
 use crate::pipes::{printed, root};
 
@@ -18,6 +19,8 @@ pub struct ImageProgram {
     pub ending: &'static str,
     /// The lines after the first, of an image that was read into this memory.
     pub lines: fn(&mut Lent) -> String,
+    /// The lines after the first, of an image that is refused with this answer.
+    pub refused: fn(u64) -> String,
 }
 
 impl ImageProgram {
@@ -30,8 +33,12 @@ impl ImageProgram {
         let mut memory = Lent::noise();
         match Second.read(&mut memory.state, &mut memory.tables, image) {
             0 => format!("refusal 0\n{}", (self.lines)(&mut memory)),
-            refusal => format!("refusal {refusal}\n"),
+            answer => self.refusal(answer),
         }
+    }
+
+    fn refusal(&self, answer: u64) -> String {
+        format!("refusal {}\n{}", answer & 0xff, (self.refused)(answer))
     }
 
     /// Answers what is printed, which must be what is expected.
@@ -42,7 +49,7 @@ impl ImageProgram {
     }
 
     pub fn samples_print_what_stands_beside_them(&self) {
-        for name in ["e1", "e1-short", "network64"] {
+        for name in ["e1", "e1-damaged", "e1-short", "network64"] {
             let beside = |ending: &str| root().join("samples").join(format!("{name}.{ending}"));
             let image = fs::read(beside("image")).expect(name);
             let lines = fs::read_to_string(beside(self.ending)).expect(name);
@@ -63,6 +70,24 @@ impl ImageProgram {
             }
         }
         all
+    }
+
+    /// What is printed for bad records, written out; each image by its name.
+    pub fn bad_records_print(&self, cases: &[(&str, &str)]) {
+        for (name, lines) in cases {
+            assert_eq!(self.printed(&named(name).image, WHOLE), *lines, "{name}");
+        }
+    }
+
+    /// The numbers and places are those known for each image.
+    pub fn refused_records_are_printed(&self) {
+        let lists = [by_hand(), moved(), long(), one_fault()];
+        let refused = |case: &Judged| case.refusal != 0;
+        for case in lists.into_iter().flatten().filter(refused) {
+            let lines = self.refusal(case.answer());
+            assert_eq!(self.printed(&case.image, WHOLE), lines, "{}", case.name);
+            assert_eq!(self.expected(&case.image), lines, "{}", case.name);
+        }
     }
 
     pub fn cut_images_print_the_same(&self) {

@@ -159,20 +159,39 @@ survey: 2 pairs
     assert_eq!(printed(script), expected);
 }
 
-/// docs/REPLAY.md, "A survey": its first block is a script, and its second what is printed.
-#[test]
-fn the_survey_of_the_page_is_printed() {
+/// A section of docs/REPLAY.md: its first block is a script, and its second what is printed.
+fn blocks(heading: &str) -> [String; 2] {
     let page = fs::read_to_string(root().join("docs/REPLAY.md")).expect("the page");
-    let (_, section) = page.split_once("## A survey\n").expect("the section");
-    let blocks: Vec<String> = section
+    let (_, section) = page.split_once(heading).expect("the section");
+    let mut blocks = section
         .split("\n\n")
         .filter(|part| part.starts_with("    "))
-        .map(|part| part.replace("\n    ", "\n")[4..].to_string() + "\n")
-        .collect();
-    let image = fs::read(root().join("samples/network64.image")).expect("the sample");
-    let script = blocks[0].replace("samples/", "");
-    let printed = printed_beside(&[("network64.image".into(), image)], script.as_bytes());
-    assert_eq!(printed, blocks[1]);
+        .map(|part| part.replace("\n    ", "\n")[4..].to_string() + "\n");
+    [(); 2].map(|_| blocks.next().expect("two blocks"))
+}
+
+/// A section of the page whose script loads this sample.
+fn section_is_printed(heading: &str, sample: &str) {
+    let [script, lines] = blocks(heading);
+    let image = fs::read(root().join("samples").join(sample)).expect(sample);
+    let script = script.replace("samples/", "");
+    let printed = printed_beside(&[(sample.into(), image)], script.as_bytes());
+    assert_eq!(printed, lines);
+}
+
+#[test]
+fn the_survey_of_the_page_is_printed() {
+    section_is_printed("## A survey\n", "network64.image");
+}
+
+#[test]
+fn the_refused_image_of_the_page_is_printed() {
+    section_is_printed("## A refused image\n", "e1-damaged.image");
+}
+
+/// What is printed of an image that is loaded.
+fn loaded(image: &[u8]) -> String {
+    printed_beside(&[("image".into(), image.to_vec())], b"load image")
 }
 
 /// The chain, its gap and base 4 of the surveys worked out by hand: shares that are rounded up, and counts of one to four columns.
@@ -250,17 +269,13 @@ line 11: not understood
 #[test]
 fn images_are_kept_as_they_come_and_overlong_ones_meet_6_if_nothing_earlier() {
     let whole = fs::read(root().join("samples/network64.image")).expect("network64");
-    let load = |image: &[u8]| {
-        let file = ("image".into(), image.to_vec());
-        printed_beside(&[file], b"load image")
-    };
-    assert_eq!(load(&whole), format!("load: {} bytes\n", whole.len()));
+    assert_eq!(loaded(&whole), format!("load: {} bytes\n", whole.len()));
     for length in [whole.len() + 1, 65_535, 65_536, 65_537, 70_000, 1_000_000] {
         let mut long = whole.clone();
         long.resize(length, 0);
-        assert!(load(&long).starts_with("refused 6: "), "{length}");
+        assert!(loaded(&long).starts_with("refused 6: "), "{length}");
         long[1] = 2;
-        assert!(load(&long).starts_with("refused 4: "), "{length}");
+        assert!(loaded(&long).starts_with("refused 4: "), "{length}");
     }
 }
 

@@ -104,7 +104,7 @@ impl<'a> Player<'a> {
             Command::Save { file } => self.save(file),
             Command::Load { file } => self.load(file),
             Command::Table { node } => {
-                tabled(state, tables, *node).unwrap_or_else(|refusal| refused(refusal as u64))
+                tabled(state, tables, *node).unwrap_or_else(|refusal| refused(refusal as u64, 0))
             }
         }
     }

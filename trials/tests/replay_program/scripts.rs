@@ -284,12 +284,15 @@ fn agree(made: Made, ours: &Folder, seed: u64, looks: &mut BTreeMap<String, usiz
 #[test]
 fn random_scripts_print_what_the_second_engine_answers() {
     let mut looks = BTreeMap::new();
+    let mut at_record = 0;
     for seed in seeds(0, 150) {
         let ours = Folder::new();
         let made = script(&mut Rng::new(seed), 200, &ours);
+        at_record += made.printed.matches(" at record ").count();
         agree(made, &ours, seed, &mut looks);
     }
-    println!("{looks:?}");
+    println!("{at_record} at a record, {looks:?}");
+    assert!(at_record > 0);
     let wanted = [
         "table refused 2",
         "table refused 9",

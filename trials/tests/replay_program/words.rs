@@ -5,7 +5,7 @@ use trials::second::network::{Network, Status};
 use trials::second::table::Table;
 use trials::second::{lent_and_sound, Counts, Refusal, LOST};
 
-const SENTENCES: [&str; 17] = [
+const SENTENCES: [&str; 19] = [
     "",
     "the lent memory is too short",
     "the state is not sound",
@@ -16,29 +16,41 @@ const SENTENCES: [&str; 17] = [
     "an id has a digit not below the base, or a bit above its digits",
     "an id is taken already",
     "a node number is 0 or above the number of nodes",
-    "the image's records break their order or the table rules",
+    "a level or digit is out of range, or the record is below the one before it",
     "there are 64 nodes already",
     "the gateway is not settled",
     "no request from the first node to the second is outstanding",
     "the receiver of a wait request is not settled",
     "a node is not settled",
     "the memory for the image is too short",
+    "the neighbour is not qualified, is in its entry already, or finds it full",
+    "an own entry does not start with its owner",
 ];
+
+/// Of 18 without a place.
+const NO_OWN_RECORD: &str = "an own entry has no record";
 
 pub fn field(answer: u64, k: u64) -> u64 {
     answer >> (8 * k) & 0xff
 }
 
-/// The words of a packed answer, unless it is a refusal.
+/// The words of a packed answer, unless it is a refusal: above that one, reading has the place of a record, and every other call nothing.
 pub fn said(answer: u64, words: impl FnOnce(u64) -> String) -> String {
     match field(answer, 0) {
         0 => words(answer),
-        refusal => refused(refusal),
+        refusal => refused(refusal, answer >> 8),
     }
 }
 
-pub fn refused(refusal: u64) -> String {
-    format!("refused {refusal}: {}", SENTENCES[refusal as usize])
+pub fn refused(refusal: u64, place: u64) -> String {
+    let sentence = match (refusal, place) {
+        (18, 0) => NO_OWN_RECORD,
+        _ => SENTENCES[refusal as usize],
+    };
+    match place {
+        0 => format!("refused {refusal}: {sentence}"),
+        _ => format!("refused {refusal} at record {place}: {sentence}"),
+    }
 }
 
 pub fn delivered(answer: u64) -> String {

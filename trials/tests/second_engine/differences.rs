@@ -94,7 +94,8 @@ impl Engine for Spoiled {
 
 const SCRIPT: &str = "found 2 2 1 0\nwrite\nlookup 1 1\nbegin 1 1\nbegin 1 1\nverdict\nsound\n\
                       read 04\nread 0401020201010000000002000100000101010001\nverdict\n\
-                      begin 1 1\nsurvey\nlend 519 32768 0\nsurvey\n";
+                      begin 1 1\nsurvey\nlend 519 32768 0\nsurvey\nlend 520 32768 0\n\
+                      read 0401020201010000000002000101000101000001\nread 040102020101000000000000\n";
 
 /// The line of the first difference between two engines.
 fn first_difference(a: &dyn Engine, b: &dyn Engine) -> Option<usize> {
@@ -255,5 +256,51 @@ fn two_engines_with_the_same_fault_in_a_survey_are_seen() {
         };
         let found = first_difference(&fault(), &fault());
         assert_eq!(found, Some(line), "{number}");
+    }
+}
+
+/// What a reading answers instead of one answer.
+type Instead = fn(&mut [u64], &mut [u8], u64) -> u64;
+
+/// Line 8 is refused 3, line 16 is refused 10 at the second of two records, line 17 is refused 18 and has none.
+const WRONG_PLACES: [(Instead, usize); 6] = [
+    (
+        |_, _, answer| if answer == 0x03 { 0x103 } else { answer },
+        8,
+    ),
+    (
+        |_, _, answer| if answer == 0x20a { 0x0a } else { answer },
+        16,
+    ),
+    (
+        |_, _, answer| if answer == 0x20a { 0x30a } else { answer },
+        16,
+    ),
+    (
+        |_, _, answer| if answer == 0x20a { 0x209 } else { answer },
+        16,
+    ),
+    (|_, _, answer| answer | (answer & 0x200) << 32, 16),
+    (
+        |_, _, answer| if answer == 0x12 { 0x112 } else { answer },
+        17,
+    ),
+];
+
+#[test]
+fn every_difference_of_a_place_is_seen() {
+    let other: Instead = |_, _, answer| if answer == 0x20a { 0x10a } else { answer };
+    for (read, line) in WRONG_PLACES.into_iter().chain([(other, 16)]) {
+        let engine = Spoiled { read, ..UNSPOILED };
+        assert_eq!(first_difference(&engine, &Second), Some(line));
+        assert_eq!(first_difference(&Second, &engine), Some(line));
+    }
+}
+
+#[test]
+fn two_engines_with_the_same_place_that_cannot_be_are_seen() {
+    for (read, line) in WRONG_PLACES {
+        let fault = || Spoiled { read, ..UNSPOILED };
+        assert_eq!(first_difference(&fault(), &fault()), Some(line));
     }
 }

@@ -1,8 +1,8 @@
 //! Images: round trips, and every kind of damage.
 
 use trials::lent::Lent;
-use trials::random::{changed_bytes, cuts, image, image_damages, seeds, Rng};
-use trials::second::sound;
+use trials::random::{changed_bytes, cuts, image, image_damages, seeds, Rng, READING};
+use trials::second::{sound, Refusal};
 
 use crate::support::Trial;
 
@@ -52,7 +52,7 @@ fn cut_images_are_refused() {
 
 #[test]
 fn changed_images_are_taken_or_refused_whole() {
-    let mut seen = [0; 17];
+    let mut seen = [0; Refusal::NUMBERS];
     let (mut trial, mut before) = (Trial::new(), Lent::noise());
     for seed in seeds(0, 60) {
         let mut rng = Rng::new(seed);
@@ -68,7 +68,7 @@ fn changed_images_are_taken_or_refused_whole() {
             }
         }
     }
-    for refusal in [0, 3, 4, 5, 6, 7, 8, 9, 10] {
+    for refusal in READING {
         assert!(seen[refusal] > 0, "{refusal} was never met: {seen:?}");
     }
 }

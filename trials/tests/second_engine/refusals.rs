@@ -32,6 +32,7 @@ fn damaged(place: usize, value: u8) -> Vec<u8> {
     image
 }
 
+/// Of reading all that comes before the records; those are in `records`.
 #[test]
 fn founding_and_reading_judge_in_order() {
     let mut trial = Trial::new();
@@ -69,14 +70,6 @@ fn founding_and_reading_judge_in_order() {
         (damaged(6, 2), 7),
         (damaged(13, 1), 7),
         (damaged(10, 0), 8),
-        (damaged(16, 0), 9),
-        (damaged(16, 3), 9),
-        (damaged(19, 0), 9),
-        (damaged(35, 3), 9),
-        (damaged(17, 2), 10),
-        (damaged(18, 2), 10),
-        (damaged(19, 2), 10),
-        (damaged(16, 2), 10),
     ];
     for (image, refusal) in cases {
         assert_eq!(trial.read(&image).refusal, refusal, "{image:x?}");
@@ -100,9 +93,6 @@ fn a_sentence_is_judged_over_the_whole_image_first() {
     repeated_then_bad[5] = 3;
     repeated_then_bad.splice(14..14, [2, 0, 0, 0]);
     assert_eq!(Trial::new().read(&repeated_then_bad).refusal, 7);
-    let mut falling_then_unknown = damaged(17, 1);
-    falling_then_unknown[36] = 3;
-    assert_eq!(Trial::new().read(&falling_then_unknown).refusal, 9);
 }
 
 #[test]

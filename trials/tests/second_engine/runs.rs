@@ -47,7 +47,7 @@ fn name(line: &Line) -> String {
 /// What the calls of runs are refused by, 0 for a taken one.
 const MET: [(&str, &[u64]); 8] = [
     ("found", &[0, 1, 5, 7]),
-    ("read", &[0, 1, 3, 4, 5, 6, 7, 8, 9, 10]),
+    ("read", &[0, 1, 3, 4, 5, 6, 7, 8, 9, 10, 17, 18]),
     ("begin", &[0, 1, 7, 8, 9, 11, 12]),
     ("deliver", &[0, 1, 9, 13, 14]),
     ("lookup", &[0, 1, 9]),

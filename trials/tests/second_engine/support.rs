@@ -3,8 +3,8 @@
 use trials::lent::Lent;
 use trials::second::network::Network;
 use trials::second::{
-    self, BeginAnswer, DeliverAnswer, FoundAnswer, LookupAnswer, SurveyAnswer, VerdictAnswer,
-    WriteAnswer,
+    self, BeginAnswer, DeliverAnswer, FoundAnswer, LookupAnswer, ReadAnswer, SurveyAnswer,
+    VerdictAnswer, WriteAnswer,
 };
 
 pub struct Trial {
@@ -36,7 +36,7 @@ impl Trial {
         second::found(state, tables, base, digits, depth, id)
     }
 
-    pub fn read(&mut self, image: &[u8]) -> FoundAnswer {
+    pub fn read(&mut self, image: &[u8]) -> ReadAnswer {
         let Lent { state, tables, .. } = &mut self.memory;
         second::read(state, tables, image)
     }
