@@ -88,7 +88,7 @@ module _ (im : List ℕ) (h : Header) (w : Headed im h) (c : Cursor) (f : Follow
   ends-early e o l b q g =
       record {
         disordered =
-            fault-here (imRecords im) (recOrdered im) (c .next) (omega (arith, w .records)) (f .ordered)
+            fault-here (imRecords im) (recOrdered im) (c .next) (omega (arith, w .records)) (f .behind .ordered)
             (sym (order-held im (w .counted) c f h e w o) ∙ sym q ∙ not-true b g);
         through = λ z. absurd (omega arith);
       }
@@ -98,10 +98,10 @@ module _ (im : List ℕ) (h : Header) (w : Headed im h) (c : Cursor) (f : Follow
   ends-late m l g =
       let n : c .next ≡ imRecords im = omega (arith, w .records) in
       record {
-        disordered = none-fault (imRecords im) (recOrdered im) (subst (λ (k : ℕ). allBelow k (recOrdered im) ≡ true) n (f .ordered));
+        disordered = none-fault (imRecords im) (recOrdered im) (subst (λ (k : ℕ). allBelow k (recOrdered im) ≡ true) n (f .behind .ordered));
         through = λ z. record {
-          forbidden = f .forbidden ∙ ap (λ (k : ℕ). faultBelow k (recAllowed im)) n;
-          misplaced = f .misplaced ∙ ap (λ (k : ℕ). faultBelow k (recOwnerFirst im)) n;
+          forbidden = f .behind .forbidden ∙ ap (λ (k : ℕ). faultBelow k (recAllowed im)) n;
+          misplaced = f .behind .misplaced ∙ ap (λ (k : ℕ). faultBelow k (recOwnerFirst im)) n;
           marked = subst (λ (k : ℕ). Marks im k own) n m;
         };
       }

@@ -86,14 +86,14 @@ module _ (im : List ℕ) (bytes : CountsRight im) (c : Cursor) (w : Enters im c)
   in-entry q = same-key im (bytes .bytes) (c .next) q ∙ ap (λ (k : ℕ). ofEntry im k q) (sym (w .key))
 
   pub count-held : countBelow (c .next) (sameEntry im (c .next)) ≡ c .count
-  count-held = count-same (c .next) _ _ (λ q l. in-entry q) ∙ sym (w .read .count)
+  count-held = count-same (c .next) _ _ (λ q l. in-entry q) ∙ sym (w .behind .read .count)
 
   pub named-held : 1 ≤ recNeighbor im (c .next) → anyBelow (c .next) (sameNeighbor im (c .next)) ≡ hasNode (c .named) (recNeighbor im (c .next))
   unfolding namesIn
   named-held l =
       any-same (c .next) _ (namesIn im (c .key) (recNeighbor im (c .next)))
       (λ q g. ap (λ (b : Bool). b && eqb (recNeighbor im q) (recNeighbor im (c .next))) (in-entry q))
-      ∙ sym (w .read .names (recNeighbor im (c .next)) l)
+      ∙ sym (w .behind .read .names (recNeighbor im (c .next)) l)
 
   pub some-held : anyBelow (c .next) (sameEntry im (c .next)) ≡ not (eqb (c .count) 0)
   some-held = go (true-or-false (anyBelow (c .next) (sameEntry im (c .next))))
@@ -171,15 +171,17 @@ module _ (c : Cursor) (e : Record) (a : Bool) where
 
 -- ---- numbers within their bounds
 
-pub numbered-held : (im : List ℕ) (r : ℕ) (e : Record) → CountsRight im → RecordsNamed im → r < imRecords im → RecordOf im r e → Numbered (e .neighbor)
-numbered-held im r e w n l o =
-    let u = neighbor-held im r e n l o in record { first = u .first; last = omega (arith, u .last, w .few) }
+numbered : (im : List ℕ) (x : ℕ) → CountsRight im → ImageNode im x → Numbered x
+numbered im x w n = record { first = n .first; last = omega (arith, n .last, w .few) }
+
+pub owner-numbered : (im : List ℕ) (r : ℕ) (e : Record) → CountsRight im → RecordsNamed im → r < imRecords im → RecordOf im r e → Numbered (e .node)
+owner-numbered im r e w n l o = numbered im (e .node) w (owner-held im r e n l o)
+
+pub neighbor-numbered : (im : List ℕ) (r : ℕ) (e : Record) → CountsRight im → RecordsNamed im → r < imRecords im → RecordOf im r e → Numbered (e .neighbor)
+neighbor-numbered im r e w n l o = numbered im (e .neighbor) w (neighbor-held im r e n l o)
 
 pub count-within : (im : List ℕ) (c : Cursor) → CountsRight im → Enters im c → c .next < imRecords im → c .count < 65535
-count-within im c w v l = omega (arith, v .read .count, count-le (c .next) (ofEntry im (c .key)), w .whole, w .short)
+count-within im c w v l = omega (arith, v .behind .read .count, count-le (c .next) (ofEntry im (c .key)), w .whole, w .short)
 
 pub next-within : (im : List ℕ) (c : Cursor) → CountsRight im → c .next < imRecords im → c .next < 65535
 next-within im c w l = omega (arith, w .whole, w .short)
-
-pub owner-numbered : (im : List ℕ) (r : ℕ) (e : Record) → CountsRight im → RecordsNamed im → r < imRecords im → RecordOf im r e → Numbered (e .node)
-owner-numbered im r e w n l o = let u = owner-held im r e n l o in record { first = u .first; last = omega (arith, u .last, w .few) }

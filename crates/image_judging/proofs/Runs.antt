@@ -26,13 +26,15 @@ nothing im k = record { count = sym (count-zero _); names = λ u l. has-none u �
 
 pub start-follows : (im : List ℕ) → Follows im started
 start-follows im = record {
-  ordered = all-zero (recOrdered im);
-  below = below-none _;
+  behind = record {
+    ordered = all-zero (recOrdered im);
+    below = below-none _;
+    read = nothing im 0;
+    forbidden = sym (fault-zero (recAllowed im));
+    misplaced = sym (fault-zero (recOwnerFirst im));
+  };
   last = λ l. absurd (omega arith);
   none = λ e. refl;
-  read = nothing im 0;
-  forbidden = sym (fault-zero (recAllowed im));
-  misplaced = sym (fault-zero (recOwnerFirst im));
 }
 
 -- entering an entry
@@ -40,7 +42,7 @@ module _ (im : List ℕ) (c : Cursor) (f : Follows im c) (k : ℕ) (rises : c .k
   -- no record before is of a new entry
   fresh : c .key ≢ k → (q : ℕ) → q < c .next → ofEntry im k q ≡ false
   unfolding ofEntry
-  fresh e q l = ne-eqb (recKey im q) k (λ w. e (omega (arith, f .below q l)))
+  fresh e q l = ne-eqb (recKey im q) k (λ w. e (omega (arith, f .behind .below q l)))
 
   unread : c .key ≢ k → EntryRead im (c .next) k 0 0
   unfolding namesIn
@@ -57,21 +59,16 @@ module _ (im : List ℕ) (c : Cursor) (f : Follows im c) (k : ℕ) (rises : c .k
   enter-enters = go (eqb (c .key) k) refl
     where
       go : (b : Bool) → eqb (c .key) k ≡ b → Enters im (cond b c (moved c k))
-      go true e = record {
-        ordered = f .ordered;
-        below = f .below;
-        key = eqb-true (c .key) k e ∙ is;
-        read = f .read;
-        forbidden = f .forbidden;
-        misplaced = f .misplaced;
-      }
+      go true e = record { behind = f .behind; key = eqb-true (c .key) k e ∙ is }
       go false e = record {
-        ordered = f .ordered;
-        below = λ q l. omega (arith, f .below q l);
+        behind = record {
+          ordered = f .behind .ordered;
+          below = λ q l. omega (arith, f .behind .below q l);
+          read = unread (eqb-false (c .key) k e);
+          forbidden = f .behind .forbidden;
+          misplaced = f .behind .misplaced;
+        };
         key = is;
-        read = unread (eqb-false (c .key) k e);
-        forbidden = f .forbidden;
-        misplaced = f .misplaced;
       }
 
 pub enter-next : (c : Cursor) (k : ℕ) → entered c k .next ≡ c .next
@@ -97,7 +94,7 @@ module _ (im : List ℕ) (c : Cursor) (w : Enters im c) (u : ℕ) (is : u ≡ re
   named-next v g = go (ℕ-discrete v u) ∙ sym (any-step (c .next) (namesIn im (c .key) v))
     where
       before : hasNode (c .named) v ≡ anyBelow (c .next) (namesIn im (c .key) v)
-      before = w .read .names v g
+      before = w .behind .read .names v g
 
       go : Dec (v ≡ u)
           → hasNode (addNode (c .named) u) v ≡ (anyBelow (c .next) (namesIn im (c .key) v) || namesIn im (c .key) v (c .next))
@@ -115,16 +112,18 @@ module _ (im : List ℕ) (c : Cursor) (w : Enters im c) (u : ℕ) (is : u ≡ re
   pub pass-follows : recOrdered im (c .next) ≡ true → (a o : Bool) → a ≡ recAllowed im (c .next) → o ≡ recOwnerFirst im (c .next)
       → Follows im (passed c u a o)
   pass-follows e a o ea eo = record {
-    ordered = all-step (c .next) (recOrdered im) ∙ ap₂ _&&_ (w .ordered) e;
-    below = below-more _ (c .next) (w .below) (omega (arith, w .key));
+    behind = record {
+      ordered = all-step (c .next) (recOrdered im) ∙ ap₂ _&&_ (w .behind .ordered) e;
+      below = below-more _ (c .next) (w .behind .below) (omega (arith, w .key));
+      read = record {
+        count = count-hit (c .next) (ofEntry im (c .key)) true (c .count) (c .count + 1) (w .behind .read .count) (sym here) refl refl;
+        names = named-next;
+      };
+      forbidden = fault-next (c .next) (recAllowed im) (c .forbidden) a (w .behind .forbidden) ea;
+      misplaced = fault-next (c .next) (recOwnerFirst im) (c .misplaced) o (w .behind .misplaced) eo;
+    };
     last = λ g. w .key ∙ ap (recKey im) (omega arith);
     none = λ e. absurd (omega arith);
-    read = record {
-      count = count-hit (c .next) (ofEntry im (c .key)) true (c .count) (c .count + 1) (w .read .count) (sym here) refl refl;
-      names = named-next;
-    };
-    forbidden = fault-next (c .next) (recAllowed im) (c .forbidden) a (w .forbidden) ea;
-    misplaced = fault-next (c .next) (recOwnerFirst im) (c .misplaced) o (w .misplaced) eo;
   }
 
 -- ---- the cursors that the code makes

@@ -31,24 +31,24 @@ pub record EntryRead (im : List ℕ) (r k n named : ℕ) : Type 0 where
   pub count : n ≡ countBelow r (ofEntry im k)
   pub names : (u : ℕ) → 1 ≤ u → hasNode named u ≡ anyBelow r (namesIn im k u)
 
--- the cursor after records in their order: its entry is that of the last one, no entry before is above it, and their first faults are kept
-pub record Follows (im : List ℕ) (c : Cursor) : Type 0 where
+-- the cursor behind records in their order: no entry of theirs is above its own, of which it holds what is read, and it keeps their first faults
+pub record Behind (im : List ℕ) (c : Cursor) : Type 0 where
   pub ordered : allBelow (c .next) (recOrdered im) ≡ true
   pub below : (q : ℕ) → q < c .next → recKey im q ≤ c .key
-  pub last : 1 ≤ c .next → c .key ≡ recKey im (c .next - 1)
-  pub none : c .next ≡ 0 → c .key ≡ 0
   pub read : EntryRead im (c .next) (c .key) (c .count) (c .named)
   pub forbidden : c .forbidden ≡ faultBelow (c .next) (recAllowed im)
   pub misplaced : c .misplaced ≡ faultBelow (c .next) (recOwnerFirst im)
 
--- the cursor in the entry of the record that it is about to pass
+-- in the entry of the last of them
+pub record Follows (im : List ℕ) (c : Cursor) : Type 0 where
+  pub behind : Behind im c
+  pub last : 1 ≤ c .next → c .key ≡ recKey im (c .next - 1)
+  pub none : c .next ≡ 0 → c .key ≡ 0
+
+-- in the entry of the record that it is about to pass
 pub record Enters (im : List ℕ) (c : Cursor) : Type 0 where
-  pub ordered : allBelow (c .next) (recOrdered im) ≡ true
-  pub below : (q : ℕ) → q < c .next → recKey im q ≤ c .key
+  pub behind : Behind im c
   pub key : c .key ≡ recKey im (c .next)
-  pub read : EntryRead im (c .next) (c .key) (c .count) (c .named)
-  pub forbidden : c .forbidden ≡ faultBelow (c .next) (recAllowed im)
-  pub misplaced : c .misplaced ≡ faultBelow (c .next) (recOwnerFirst im)
 
 -- before the first record
 abbrev pub started : Cursor

@@ -25,9 +25,6 @@ failing-is im test r l e q =
     (first-unique (imRecords im) (λ k. not (test k)) r
     (record { within = omega arith; before = λ k h. ap not (all-at r test e k h); holds = λ h. ap not q }))
 
-pub failing-within : (im : List ℕ) (test : ℕ → Bool) → allBelow (imRecords im) test ≡ false → firstFailing im test ≤ imRecords im
-failing-within im test e = omega (arith, first-fails (imRecords im) test e)
-
 -- other refusals give no place
 pub place-none : (im : List ℕ) (n : ℕ) → n ≢ 10 → n ≢ 17 → n ≢ 18 → recordPlace im n ≡ 0
 unfolding recordPlace
@@ -68,28 +65,34 @@ module _ (m : Memory) (im : List ℕ) where
 
   -- ---- how large a place is
 
-  -- a place is that of a record
-  pub place-10 : readRefusal m im ≡ 10 → recordPlace im 10 ≤ imRecords im
-  unfolding recordPlace
-  place-10 e = failing-within im (recOrdered im) (refused-10 e .1)
+  few : (test : ℕ → Bool) → countsWrong im ≡ false → allBelow (imRecords im) test ≡ false → firstFailing im test ≤ 16380
+  few test c e = omega (arith, first-fails (imRecords im) test e, records-few im c)
 
-  pub place-17 : readRefusal m im ≡ 17 → recordPlace im 17 ≤ imRecords im
+  few-10 : readRefusal m im ≡ 10 → recordPlace im 10 ≤ 16380
   unfolding recordPlace
-  place-17 e = failing-within im (recAllowed im) (refused-17 e .2)
+  few-10 e = let r = refused-10 e in few (recOrdered im) (r .0) (r .1)
 
-  pub place-18 : readRefusal m im ≡ 18 → recordPlace im 18 ≤ imRecords im
+  few-17 : readRefusal m im ≡ 17 → recordPlace im 17 ≤ 16380
   unfolding recordPlace
-  place-18 e = go (ownPresent im) refl
+  few-17 e = let r = refused-17 e in few (recAllowed im) (r .0) (r .2)
+
+  few-18 : readRefusal m im ≡ 18 → recordPlace im 18 ≤ 16380
+  unfolding recordPlace
+  few-18 e = go (ownPresent im) refl
     where
-      go : (b : Bool) → ownPresent im ≡ b → cond b (firstFailing im (recOwnerFirst im)) 0 ≤ imRecords im
-      go true p = failing-within im (recOwnerFirst im) (ap (λ (b : Bool). b && recordsOwned im) (sym p) ∙ refused-18 e .3)
+      go : (b : Bool) → ownPresent im ≡ b → cond b (firstFailing im (recOwnerFirst im)) 0 ≤ 16380
+      go true p =
+          let r = refused-18 e in few (recOwnerFirst im) (r .0) (ap (λ (b : Bool). b && recordsOwned im) (sym p) ∙ r .3)
       go false p = omega arith
 
   pub place-few : recordPlace im (readRefusal m im) ≤ 16380
   place-few = go (readRefusal m im) refl (ℕ-discrete (readRefusal m im) 10) (ℕ-discrete (readRefusal m im) 17) (ℕ-discrete (readRefusal m im) 18)
     where
+      at : (n k : ℕ) → n ≡ k → recordPlace im k ≤ 16380 → recordPlace im n ≤ 16380
+      at n k e = subst (λ (n : ℕ). recordPlace im n ≤ 16380) (sym e)
+
       go : (n : ℕ) → readRefusal m im ≡ n → Dec (n ≡ 10) → Dec (n ≡ 17) → Dec (n ≡ 18) → recordPlace im n ≤ 16380
-      go n e (yes a) q w = subst (λ (n : ℕ). recordPlace im n ≤ 16380) (sym a) (omega (arith, place-10 (e ∙ a), records-few im (refused-10 (e ∙ a) .0)))
-      go n e (no a) (yes b) w = subst (λ (n : ℕ). recordPlace im n ≤ 16380) (sym b) (omega (arith, place-17 (e ∙ b), records-few im (refused-17 (e ∙ b) .0)))
-      go n e (no a) (no b) (yes c) = subst (λ (n : ℕ). recordPlace im n ≤ 16380) (sym c) (omega (arith, place-18 (e ∙ c), records-few im (refused-18 (e ∙ c) .0)))
+      go n e (yes a) q w = at n 10 a (few-10 (e ∙ a))
+      go n e (no a) (yes b) w = at n 17 b (few-17 (e ∙ b))
+      go n e (no a) (no b) (yes c) = at n 18 c (few-18 (e ∙ c))
       go n e (no a) (no b) (no c) = omega (arith, place-none im n a b c)

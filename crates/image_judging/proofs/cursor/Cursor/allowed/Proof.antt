@@ -1,6 +1,6 @@
 -- `allowed`: each test is a rule of the record, by what the cursor holds. Assumes nothing.
 use borrow.Author.Needs.{needs}
-use Rattle.image_judging.proofs.Rules.{owner-held, neighbor-held, numbered-held, not-qualified, named-twice, room-left}
+use Rattle.image_judging.proofs.Rules.{owner-held, neighbor-held, neighbor-numbered, not-qualified, named-twice, room-left}
 use Rattle.image_judging.proofs.cursor.Cursor.allowed.Statement.{statement}
 use Rattle.image_judging.proofs.cursor.Cursor.allowed.Tie as tie
 
@@ -17,7 +17,7 @@ returns : tie.Need-returns
 returns c = search not-qualified
 
 has-requires : tie.Need-has-requires
-has-requires c κs = search numbered-held
+has-requires c κs = search neighbor-numbered
 
 returns-2 : tie.Need-returns-2
 returns-2 c = search named-twice

@@ -2,7 +2,7 @@
 use denote.Ref.{now}
 use borrow.Author.Needs.{needs}
 use Rattle.image_judging.proofs.Reading.{entry-enters, entry-record, entry-within, past-is}
-use Rattle.image_judging.proofs.Rules.{numbered-held, count-within, next-within}
+use Rattle.image_judging.proofs.Rules.{neighbor-numbered, count-within, next-within}
 use Rattle.image_judging.proofs.cursor.Cursor.judge.Statement.{statement}
 use Rattle.image_judging.proofs.cursor.Cursor.judge.Tie as tie
 
@@ -19,7 +19,7 @@ owner-first-requires : tie.Need-owner-first-requires
 owner-first-requires c κs = search needs
 
 pass-requires : tie.Need-pass-requires
-pass-requires c κs = search (needs, numbered-held, count-within, next-within, entry-enters, entry-within)
+pass-requires c κs = search (needs, neighbor-numbered, count-within, next-within, entry-enters, entry-within)
 
 returns : tie.Need-returns
 returns c =
