@@ -18,7 +18,7 @@ use Rattle.model.proofs.Ids.{InRange}
 use Rattle.model.proofs.Memory.{node-same}
 use Rattle.model.proofs.Status.{IsNode, attached-same, in-system-same}
 use Rattle.model.proofs.Sound.{Long, Sound, sound-ok, sound-of}
-use Rattle.model.proofs.Later.{Later, table-later, status-later}
+use Rattle.model.proofs.Later.{Later, table-later, status-later, counts-later}
 use Rattle.model.proofs.Within.{table-front}
 
 -- the first words and bytes are the same
@@ -132,8 +132,8 @@ module _ (s t s′ t′ : List ℕ) (a : LongAlike s t s′ t′) where
           (table-later s s′ alike-later x (tableOf t x) (back x n) (S .tables x (back x n)));
       statuses = λ x n.
           status-later s s′ alike-later x (back x n) (record-same s s′ w x (few x (back x n))) (S .statuses x (back x n));
-      spare = λ x n k low high.
-          word-same s s′ w (8 * x + k) (omega (arith, few x (back x n))) ∙ S .spare x (back x n) k low high;
+      counts = λ x n.
+          counts-later s s′ alike-later x (back x n) (record-same s s′ w x (few x (back x n))) (S .statuses x (back x n)) (S .counts x (back x n));
       head = λ p low high. word-same s s′ w p (omega arith) ∙ S .head p low high;
       rest = λ p low high. word-same s s′ w p high ∙ S .rest p (omega (arith, low, count)) high;
       tables-rest = λ p low high. front-same tablesLength t t′ (a .alike .tables) p high ∙ S .tables-rest p (omega (arith, low, count)) high;

@@ -5,11 +5,11 @@ use mathlib.Core.List.{List}
 use native.Mathlib.Decide.{ℕ-discrete, decLt}
 use native.Mathlib.Omega.{arith}
 use lib.ListN.{length, getD, take, List·getD-eq-default}
-use Rattle.model.specs.Memory.{Node, stateLength, nodeOf, levelOf, notifiedOf, pendingOf, withNode, tableOf, addNode, removeNode}
+use Rattle.model.specs.Memory.{Node, stateLength, nodeOf, levelOf, notifiedOf, noticesOf, pendingOf, withNode, tableOf, addNode, removeNode}
 use Rattle.model.specs.Nodes.{suffixOf}
 use Rattle.model.specs.Learning.{learn, learnTable}
 use Rattle.model.specs.Join.{notifyingNode, roomAtSuffix, firstAtSuffix, belowOrRoom, roomFrom, attachLevel, gather, deliverCopying, deliverSentOn, deliverAttached, deliverWaiting, deliverNotifying, delivery}
-use Rattle.model.proofs.Memory.{same-status, same-level, same-pending, same-notified, table-length}
+use Rattle.model.proofs.Memory.{same-status, same-level, same-pending, same-notified, same-notices, table-length}
 use Rattle.model.proofs.Status.{IsNode, in-system-same}
 use Rattle.model.proofs.Sound.{Sound, standing, table-fits}
 use Rattle.model.proofs.Within.{within-same, within-node}
@@ -67,6 +67,7 @@ module _ (s s′ : List ℕ) (a : take stateLength s′ ≡ take stateLength s) 
   attached-same =
       cc (
         r,
+        same-notices r,
         h,
         level-same (suffixOf s x y),
         learn-table-same s₁ s₂ a₁ x hx Ty Tx fy,
@@ -79,7 +80,7 @@ module _ (s s′ : List ℕ) (a : take stateLength s′ ≡ take stateLength s) 
       k = attachLevel s Ty x (suffixOf s x y)
 
       n : Node
-      n = notifyingNode (nodeOf s x) k 0 (addNode 0 y)
+      n = notifyingNode (nodeOf s x) k 0 (addNode 0 y) (noticesOf s x)
 
       s₁ : List ℕ
       s₁ = withNode s x n
@@ -104,6 +105,7 @@ module _ (s s′ : List ℕ) (a : take stateLength s′ ≡ take stateLength s) 
         same-level r,
         same-pending r,
         same-notified r,
+        same-notices r,
         learn-same s s′ a y hy x Ty hx,
         learn-table-same s s′ a x hx Y Tx fY,
         gather-same s s′ a x hx (levelOf s x) (addNode (notifiedOf s x) y) Y (removeNode (pendingOf s x) y) fY,

@@ -14,10 +14,11 @@ use Rattle.model.specs.Tables.{ownTable}
 use Rattle.model.specs.Join.{newNode, joiningNode, begun}
 use Rattle.model.proofs.Memory.{same-id, node-same, node-length, node-stored, node-outside, stored-length, stored-outside, stored-same, stored-other}
 use Rattle.model.proofs.Status.{IsNode, RecordOk, StatusOk, is-copying, joins, attached-same, in-system-same}
+use Rattle.model.proofs.NodeCounts.{CountsOk, joining-counts}
 use Rattle.model.proofs.Ids.{InRange}
 use Rattle.model.proofs.Sound.{TableOk, Long, Sound, table-fits}
 use Rattle.model.proofs.OwnTable.{own-long, own-table}
-use Rattle.model.proofs.Later.{Later, node-later, table-later, status-later}
+use Rattle.model.proofs.Later.{Later, node-later, table-later, status-later, counts-later}
 
 -- what the refusals of a beginning leave
 pub record CanBegin (s : List ℕ) (id gateway : ℕ) : Type 0 where
@@ -37,7 +38,7 @@ module _ (s t : List ℕ) (id gateway : ℕ) (S : Sound s t) (c : CanBegin s id 
   t₁ : List ℕ
   t₁ = begun s t id gateway .tables
 
-  fits : 8 * (nodeCount s + 1) + 6 ≤ length s₀
+  fits : 8 * (nodeCount s + 1) + 8 ≤ length s₀
   unfolding s₀
   fits = omega (arith, length-set s 3 (nodeCount s + 1), S .long .state, c .room)
 
@@ -46,7 +47,7 @@ module _ (s t : List ℕ) (id gateway : ℕ) (S : Sound s t) (c : CanBegin s id 
   stored = node-stored s₀ (nodeCount s + 1) (joiningNode (newNode id) copying gateway) fits
 
   -- every word but the count and the new record's is as it was
-  same : (p : ℕ) → p ≢ 3 → (p < 8 * (nodeCount s + 1)) ⊎ (8 * (nodeCount s + 1) + 6 ≤ p) → getD s₁ p 0 ≡ getD s p 0
+  same : (p : ℕ) → p ≢ 3 → (p < 8 * (nodeCount s + 1)) ⊎ (8 * (nodeCount s + 1) + 8 ≤ p) → getD s₁ p 0 ≡ getD s p 0
   unfolding s₁ begun s₀
   same p ne h =
       node-outside s₀ (nodeCount s + 1) (joiningNode (newNode id) copying gateway) fits p h
@@ -61,6 +62,11 @@ module _ (s t : List ℕ) (id gateway : ℕ) (S : Sound s t) (c : CanBegin s id 
   pub begun-count : nodeCount (begun s t id gateway .state) ≡ nodeCount s + 1
   unfolding s₁
   begun-count = count
+
+  -- the new node's record
+  pub begun-new : nodeOf (begun s t id gateway .state) (nodeCount s + 1) ≡ joiningNode (newNode id) copying gateway
+  unfolding s₁
+  begun-new = stored
 
   -- a word of an earlier node's record is as it was
   same-record : (y k : ℕ) → IsNode s y → k < 8 → getD s₁ (8 * y + k) 0 ≡ getD s (8 * y + k) 0
@@ -158,12 +164,14 @@ module _ (s t : List ℕ) (id gateway : ℕ) (S : Sound s t) (c : CanBegin s id 
             rest = joins (newNode id) copying gateway;
           })))
 
-  spare : (y : ℕ) → IsNode s₁ y → (k : ℕ) → 6 ≤ k → k < 8 → getD s₁ (8 * y + k) 0 ≡ 0
-  spare y n k l h = ⊎-elim newest (λ o. same-record y k o h ∙ S .spare y o k l h) (which y n)
+  counts : (y : ℕ) → IsNode s₁ y → CountsOk s₁ y (nodeOf s₁ y)
+  counts y n = ⊎-elim newest (λ o. counts-later s s₁ later y o (kept y o) (S .statuses y o) (S .counts y o)) (which y n)
     where
-      newest : y ≡ nodeCount s + 1 → getD s₁ (8 * y + k) 0 ≡ 0
+      newest : y ≡ nodeCount s + 1 → CountsOk s₁ y (nodeOf s₁ y)
       newest e =
-          same (8 * y + k) (omega arith) (inr (omega arith)) ∙ S .rest (8 * y + k) (omega arith) (omega (arith, c .room))
+          subst (λ (y : ℕ). CountsOk s₁ y (nodeOf s₁ y)) (sym e)
+          (subst (CountsOk s₁ (nodeCount s + 1)) (sym stored)
+          (joining-counts s₁ (nodeCount s + 1) (newNode id) copying gateway (inl refl) refl (omega arith)))
 
   long : Long s₁ t₁
   unfolding s₁ t₁ begun s₀
@@ -200,7 +208,7 @@ module _ (s t : List ℕ) (id gateway : ℕ) (S : Sound s t) (c : CanBegin s id 
     new = distinct;
     tables = table;
     statuses = status;
-    spare = spare;
+    counts = counts;
     head = λ p l h. same p (omega arith) (inl (omega arith)) ∙ S .head p l h;
     rest = λ p l h. same p (omega (arith, l)) (inr (omega (arith, count, l))) ∙ S .rest p (omega (arith, count, l)) h;
     tables-rest = tables-zero;

@@ -1,6 +1,6 @@
 -- What a taken delivery did, in one of three cases: its sender goes on asking, attaches, or notifies. The other laws of deliveries are read
 -- off here. Assumes nothing.
-use Prim.Native.Nat.{ℕ, suc, _≤_, _<_}
+use Prim.Native.Nat.{ℕ, suc, _+_, _≤_, _<_}
 use mathlib.Core.Path.{_≡_, refl, sym, ap, ap₂, subst}
 use mathlib.Core.Logic.{_≢_, _⊎_, inl, inr, ⊎-elim}
 use mathlib.Core.Bool.{Bool, true, false, cond}
@@ -10,7 +10,7 @@ use native.Mathlib.Omega.{arith}
 use lib.Dec.{eqb, ltb}
 use borrow.Author.Tests.{ltb-false, lt-ltb}
 use Rattle.model.specs.Ids.{digitOf, commonSuffix}
-use Rattle.model.specs.Memory.{base, digits, depth, nodeOf, idOf, statusOf, levelOf, targetOf, pendingOf, notifiedOf, withNode, copying, waiting, notifying}
+use Rattle.model.specs.Memory.{base, digits, depth, nodeOf, idOf, statusOf, levelOf, targetOf, pendingOf, notifiedOf, noticesOf, withNode, copying, waiting, notifying}
 use Rattle.model.specs.Memory.{isInSystem, isAttached, hasNode, addNode, removeNode, tableOf}
 use Rattle.model.specs.Tables.{qualified, slotPlace, entrySize}
 use Rattle.model.specs.Nodes.{suffixOf}
@@ -57,18 +57,18 @@ pub record AsksOn (s t : List ℕ) (x y : ℕ) (d : Delivery) : Type 0 where
 -- ---- telling y
 
 -- x learns the table `seen` and y learns x, both in s′; x notifies, or settles
-pub record Tells (s t : List ℕ) (x y : ℕ) (d : Delivery) (s′ seen : List ℕ) (level pending notified : ℕ) : Type 0 where
-  pub sender : d .sender ≡ settle (notifyingNode (nodeOf s x) level pending notified)
+pub record Tells (s t : List ℕ) (x y : ℕ) (d : Delivery) (s′ seen : List ℕ) (level pending notified notices : ℕ) : Type 0 where
+  pub sender : d .sender ≡ settle (notifyingNode (nodeOf s x) level pending notified notices)
   pub own : d .senderTable ≡ learnTable s′ x seen (tableOf t x)
   pub theirs : d .receiverTable ≡ learn s′ y x (tableOf t y)
-  pub settling : Settling (notifyingNode (nodeOf s x) level pending notified)
+  pub settling : Settling (notifyingNode (nodeOf s x) level pending notified notices)
 
 -- the level at which x attaches, the state in which it does, and its pending set
 abbrev pub levelAt : List ℕ → List ℕ → ℕ → ℕ → ℕ
 levelAt s t x y = attachLevel s (tableOf t y) x (suffixOf s x y)
 
 abbrev pub stateAt : List ℕ → List ℕ → ℕ → ℕ → List ℕ
-stateAt s t x y = withNode s x (notifyingNode (nodeOf s x) (levelAt s t x y) 0 (addNode 0 y))
+stateAt s t x y = withNode s x (notifyingNode (nodeOf s x) (levelAt s t x y) 0 (addNode 0 y) (noticesOf s x))
 
 abbrev pub ownAt : List ℕ → List ℕ → ℕ → ℕ → ℕ
 ownAt s t x y =
@@ -86,7 +86,7 @@ pub record Attaches (s t : List ℕ) (x y : ℕ) (d : Delivery) : Type 0 where
   pub low : levelAt s t x y ≤ suffixOf s x y
   pub kind : d .kind ≡ kindAttached
   pub level : d .level ≡ levelAt s t x y
-  pub tells : Tells s t x y d (stateAt s t x y) (tableOf t y) (levelAt s t x y) (pendingAt s t x y) (addNode 0 y)
+  pub tells : Tells s t x y d (stateAt s t x y) (tableOf t y) (levelAt s t x y) (pendingAt s t x y) (addNode 0 y) (noticesOf s x)
 
 -- the pending set of a node that has notified y
 abbrev pub pendingAfter : List ℕ → List ℕ → ℕ → ℕ → ℕ
@@ -99,7 +99,7 @@ pub record Notifies (s t : List ℕ) (x y : ℕ) (d : Delivery) : Type 0 where
   pub rules : NotifyingOk s x (nodeOf s x)
   pub kind : d .kind ≡ kindNotified
   pub level : d .level ≡ 0
-  pub tells : Tells s t x y d s (learn s y x (tableOf t y)) (levelOf s x) (pendingAfter s t x y) (addNode (notifiedOf s x) y)
+  pub tells : Tells s t x y d s (learn s y x (tableOf t y)) (levelOf s x) (pendingAfter s t x y) (addNode (notifiedOf s x) y) (noticesOf s x + 1)
 
 -- ---- the three cases
 

@@ -6,6 +6,7 @@ use Rattle.model.specs.Memory.{nodeOf, withNode, waiting, tableOf, withT
 use Rattle.model.specs.Learning.{learnTable}
 use Rattle.model.specs.Join.{Delivery, joiningNode, delivery, delivered}
 use Rattle.model.proofs.Status.{RecordOk, is-copying, is-waiting, joins}
+use Rattle.model.proofs.NodeCounts.{CountsOk}
 use Rattle.model.proofs.Sound.{Sound}
 use Rattle.model.proofs.Later.{Later, later-refl}
 use Rattle.model.proofs.ReplacingKeepsSound.{replaced-ok}
@@ -13,6 +14,7 @@ use Rattle.model.proofs.SoundNodes.{own-later, own, learned-table}
 use Rattle.model.proofs.Sender.{CanDeliver}
 use Rattle.model.proofs.DeliveryDid.{Asking, copies-on, starts-waiting, waits-on, AsksOn, Did, did-ask, did-attach, did-notify, to-receiver, delivery-did}
 use Rattle.model.proofs.TablesOnlyGrow.{delivered-id, delivered-later}
+use Rattle.model.proofs.RequestBound.{asking-counts}
 use Rattle.model.proofs.NotifyingKeepsSound.{attaches-ok, notifies-ok}
 
 module _ (s t : List ℕ) (S : Sound s t) (x y : ℕ) (c : CanDeliver s x y) where
@@ -44,7 +46,8 @@ module _ (s t : List ℕ) (S : Sound s t) (x y : ℕ) (c : CanDeliver s x y) whe
         (delivered-id s t S x y c) l
         (own-later s s₁ l x (learnTable s x (tableOf t y) (tableOf t x)) (c .sender)
         (learned-table s t S s (later-refl s) refl x (c .sender) y (to-receiver s t S x y c .attached) (tableOf t y) (own s t S y (c .receiver))))
-        (own-later s s₁ l y (tableOf t y) (c .receiver) (own s t S y (c .receiver))) (subst (RecordOk s x) (sym (w .sender)) (rules (w .how))))
+        (own-later s s₁ l y (tableOf t y) (c .receiver) (own s t S y (c .receiver))) (subst (RecordOk s x) (sym (w .sender)) (rules (w .how)))
+        (subst (CountsOk s x) (sym (w .sender)) (asking-counts s t S x y c w)))
 
   pub delivered-ok : Sound (delivered s t x y (delivery s t x y) .state) (delivered s t x y (delivery s t x y) .tables)
   delivered-ok = go (delivery-did s t S x y c)

@@ -1,5 +1,5 @@
 -- The founded state is sound, for all settings in range and every valid id. Assumes nothing.
-use Prim.Native.Nat.{ℕ, _+_, _*_, _≤_, _<_}
+use Prim.Native.Nat.{ℕ, _+_, _≤_, _<_}
 use mathlib.Core.Path.{_≡_, refl, sym, ap₂, subst, subst₃, _∙_}
 use mathlib.Core.Logic.{_≢_, _⊎_, inl, inr}
 use mathlib.Core.Bool.{true}
@@ -13,8 +13,9 @@ use Rattle.model.specs.Memory.{stateLength, tablesLength, base, digits, 
 use Rattle.model.specs.Tables.{ownTable}
 use Rattle.model.specs.Sound.{sound}
 use Rattle.model.specs.Join.{withSettings, newNode, founded}
-use Rattle.model.proofs.Memory.{same-id, same-status, node-length, node-stored, node-outside, stored-length, stored-outside, stored-same, zeroed-length, zeroed-within}
+use Rattle.model.proofs.Memory.{same-id, same-status, same-requests, same-notices, node-length, node-stored, node-outside, stored-length, stored-outside, stored-same, zeroed-length, zeroed-within}
 use Rattle.model.proofs.Status.{IsNode, RecordOk, StatusOk, rests}
+use Rattle.model.proofs.NodeCounts.{CountsOk, Fresh, fresh-counts}
 use Rattle.model.proofs.Ids.{InRange}
 use Rattle.model.proofs.Sound.{TableOk, Long, Sound, sound-of}
 use Rattle.model.proofs.OwnTable.{own-long, own-table}
@@ -68,12 +69,12 @@ module _ (s t : List ℕ) (b d K id : ℕ) (long : Long s t) (range : InRange b 
   stored = node-stored s₀ 1 (newNode id) (omega (arith, long₀))
 
   -- a word outside the record of node 1 is that of the settings
-  outside : (p : ℕ) → (p < 8) ⊎ (14 ≤ p) → getD s₁ p 0 ≡ getD s₀ p 0
+  outside : (p : ℕ) → (p < 8) ⊎ (16 ≤ p) → getD s₁ p 0 ≡ getD s₀ p 0
   unfolding s₁ founded s₀
   outside p h = node-outside s₀ 1 (newNode id) (omega (arith, long₀)) p h
 
   -- past the settings and outside that record every word of the fixed length is zero
-  zero : (p : ℕ) → 4 ≤ p → (p < 8) ⊎ (14 ≤ p) → p < stateLength → getD s₁ p 0 ≡ 0
+  zero : (p : ℕ) → 4 ≤ p → (p < 8) ⊎ (16 ≤ p) → p < stateLength → getD s₁ p 0 ≡ 0
   unfolding s₀
   zero p l h m =
       outside p h ∙ settings-outside (zeroed stateLength s) b d K 1 p l ∙ zeroed-within stateLength s (long .state) p m
@@ -145,7 +146,7 @@ module _ (s t : List ℕ) (b d K id : ℕ) (long : Long s t) (range : InRange b 
     new = λ x y i l h. absurd (omega (arith, only x i));
     tables = λ x i. subst (λ (x : ℕ). TableOk s₁ x (tableOf t₁ x)) (only x i) (rw table (own-table s₁ 1 range₁ first valid₁ .rules));
     statuses = λ x i. subst (StatusOk s₁) (only x i) (subst (RecordOk s₁ 1) (sym stored) (rests s₁ 1 (newNode id)));
-    spare = λ x i k l h. zero (8 * x + k) (omega arith) (inr (omega (arith, only x i))) (omega (arith, only x i));
+    counts = λ x i. subst (λ (x : ℕ). CountsOk s₁ x (nodeOf s₁ x)) (only x i) (subst (CountsOk s₁ 1) (sym stored) (fresh-counts s₁ 1 (newNode id) refl refl refl));
     head = λ p l h. zero p l (inl h) (omega arith);
     rest = λ p l h. zero p (omega (arith, l)) (inr (omega (arith, settings .count, l))) h;
     tables-rest = λ p l h. tables-zero p (omega (arith, settings .count, l)) h;
@@ -154,6 +155,11 @@ module _ (s t : List ℕ) (b d K id : ℕ) (long : Long s t) (range : InRange b 
   pub founded-in-system : (x : ℕ) → IsNode (founded s t b d K id .state) x → isInSystem (founded s t b d K id .state) x ≡ true
   unfolding s₁
   founded-in-system x i = subst (λ (x : ℕ). isInSystem s₁ x ≡ true) (only x i) (eq-eqb _ 0 (same-status stored))
+
+  -- nothing is counted yet
+  pub founded-fresh : (x : ℕ) → IsNode (founded s t b d K id .state) x → Fresh (founded s t b d K id .state) x
+  unfolding s₁
+  founded-fresh x i = subst (Fresh s₁) (only x i) (same-requests stored, same-notices stored)
 
   pub founded-sound : sound (founded s t b d K id .state) (founded s t b d K id .tables) ≡ true
   founded-sound = sound-of (founded s t b d K id .state) (founded s t b d K id .tables) founded-ok

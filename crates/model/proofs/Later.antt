@@ -10,13 +10,14 @@ use native.Mathlib.Omega.{arith}
 use lib.Dec.{eqb}
 use lib.Pow.{pow-mono}
 use Rattle.model.specs.Ids.{commonSuffix, digitOf}
-use Rattle.model.specs.Memory.{Node, base, digits, depth, nodeCount, nodeOf, idOf, hasNode, isAttached, isInSystem}
+use Rattle.model.specs.Memory.{Node, base, digits, depth, nodeCount, nodeOf, idOf, inSystem, copying, waiting, notifying, hasNode, isAttached, isInSystem}
 use Rattle.model.specs.Tables.{qualified, slotAt, firstOf}
 use Rattle.model.specs.Nodes.{suffixOf}
 use Rattle.model.specs.Sound.{mayStand, placeUsed}
 use Rattle.model.proofs.Bools.{or-cases, or-intro-left, or-intro-right}
 use Rattle.model.proofs.Sets.{has-within}
 use Rattle.model.proofs.Status.{IsNode, PendingOk, NotifiedOk, NotifyingOk, RecordOk, StatusOk, is-in-system, is-copying, is-waiting, is-notifying}
+use Rattle.model.proofs.NodeCounts.{limitOf, CountsOk}
 use Rattle.model.proofs.Sound.{SlotOk, TableOk}
 
 pub record Later (s s′ : List ℕ) : Type 0 where
@@ -130,3 +131,26 @@ module _ (s s′ : List ℕ) (l : Later s s′) where
   -- that keeps its rules is x's
   pub status-later : (x : ℕ) → IsNode s x → {r : Node} → nodeOf s′ x ≡ r → RecordOk s x r → StatusOk s′ x
   status-later x n {r} e o = subst (RecordOk s′ x) (sym e) (record-later x n r o)
+
+  -- and so with its counts: the limit of its requests is as it was
+  limit-later : (x : ℕ) → IsNode s x → (r : Node) → RecordOk s x r
+      → limitOf (digits s′) (r .status) (suffixOf s′ x (r .target)) ≡ limitOf (digits s) (r .status) (suffixOf s x (r .target))
+  limit-later x n r o = ap (λ (d : ℕ). limitOf d (r .status) (suffixOf s′ x (r .target))) (l .digits) ∙ go o
+    where
+      at : (status : ℕ) → r .status ≡ status → limitOf (digits s) status (suffixOf s′ x (r .target)) ≡ limitOf (digits s) status (suffixOf s x (r .target))
+          → limitOf (digits s) (r .status) (suffixOf s′ x (r .target)) ≡ limitOf (digits s) (r .status) (suffixOf s x (r .target))
+      at status e h =
+          ap (λ (v : ℕ). limitOf (digits s) v (suffixOf s′ x (r .target))) e
+          ∙ h
+          ∙ sym (ap (λ (v : ℕ). limitOf (digits s) v (suffixOf s x (r .target))) e)
+
+      go : RecordOk s x r → limitOf (digits s) (r .status) (suffixOf s′ x (r .target)) ≡ limitOf (digits s) (r .status) (suffixOf s x (r .target))
+      go (is-in-system e o) = at inSystem e refl
+      go (is-copying e o) = at copying e (ap (limitOf (digits s) copying) (suffix-later x (r .target) n (o .is-node)))
+      go (is-waiting e o) = at waiting e (ap (limitOf (digits s) waiting) (suffix-later x (r .target) n (o .is-node)))
+      go (is-notifying e o) = at notifying e refl
+
+  pub counts-later : (x : ℕ) → IsNode s x → {r : Node} → nodeOf s′ x ≡ r → RecordOk s x r → CountsOk s x r → CountsOk s′ x (nodeOf s′ x)
+  counts-later x n {r} e o c =
+      subst (CountsOk s′ x) (sym e)
+      (record { requests = subst (λ (m : ℕ). r .requests ≤ m) (sym (limit-later x n r o)) (c .requests); notices = c .notices })

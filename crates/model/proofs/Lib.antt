@@ -12,6 +12,7 @@ pub mod Splice
 -- ---- identifiers and sets
 pub mod Ids
 pub mod Sets
+pub mod SetSizes
 -- ---- the lent memory and tables
 pub mod Memory
 pub mod Parts
@@ -23,6 +24,7 @@ pub mod TableSteps
 pub mod OwnTable
 -- ---- soundness: its clauses as facts, and a later state
 pub mod Status
+pub mod NodeCounts
 pub mod Sound
 pub mod SoundNodes
 pub mod Later
@@ -36,11 +38,11 @@ pub mod Gather
 pub mod Sender
 pub mod Settling
 pub mod DeliveryDid
+pub mod RequestBound
 pub mod ReplacingKeepsSound
 pub mod NotifyingKeepsSound
 pub mod DeliveryKeepsSound
 pub mod TablesOnlyGrow
-pub mod RequestBound
 -- ---- lookup and verdict
 pub mod Lookup
 pub mod Survey
@@ -54,6 +56,7 @@ pub mod RecordsAreFew
 pub mod Sections
 pub mod WrittenIsTaken
 pub mod Frame
+pub mod WithoutCounts
 pub mod Reloaded
 pub mod ReadGivesRecords
 pub mod RoundTrip
@@ -64,6 +67,7 @@ pub mod Taken
 pub mod Places
 pub mod Calls
 pub mod RequestsSent
+pub mod DeliveryCounts
 pub mod Fields
 -- ---- what calls write, and what they read, lies within the fixed lengths
 pub mod Works

@@ -14,7 +14,7 @@ use lib.Seq.{getD-set-same, getD-set-other}
 use borrow.Author.Tests.{eqb-true, eq-eqb}
 use Rattle.model.specs.Loops.{anyBelow, eachBelow, joinBelow, countBelow}
 use Rattle.model.specs.Ids.{validId, digitOf}
-use Rattle.model.specs.Memory.{stateLength, tablesLength, base, digits, depth, nodeCount, idOf, statusOf, zeroed, tableStart, tableOf, withTable, isAttached}
+use Rattle.model.specs.Memory.{stateLength, tablesLength, base, digits, depth, nodeCount, nodeOf, idOf, statusOf, zeroed, tableStart, tableOf, withTable, isAttached}
 use Rattle.model.specs.Tables.{qualified, slotPlace, slotAt, firstOf, entrySize, entry, holds, append}
 use Rattle.model.specs.Nodes.{qualifies}
 use Rattle.model.specs.Join.{withSettings}
@@ -25,6 +25,7 @@ use Rattle.model.proofs.Ids.{InRange, valid-digit}
 use Rattle.model.proofs.Memory.{zeroed-length, zeroed-within, table-length, table-at, stored-length, stored-outside, stored-same, stored-other}
 use Rattle.model.proofs.FoundingIsSound.{Settings, settings-length, settings-stored, settings-outside}
 use Rattle.model.proofs.Status.{IsNode, is-in-system}
+use Rattle.model.proofs.NodeCounts.{Fresh, fresh-counts}
 use Rattle.model.proofs.Sound.{Long, Sound}
 use Rattle.model.proofs.Tables.{entry-length, entry-at, entry-none, holds-none, gap-rest, append-length, append-entry, append-apart}
 use Rattle.model.proofs.LearningKeepsRules.{Entries, Addable, gap-free, append-entries}
@@ -495,6 +496,15 @@ module _ (s t im : List ℕ) (long : Long s t) (R : GoodImage im) where
   back : (x : ℕ) → IsNode s₂ x → x ≤ imNodes im
   back x n = omega (arith, W .settings .count, n .high)
 
+  zero-at : (x : ℕ) → IsNode s₂ x → (k : ℕ) → 1 ≤ k → k < 8 → getD s₂ (8 * x + k) 0 ≡ 0
+  zero-at x n k l h =
+      W .zero (8 * x + k) (omega (arith, n .low)) (omega (arith, n .high, few im s₂ R W)) (λ y m. omega arith)
+
+  -- nothing is counted yet
+  pub loaded-fresh : (x : ℕ) → IsNode (loaded s t im .state) x → Fresh (loaded s t im .state) x
+  unfolding s₂
+  loaded-fresh x n = (zero-at x n 6 (omega arith) (omega arith), zero-at x n 7 (omega arith) (omega arith))
+
   pub loaded-ok : Sound (loaded s t im .state) (loaded s t im .tables)
   unfolding s₂ t₂
   loaded-ok = record {
@@ -522,12 +532,9 @@ module _ (s t im : List ℕ) (long : Long s t) (R : GoodImage im) where
       pending = zero-at x n 4 (omega arith) (omega arith);
       notified = zero-at x n 5 (omega arith) (omega arith);
     });
-    spare = λ x n k l. zero-at x n k (omega arith);
+    counts = λ x n.
+        fresh-counts s₂ x (nodeOf s₂ x) (zero-at x n 1 (omega arith) (omega arith)) (loaded-fresh x n .0) (loaded-fresh x n .1);
     head = λ p l h. W .zero p l (omega (arith, h)) (λ x n. omega (arith, h, n .low));
     rest = λ p l h. W .zero p (omega (arith, l)) h (λ x n. omega (arith, l, n .high));
     tables-rest = L .rest;
   }
-    where
-      zero-at : (x : ℕ) → IsNode s₂ x → (k : ℕ) → 1 ≤ k → k < 8 → getD s₂ (8 * x + k) 0 ≡ 0
-      zero-at x n k l h =
-          W .zero (8 * x + k) (omega (arith, n .low)) (omega (arith, n .high, few im s₂ R W)) (λ y m. omega arith)

@@ -18,8 +18,18 @@ use Rattle.model.proofs.Splice.{splice, splice-length, splice-before, s
 
 -- records with the same fields are the same, and the same records have the same fields
 pub node-eq : {a b : Node} → a .id ≡ b .id → a .status ≡ b .status → a .level ≡ b .level → a .target ≡ b .target → a .pending ≡ b .pending
-    → a .notified ≡ b .notified → a ≡ b
-node-eq e₁ e₂ e₃ e₄ e₅ e₆ = λ i. record { id = e₁ i; status = e₂ i; level = e₃ i; target = e₄ i; pending = e₅ i; notified = e₆ i }
+    → a .notified ≡ b .notified → a .requests ≡ b .requests → a .notices ≡ b .notices → a ≡ b
+node-eq e₁ e₂ e₃ e₄ e₅ e₆ e₇ e₈ = λ i.
+    record {
+      id = e₁ i;
+      status = e₂ i;
+      level = e₃ i;
+      target = e₄ i;
+      pending = e₅ i;
+      notified = e₆ i;
+      requests = e₇ i;
+      notices = e₈ i;
+    }
 
 module _ {a b : Node} (e : a ≡ b) where
   pub same-id : a .id ≡ b .id
@@ -40,42 +50,48 @@ module _ {a b : Node} (e : a ≡ b) where
   pub same-notified : a .notified ≡ b .notified
   same-notified = ap (λ (r : Node). r .notified) e
 
+  pub same-requests : a .requests ≡ b .requests
+  same-requests = ap (λ (r : Node). r .requests) e
+
+  pub same-notices : a .notices ≡ b .notices
+  same-notices = ap (λ (r : Node). r .notices) e
+
 -- a record is as it was where its words are
 pub node-same : (s s′ : List ℕ) (y : ℕ) → ((k : ℕ) → k < 8 → getD s′ (8 * y + k) 0 ≡ getD s (8 * y + k) 0) → nodeOf s′ y ≡ nodeOf s y
 node-same s s′ y h =
     node-eq (subst (λ (p : ℕ). getD s′ p 0 ≡ getD s p 0) (add-zero (8 * y)) (h 0 (lit< tt))) (h 1 (lit< tt)) (h 2 (lit< tt))
-    (h 3 (lit< tt)) (h 4 (lit< tt)) (h 5 (lit< tt))
+    (h 3 (lit< tt)) (h 4 (lit< tt)) (h 5 (lit< tt)) (h 6 (lit< tt)) (h 7 (lit< tt))
 
 abbrev pub words : Node → List ℕ
-words r = r .id ∷ r .status ∷ r .level ∷ r .target ∷ r .pending ∷ r .notified ∷ []
+words r = r .id ∷ r .status ∷ r .level ∷ r .target ∷ r .pending ∷ r .notified ∷ r .requests ∷ r .notices ∷ []
 
 stores : (s : List ℕ) (x : ℕ) (r : Node) → withNode s x r ≡ sets s (8 * x) (words r)
 unfolding withNode
 stores s x r = simp towards-suc
 
-module _ (s : List ℕ) (x : ℕ) (r : Node) (fits : 8 * x + 6 ≤ length s) where
-  spliced : withNode s x r ≡ splice (8 * x) 6 (words r) s
+module _ (s : List ℕ) (x : ℕ) (r : Node) (fits : 8 * x + 8 ≤ length s) where
+  spliced : withNode s x r ≡ splice (8 * x) 8 (words r) s
   spliced =
       stores s x r
       ∙ sets-eq (words r) s (8 * x) fits
-      ∙ append-assoc (take (8 * x) s) (words r) (drop (8 * x + 6) s)
+      ∙ append-assoc (take (8 * x) s) (words r) (drop (8 * x + 8) s)
 
   pub node-length : length (withNode s x r) ≡ length s
-  node-length = ap length spliced ∙ splice-length (8 * x) 6 (words r) s refl fits
+  node-length = ap length spliced ∙ splice-length (8 * x) 8 (words r) s refl fits
 
-  pub node-at : (k : ℕ) → k < 6 → getD (withNode s x r) (8 * x + k) 0 ≡ getD (words r) k 0
-  node-at k h = ap (λ (l : List ℕ). getD l (8 * x + k) 0) spliced ∙ splice-at (8 * x) 6 (words r) s refl fits k h
+  pub node-at : (k : ℕ) → k < 8 → getD (withNode s x r) (8 * x + k) 0 ≡ getD (words r) k 0
+  node-at k h = ap (λ (l : List ℕ). getD l (8 * x + k) 0) spliced ∙ splice-at (8 * x) 8 (words r) s refl fits k h
 
   pub node-stored : nodeOf (withNode s x r) x ≡ r
   node-stored =
       node-eq (ap (λ (p : ℕ). getD (withNode s x r) p 0) (sym (add-zero (8 * x))) ∙ node-at 0 (lit< tt)) (node-at 1 (lit< tt)) (node-at 2 (lit< tt))
-      (node-at 3 (lit< tt)) (node-at 4 (lit< tt)) (node-at 5 (lit< tt))
+      (node-at 3 (lit< tt)) (node-at 4 (lit< tt)) (node-at 5 (lit< tt)) (node-at 6 (lit< tt)) (node-at 7 (lit< tt))
 
-  -- a word outside the six is as it was
-  pub node-outside : (p : ℕ) → (p < 8 * x) ⊎ (8 * x + 6 ≤ p) → getD (withNode s x r) p 0 ≡ getD s p 0
+  -- a word outside the eight is as it was
+  pub node-outside : (p : ℕ) → (p < 8 * x) ⊎ (8 * x + 8 ≤ p) → getD (withNode s x r) p 0 ≡ getD s p 0
   node-outside p h =
       ap (λ (l : List ℕ). getD l p 0) spliced
-      ∙ ⊎-elim (splice-before (8 * x) 6 (words r) s refl fits p) (splice-after (8 * x) 6 (words r) s refl fits p) h
+      ∙ ⊎-elim (splice-before (8 * x) 8 (words r) s refl fits p) (splice-after (8 * x) 8 (words r) s refl fits p) h
 
 -- ---- a node's table
 
@@ -178,11 +194,11 @@ zeroed-ends n i d x e l g = subst (λ (m : ℕ). x ≡ zeroed m d) (le-antisymm 
 -- ---- stores one upon the other
 
 -- the second record is what stays
-pub stored-twice : (s : List ℕ) (x : ℕ) (a b : Node) → 8 * x + 6 ≤ length s → withNode (withNode s x a) x b ≡ withNode s x b
+pub stored-twice : (s : List ℕ) (x : ℕ) (a b : Node) → 8 * x + 8 ≤ length s → withNode (withNode s x a) x b ≡ withNode s x b
 stored-twice s x a b fits =
     spliced (withNode s x a) x b (omega (arith, node-length s x a fits))
-    ∙ ap (splice (8 * x) 6 (words b)) (spliced s x a fits)
-    ∙ splice-twice (8 * x) 6 (words a) s refl fits (words b)
+    ∙ ap (splice (8 * x) 8 (words b)) (spliced s x a fits)
+    ∙ splice-twice (8 * x) 8 (words a) s refl fits (words b)
     ∙ sym (spliced s x b fits)
 
 -- a table put back as it was changes nothing

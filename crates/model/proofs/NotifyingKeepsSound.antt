@@ -2,7 +2,7 @@
 use Prim.Native.Nat.{ℕ, _+_, _*_, _^_, _≤_, _<_}
 use mathlib.Core.Path.{_≡_, refl, sym, ap, subst, subst₂, _∙_}
 use mathlib.Core.Logic.{_⊎_, inl, inr, ⊎-elim}
-use mathlib.Core.Bool.{true, _||_}
+use mathlib.Core.Bool.{true, false, _||_}
 use mathlib.Core.List.{List}
 use native.Mathlib.Decide.{ℕ-discrete}
 use native.Mathlib.Omega.{arith}
@@ -10,14 +10,16 @@ use lib.Dec.{eqb}
 use lib.ListN.{length, getD}
 use lib.Pow.{pow-pos}
 use borrow.Author.Tests.{eqb-true}
-use Rattle.model.specs.Memory.{base, digits, depth, nodeCount, Node, nodeOf, statusOf, levelOf, pendingOf, notifiedOf, withNode, notifying}
+use Rattle.model.specs.Memory.{base, digits, depth, nodeCount, Node, nodeOf, statusOf, levelOf, pendingOf, notifiedOf, noticesOf, withNode, notifying, setSize}
 use Rattle.model.specs.Memory.{isInSystem, isAttached, hasNode, addNode, removeNode, tableOf, withTable}
 use Rattle.model.specs.Learning.{learn, learnTable}
 use Rattle.model.specs.Join.{Delivery, notifyingNode, settle, gather, delivery, delivered}
 use Rattle.model.proofs.Bools.{or-cases, not-both}
 use Rattle.model.proofs.Sets.{has-none, has-add, has-add-other, has-remove, add-within, remove-le}
+use Rattle.model.proofs.SetSizes.{size-none}
 use Rattle.model.proofs.Memory.{same-status, node-stored}
 use Rattle.model.proofs.Status.{IsNode, PendingOk, NotifiedOk, NotifyingOk, RecordOk, is-notifying, rests, attached-notifying, attached-same, notifying-out}
+use Rattle.model.proofs.NodeCounts.{CountsOk}
 use Rattle.model.proofs.Settling.{Settling, settles, stays, settle-attached}
 use Rattle.model.proofs.Ids.{InRange}
 use Rattle.model.proofs.Sound.{standing, Sound, node-fits}
@@ -29,6 +31,7 @@ use Rattle.model.proofs.SoundNodes.{own-later, own, suffix-below, range
 use Rattle.model.proofs.Sender.{CanDeliver, Receiver}
 use Rattle.model.proofs.DeliveryDid.{Tells, Attaches, Notifies, levelAt, stateAt, ownAt, to-receiver}
 use Rattle.model.proofs.TablesOnlyGrow.{delivered-id, sender-out, delivered-later}
+use Rattle.model.proofs.RequestBound.{not-itself, none-answered, telling-counts}
 
 -- ---- what is gathered from a table
 
@@ -100,7 +103,8 @@ module _ (s t : List ℕ) (S : Sound s t) (x y : ℕ) (c : CanDeliver s x y) (s�
     module _ (k before rest : ℕ) (level : k < digits s) (before-within : before < 2 ^ nodeCount s) (rest-within : rest < 2 ^ nodeCount s)
         (done : (u : ℕ) → IsNode s u → hasNode before u ≡ true → NotifiedOk s x u)
         (due : (u : ℕ) → IsNode s u → hasNode rest u ≡ true → PendingOk s x k (addNode before y) u)
-        (w : Tells s t x y (delivery s t x y) s′ seen k (gather s x k (addNode before y) Ty′ rest) (addNode before y)) where
+        (notices : ℕ) (counted : notices ≡ setSize before) (yet : hasNode before y ≡ false)
+        (w : Tells s t x y (delivery s t x y) s′ seen k (gather s x k (addNode before y) Ty′ rest) (addNode before y) notices) where
       abbrev d : Delivery
       d = delivery s t x y
 
@@ -108,12 +112,12 @@ module _ (s t : List ℕ) (S : Sound s t) (x y : ℕ) (c : CanDeliver s x y) (s�
       pending = gather s x k (addNode before y) Ty′ rest
 
       abbrev full : Node
-      full = notifyingNode (nodeOf s x) k pending (addNode before y)
+      full = notifyingNode (nodeOf s x) k pending (addNode before y) notices
 
       abbrev s₁ : List ℕ
       s₁ = withNode s x (d .sender)
 
-      fits : 8 * x + 6 ≤ length s
+      fits : 8 * x + 8 ≤ length s
       fits = node-fits s t S x nx
 
       a₁ : Agree x s s₁
@@ -151,7 +155,8 @@ module _ (s t : List ℕ) (S : Sound s t) (x y : ℕ) (c : CanDeliver s x y) (s�
           subst₂ (λ (Tx Ty : List ℕ). Sound s₁ (withTable (withTable t y Ty) x Tx)) (sym (w .own)) (sym (w .theirs))
           (replaced-ok s t x y (d .sender) (learnTable s′ x seen (tableOf t x)) Ty′ S nx ny (delivered-id s t S x y c) l₁
           (own-later s′ s₁ l₂ x (learnTable s′ x seen (tableOf t x)) (node-later s s′ l x nx) mine)
-          (own-later s′ s₁ l₂ y Ty′ (node-later s s′ l y ny) theirs) (subst (RecordOk s x) (sym (w .sender)) (rules (w .settling))))
+          (own-later s′ s₁ l₂ y Ty′ (node-later s s′ l y ny) theirs) (subst (RecordOk s x) (sym (w .sender)) (rules (w .settling)))
+          (subst (CountsOk s x) (sym (w .sender)) (telling-counts s t S x nx y k pending before notices ny yet (not-itself s x nx before done) (r .other) counted (w .settling))))
 
 -- ---- the two cases
 
@@ -165,7 +170,8 @@ module _ (s t : List ℕ) (S : Sound s t) (x y : ℕ) (c : CanDeliver s x y) whe
       (λ u n h. absurd (none u h))
       (λ u n h.
       ⊎-elim (λ q. absurd (none u q)) (gathered-due s x (c .sender) s′ a range′ x Tx′ own′ (inl refl) k (addNode 0 y) u)
-      (gather-has s x k (addNode 0 y) Tx′ 0 u (n .low) h)) (w .tells)
+      (gather-has s x k (addNode 0 y) Tx′ 0 u (n .low) h)) (noticesOf s x)
+      (none-answered s t S x (c .sender) (λ q. omega (arith, q, w .status)) (λ q. omega (arith, q, w .status)) ∙ sym size-none) (has-none y) (w .tells)
     where
       k : ℕ
       k = levelAt s t x y
@@ -174,7 +180,7 @@ module _ (s t : List ℕ) (S : Sound s t) (x y : ℕ) (c : CanDeliver s x y) whe
       s′ = stateAt s t x y
 
       first : Node
-      first = notifyingNode (nodeOf s x) (levelAt s t x y) 0 (addNode 0 y)
+      first = notifyingNode (nodeOf s x) (levelAt s t x y) 0 (addNode 0 y) (noticesOf s x)
 
       a : Agree x s s′
       a = agree-node s x (node-fits s t S x (c .sender)) first refl
@@ -202,7 +208,7 @@ module _ (s t : List ℕ) (S : Sound s t) (x y : ℕ) (c : CanDeliver s x y) whe
   notifies-ok w =
       tells-ok s t S x y c s a (w .status) (learn s y x (tableOf t y)) (theirs s t S x y c s a (w .status)) (levelOf s x) (notifiedOf s x)
       (removeNode (pendingOf s x) y) (o .level) (o .notified-within) (omega (arith, remove-le (pendingOf s x) y, o .pending-within))
-      (o .notified) still-due (w .tells)
+      (o .notified) still-due (noticesOf s x + 1) (S .counts x (c .sender) .notices .less-one (w .status)) (o .pending y (c .receiver) (w .pending) .new) (w .tells)
     where
       o : NotifyingOk s x (nodeOf s x)
       o = w .rules

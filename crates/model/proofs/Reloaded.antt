@@ -1,8 +1,8 @@
--- What an image that pictures a state gives when it is read: the state's words and tables, and past the fixed lengths the memory that
--- was there. Assumes nothing.
-use Prim.Native.Nat.{ℕ, zero, suc, _+_, _*_, _/_, _%_, _≤_, _<_}
+-- What an image that pictures a state gives when it is read: the state's words, with zero for its counts, and its tables; past the fixed lengths the
+-- memory that was there. Assumes nothing.
+use Prim.Native.Nat.{ℕ, zero, suc, _+_, _-_, _*_, _/_, _%_, _≤_, _<_}
 use mathlib.Core.Path.{_≡_, refl, sym, ap, ap₂, _∙_}
-use mathlib.Core.Logic.{_≢_, _⊎_, inl, inr}
+use mathlib.Core.Logic.{_≢_, _⊎_, inl, inr, ⊎-elim}
 use mathlib.Core.Bool.{Bool, true, false}
 use mathlib.Core.List.{List}
 use native.Mathlib.Decide.{decLt, ℕ-discrete}
@@ -14,7 +14,7 @@ use Rattle.model.specs.Loops.{countBelow, eachBelow}
 use Rattle.model.specs.Memory.{stateLength, tablesLength, base, digits, depth, nodeCount, statusOf, zeroed, tableStart, tableOf, withTable, isInSystem}
 use Rattle.model.specs.Tables.{slotPlace, slotAt, entrySize, append}
 use Rattle.model.specs.Join.{withSettings}
-use Rattle.model.specs.Image.{imBase, imDigits, imDepth, imNodes, imId, imRecords, recNode, recLevel, recDigit, recNeighbor, loadId, loadRecord, loaded}
+use Rattle.model.specs.Image.{imBase, imDigits, imDepth, imNodes, imId, imRecords, recNode, recLevel, recDigit, recNeighbor, loadId, loadRecord, loaded, withoutCounts}
 use Rattle.model.proofs.Bools.{true-or-false}
 use Rattle.model.proofs.Loops.{each-step, each-keeps}
 use Rattle.model.proofs.Memory.{zeroed-length, zeroed-within, table-set}
@@ -24,6 +24,7 @@ use Rattle.model.proofs.LearningKeepsRules.{entries-of, gap-free}
 use Rattle.model.proofs.Status.{IsNode, StatusOk, is-in-system, is-copying, is-waiting, is-notifying}
 use Rattle.model.proofs.Sound.{Sound}
 use Rattle.model.proofs.LoadingIsSound.{Words, words-loaded}
+use Rattle.model.proofs.WithoutCounts.{IsCount, without-length, without-kept, without-zero}
 use Rattle.model.proofs.Counting.{count-more, count-no-more}
 use Rattle.model.proofs.Records.{filledAt, filled-nonzero}
 use Rattle.model.proofs.Sections.{Pictures}
@@ -169,7 +170,7 @@ module _ (im s t : List ℕ) (S : Sound s t) (P : Pictures im s t) (t′ : List 
 
 -- ---- the words
 
--- a node in system has nothing but its id
+-- a node in system has nothing but its id and its counts
 module _ (s t : List ℕ) (S : Sound s t) (in-system : (x : ℕ) → IsNode s x → isInSystem s x ≡ true) (x : ℕ) (n : IsNode s x) where
   status-zero : statusOf s x ≡ 0
   status-zero = eqb-true _ 0 (in-system x n)
@@ -186,13 +187,25 @@ module _ (s t : List ℕ) (S : Sound s t) (in-system : (x : ℕ) → IsNode s x 
   rest-zero (is-waiting e r) c l h = absurd (omega (arith, sym e ∙ status-zero))
   rest-zero (is-notifying e r) c l h = absurd (omega (arith, sym e ∙ status-zero))
 
-  pub words-zero : (c : ℕ) → 1 ≤ c → c < 8 → getD s (8 * x + c) 0 ≡ 0
+  -- and without its counts all the rest is zero
+  words-zero : (c : ℕ) → 1 ≤ c → c < 8 → getD (withoutCounts s) (8 * x + c) 0 ≡ 0
   words-zero c l h = go (ℕ-discrete c 1) (decLt c 6)
     where
-      go : Dec (c ≡ 1) → Dec (c < 6) → getD s (8 * x + c) 0 ≡ 0
-      go (yes e) d = ap (λ (c : ℕ). getD s (8 * x + c) 0) e ∙ status-zero
-      go (no f) (yes g) = rest-zero (S .statuses x n) c (omega arith) g
-      go (no f) (no g) = S .spare x n c (omega arith) h
+      kept : c < 6 → getD (withoutCounts s) (8 * x + c) 0 ≡ getD s (8 * x + c) 0
+      kept g = without-kept s (8 * x + c) (λ k m i. ⊎-elim (λ q. omega arith) (λ q. omega arith) i)
+
+      is-count : 6 ≤ c → IsCount (x - 1) (8 * x + c)
+      is-count g = which (ℕ-discrete c 6)
+        where
+          which : Dec (c ≡ 6) → IsCount (x - 1) (8 * x + c)
+          which (yes e) = inl (omega (arith, n .low))
+          which (no e) = inr (omega (arith, n .low))
+
+      go : Dec (c ≡ 1) → Dec (c < 6) → getD (withoutCounts s) (8 * x + c) 0 ≡ 0
+      go (yes e) d = kept (omega arith) ∙ ap (λ (c : ℕ). getD s (8 * x + c) 0) e ∙ status-zero
+      go (no f) (yes g) = kept g ∙ rest-zero (S .statuses x n) c (omega arith) g
+      go (no f) (no g) =
+          without-zero s (x - 1) (8 * x + c) (omega (arith, n .low, n .high)) (is-count (omega arith)) (omega (arith, n .high, S .few, S .long .state))
 
 module _ (im s t : List ℕ) (S : Sound s t) (P : Pictures im s t) (in-system : (x : ℕ) → IsNode s x → isInSystem s x ≡ true)
     (s′ : List ℕ) (room : stateLength ≤ length s′) where
@@ -234,6 +247,15 @@ module _ (im s t : List ℕ) (S : Sound s t) (P : Pictures im s t) (in-system : 
   node-there : {x : ℕ} → IsNode s₂ x → IsNode s x
   node-there n = record { low = n .low; high = omega (arith, W .settings .count, P .nodes, n .high) }
 
+  -- the words that are no counts are the state's
+  kept : (p : ℕ) → (p < 8) ⊎ (nodeCount s < p / 8) ⊎ (p % 8 ≡ 0) → getD (withoutCounts s) p 0 ≡ getD s p 0
+  kept p o = without-kept s p (λ k m i. ⊎-elim (λ q. at k m 6 (omega arith) (omega arith) q o) (λ q. at k m 7 (omega arith) (omega arith) q o) i)
+    where
+      at : (k : ℕ) → k < nodeCount s → (c : ℕ) → 6 ≤ c → c < 8 → p ≡ 8 * (k + 1) + c → (p < 8) ⊎ (nodeCount s < p / 8) ⊎ (p % 8 ≡ 0) → ⊥
+      at k m c a b q (inl g) = omega arith
+      at k m c a b q (inr (inl g)) = omega arith
+      at k m c a b q (inr (inr g)) = omega arith
+
   settings-low : (p : ℕ) → p < 4 → getD s₂ p 0 ≡ getD s p 0
   settings-low zero h = W .settings .base ∙ P .base
   settings-low (suc zero) h = W .settings .digits ∙ P .digits
@@ -242,12 +264,12 @@ module _ (im s t : List ℕ) (S : Sound s t) (P : Pictures im s t) (in-system : 
   settings-low (suc (suc (suc (suc p)))) h = absurd (omega arith)
 
   -- a word of the records
-  record-low : (p : ℕ) → 8 ≤ p → p < stateLength → getD s₂ p 0 ≡ getD s p 0
+  record-low : (p : ℕ) → 8 ≤ p → p < stateLength → getD s₂ p 0 ≡ getD (withoutCounts s) p 0
   record-low p l h = go (decLt (nodeCount s) (p / 8)) (ℕ-discrete (p % 8) 0)
     where
-      go : Dec (nodeCount s < p / 8) → Dec (p % 8 ≡ 0) → getD s₂ p 0 ≡ getD s p 0
+      go : Dec (nodeCount s < p / 8) → Dec (p % 8 ≡ 0) → getD s₂ p 0 ≡ getD (withoutCounts s) p 0
       go (yes g) d =
-          W .zero p (omega arith) h (λ x n. omega (arith, node-there n .high)) ∙ sym (S .rest p (omega arith) h)
+          W .zero p (omega arith) h (λ x n. omega (arith, node-there n .high)) ∙ sym (kept p (inr (inl g)) ∙ S .rest p (omega arith) h)
       go (no g) (yes e) =
           let n : IsNode s (p / 8) = record { low = omega arith; high = omega arith } in
           let w : p ≡ 8 * (p / 8) = omega arith in
@@ -255,28 +277,29 @@ module _ (im s t : List ℕ) (S : Sound s t) (P : Pictures im s t) (in-system : 
           ∙ W .ids (p / 8) (node-back n)
           ∙ P .ids (p / 8) n
           ∙ ap (λ (p : ℕ). getD s p 0) (sym w)
+          ∙ sym (kept p (inr (inr e)))
       go (no g) (no f) =
           let n : IsNode s (p / 8) = record { low = omega arith; high = omega arith } in
           let w : p ≡ 8 * (p / 8) + p % 8 = omega arith in
           W .zero p (omega arith) h (λ x m. λ q. f (omega arith))
-          ∙ sym (ap (λ (p : ℕ). getD s p 0) w ∙ words-zero s t S in-system (p / 8) n (p % 8) (omega arith) (omega arith))
+          ∙ sym (ap (λ (p : ℕ). getD (withoutCounts s) p 0) w ∙ words-zero s t S in-system (p / 8) n (p % 8) (omega arith) (omega arith))
 
-  low : (p : ℕ) → p < stateLength → getD s₂ p 0 ≡ getD s p 0
+  low : (p : ℕ) → p < stateLength → getD s₂ p 0 ≡ getD (withoutCounts s) p 0
   low p h = go (decLt p 4) (decLt p 8)
     where
-      go : Dec (p < 4) → Dec (p < 8) → getD s₂ p 0 ≡ getD s p 0
-      go (yes l) d = settings-low p l
+      go : Dec (p < 4) → Dec (p < 8) → getD s₂ p 0 ≡ getD (withoutCounts s) p 0
+      go (yes l) d = settings-low p l ∙ sym (kept p (inl (omega arith)))
       go (no g) (yes l) =
-          W .zero p (omega arith) h (λ x n. omega (arith, n .low)) ∙ sym (S .head p (omega arith) l)
+          W .zero p (omega arith) h (λ x n. omega (arith, n .low)) ∙ sym (kept p (inl l) ∙ S .head p (omega arith) l)
       go (no g) (no f) = record-low p (omega arith) h
 
-  -- the words are the state's
-  words-back : s₂ ≡ over stateLength s s′
-  words-back = over-is stateLength s s′ (S .long .state) room s₂ s₂-long low high
+  -- the words are the state's but for the counts
+  words-back : s₂ ≡ over stateLength (withoutCounts s) s′
+  words-back = over-is stateLength (withoutCounts s) s′ (omega (arith, without-length s, S .long .state)) room s₂ s₂-long low high
 
   -- read into any memory
   pub reloaded : (t′ : List ℕ) → tablesLength ≤ length t′
-      → loaded s′ t′ im ≡ record { state = over stateLength s s′; tables = over tablesLength t t′ }
+      → loaded s′ t′ im ≡ record { state = over stateLength (withoutCounts s) s′; tables = over tablesLength t t′ }
   unfolding loaded s₂ s₀
   reloaded t′ l =
       ap₂ (λ (a b : List ℕ). record { state = a; tables = b }) words-back (tables-back im s t S P t′ l)

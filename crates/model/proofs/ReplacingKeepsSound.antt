@@ -12,17 +12,18 @@ use Rattle.model.specs.Ids.{validId}
 use Rattle.model.specs.Memory.{base, digits, depth, nodeCount, Node, nodeOf, idOf, isAttached, isInSystem, withNode, tableStart, tableOf, withTable}
 use Rattle.model.proofs.Memory.{same-id, node-same, node-length, node-stored, node-outside, stored-length, stored-outside, stored-same, stored-other}
 use Rattle.model.proofs.Status.{IsNode, RecordOk, StatusOk, attached-same, in-system-same}
+use Rattle.model.proofs.NodeCounts.{CountsOk}
 use Rattle.model.proofs.Ids.{InRange}
 use Rattle.model.proofs.Sound.{TableOk, Long, Sound, node-fits, table-fits}
 use Rattle.model.proofs.LearningKeepsRules.{OwnTable}
-use Rattle.model.proofs.Later.{Later, table-later, status-later}
+use Rattle.model.proofs.Later.{Later, table-later, status-later, counts-later}
 
 -- two states that agree but for node x's record, in which x has the same id
 pub record Agree (x : ℕ) (s s′ : List ℕ) : Type 0 where
-  pub words : (p : ℕ) → (p < 8 * x) ⊎ (8 * x + 6 ≤ p) → getD s′ p 0 ≡ getD s p 0
+  pub words : (p : ℕ) → (p < 8 * x) ⊎ (8 * x + 8 ≤ p) → getD s′ p 0 ≡ getD s p 0
   pub id : idOf s′ x ≡ idOf s x
 
-module _ (s : List ℕ) (x : ℕ) (fits : 8 * x + 6 ≤ length s) where
+module _ (s : List ℕ) (x : ℕ) (fits : 8 * x + 8 ≤ length s) where
   pub agree-node : (r : Node) → r .id ≡ idOf s x → Agree x s (withNode s x r)
   agree-node r e = record { words = node-outside s x r fits; id = same-id (node-stored s x r fits) ∙ e }
 
@@ -32,10 +33,10 @@ agree-both x s s′ s″ a b = record { words = λ p h. b .words p h ∙ sym (a 
 
 module _ (x : ℕ) (s s′ : List ℕ) (a : Agree x s s′) where
   -- the words of another node's record
-  pub agree-record : (y k : ℕ) → y ≢ x → k < 8 → getD s′ (8 * y + k) 0 ≡ getD s (8 * y + k) 0
+  agree-record : (y k : ℕ) → y ≢ x → k < 8 → getD s′ (8 * y + k) 0 ≡ getD s (8 * y + k) 0
   agree-record y k e h = a .words (8 * y + k) (apart (decLt y x))
     where
-      apart : Dec (y < x) → (8 * y + k < 8 * x) ⊎ (8 * x + 6 ≤ 8 * y + k)
+      apart : Dec (y < x) → (8 * y + k < 8 * x) ⊎ (8 * x + 8 ≤ 8 * y + k)
       apart (yes l) = inl (omega arith)
       apart (no g) = inr (omega arith)
 
@@ -116,14 +117,14 @@ module _ (s t : List ℕ) (S : Sound s t) (x y : ℕ) (nx : IsNode s x) (ny : Is
 
 module _ (s t : List ℕ) (x y : ℕ) (r : Node) (Tx Ty : List ℕ) (S : Sound s t) (nx : IsNode s x) (ny : IsNode s y)
     (same-id : r .id ≡ idOf s x) (l : Later s (withNode s x r)) (ox : OwnTable (withNode s x r) x Tx)
-    (oy : OwnTable (withNode s x r) y Ty) (ok : RecordOk s x r) where
+    (oy : OwnTable (withNode s x r) y Ty) (ok : RecordOk s x r) (counted : CountsOk s x r) where
   s₁ : List ℕ
   s₁ = withNode s x r
 
   t₁ : List ℕ
   t₁ = withTable (withTable t y Ty) x Tx
 
-  fits-node : 8 * x + 6 ≤ length s
+  fits-node : 8 * x + 8 ≤ length s
   fits-node = node-fits s t S x nx
 
   a : Agree x s s₁
@@ -141,10 +142,11 @@ module _ (s t : List ℕ) (x y : ℕ) (r : Node) (Tx Ty : List ℕ) (S : Sound s
   status z n (yes e) = subst (StatusOk s₁) (sym e) (status-later s s₁ l x nx (node-stored s x r fits-node) ok)
   status z n (no e) = status-later s s₁ l z n (agree-kept x s s₁ a z e) (S .statuses z n)
 
-  -- the spare words, of x's record too
-  spare : (z : ℕ) → IsNode s z → Dec (z ≡ x) → (k : ℕ) → 6 ≤ k → k < 8 → getD s₁ (8 * z + k) 0 ≡ 0
-  spare z n (no e) k l h = agree-record x s s₁ a z k e h ∙ S .spare z n k l h
-  spare z n (yes e) k l h = a .words (8 * z + k) (inr (omega arith)) ∙ S .spare z n k l h
+  counts : (z : ℕ) → IsNode s z → Dec (z ≡ x) → CountsOk s₁ z (nodeOf s₁ z)
+  unfolding s₁
+  counts z n (yes e) =
+      subst (λ (z : ℕ). CountsOk s₁ z (nodeOf s₁ z)) (sym e) (counts-later s s₁ l x nx (node-stored s x r fits-node) ok counted)
+  counts z n (no e) = counts-later s s₁ l z n (agree-kept x s s₁ a z e) (S .statuses z n) (S .counts z n)
 
   valid : (z : ℕ) → IsNode s z → validId (base s₁) (digits s₁) (idOf s₁ z) ≡ true
   unfolding s₁
@@ -172,7 +174,7 @@ module _ (s t : List ℕ) (x y : ℕ) (r : Node) (Tx Ty : List ℕ) (S : Sound s
         replaced-table s t S x y nx ny Tx Ty (ox .long) (oy .long) (TableOk s₁) (ox .rules) (oy .rules)
         (λ z n. table-later s s₁ l z (tableOf t z) n (S .tables z n)) z (back z n);
     statuses = λ z n. status z (back z n) (ℕ-discrete z x);
-    spare = λ z n. spare z (back z n) (ℕ-discrete z x);
+    counts = λ z n. counts z (back z n) (ℕ-discrete z x);
     head = λ p h g. a .words p (inl (omega (arith, nx .low))) ∙ S .head p h g;
     rest = λ p h g. a .words p (inr (omega (arith, count, nx .high, h))) ∙ S .rest p (omega (arith, count, h)) g;
     tables-rest =

@@ -36,8 +36,8 @@ module _ (s t : List ℕ) (S : Sound s t) (x y : ℕ) (c : CanDeliver s x y) whe
   asking w (starts-waiting e q k n) = at kindCopied waiting k (same-status (w .sender) ∙ q) refl
   asking w (waits-on e q k n) = at kindSentOn waiting k (same-status (w .sender) ∙ q) refl
 
-  telling : {s′ seen : List ℕ} {level pending notified : ℕ} (kind : ℕ) → d .kind ≡ kind → keepsAsking kind ≡ joins inSystem
-      → (w : Tells s t x y d s′ seen level pending notified) → Settling (notifyingNode (nodeOf s x) level pending notified)
+  telling : {s′ seen : List ℕ} {level pending notified notices : ℕ} (kind : ℕ) → d .kind ≡ kind → keepsAsking kind ≡ joins inSystem
+      → (w : Tells s t x y d s′ seen level pending notified notices) → Settling (notifyingNode (nodeOf s x) level pending notified notices)
       → keepsAsking (d .kind) ≡ joins (d .sender .status)
   telling kind k h w (settles p q) = at kind inSystem k (same-status (w .sender ∙ q)) h
   telling kind k h w (stays p q) = at kind notifying k (same-status (w .sender ∙ q)) h

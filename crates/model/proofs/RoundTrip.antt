@@ -1,5 +1,5 @@
 -- Writing and reading undo each other. A state that writing takes, written and read into any memory, is the same state in every word and
--- byte of the fixed lengths; an image that reading takes, read and written, is the same image. Assumes nothing.
+-- byte of the fixed lengths but for the counts, which are zero; an image that reading takes, read and written, is the same image. Assumes nothing.
 use Prim.Native.Nat.{ℕ, zero, suc, _+_, _-_, _*_, _/_, _%_, _≤_, _<_}
 use mathlib.Core.Path.{_≡_, refl, sym, ap, ap₂, _∙_}
 use mathlib.Core.Bool.{true, false, not}
@@ -13,14 +13,14 @@ use lib.Seq.{ext-getD}
 use borrow.Author.Tests.{eq-eqb, le-ltb}
 use Rattle.model.specs.Loops.{joinBelow}
 use Rattle.model.specs.Memory.{Memory, stateLength, tablesLength, nodeCount, isInSystem}
-use Rattle.model.specs.Image.{fourBytes, allRecords, imageOf, byteAt, imNodes, imId, imRecords, recordByte, loaded}
+use Rattle.model.specs.Image.{fourBytes, allRecords, imageOf, byteAt, imNodes, imId, imRecords, recordByte, loaded, withoutCounts}
 use Rattle.model.specs.Refusals.{someNotInSystem, readRefusal, writeRefusal}
 use Rattle.model.specs.Calls.{taken, readCall, writeCall}
 use Rattle.model.proofs.Refusals.{free, sentence-none}
 use Rattle.model.proofs.Nodes.{nodes-of}
 use Rattle.model.proofs.Status.{IsNode}
 use Rattle.model.proofs.Sound.{Long, Sound}
-use Rattle.model.proofs.LoadingIsSound.{GoodImage, Words, words-loaded, loaded-ok}
+use Rattle.model.proofs.LoadingIsSound.{GoodImage, Words, words-loaded, loaded-fresh, loaded-ok}
 use Rattle.model.proofs.Taken.{read-taken, write-taken, state-free}
 use Rattle.model.proofs.Calls.{taken-is}
 use Rattle.model.proofs.Counting.{join-at}
@@ -28,6 +28,7 @@ use Rattle.model.proofs.Records.{placeRecord, records-flat}
 use Rattle.model.proofs.Sections.{Pictures, pictures, image-short, image-length, byte-past, byte-of-id}
 use Rattle.model.proofs.Frame.{Framed, read-free, read-framed}
 use Rattle.model.proofs.WrittenIsTaken.{written-readable}
+use Rattle.model.proofs.WithoutCounts.{without-same}
 use Rattle.model.proofs.Reloaded.{reloaded}
 use Rattle.model.proofs.ReadGivesRecords.{recordBytes, records-back}
 use Rattle.model.specs.Nodes.{allNodes}
@@ -55,9 +56,9 @@ module _ (s t : List ℕ) (S : Sound s t) (m : Memory) (long : Long (m .state) (
       })
       (written-readable (imageOf s t) s t S P) m long
 
-  -- and gives back a state whose nodes are all in system
+  -- and gives back a state whose nodes are all in system, but for its counts
   pub written-read : ((x : ℕ) → IsNode s x → isInSystem s x ≡ true)
-      → loaded (m .state) (m .tables) (imageOf s t) ≡ onto (record { state = s; tables = t }) m
+      → loaded (m .state) (m .tables) (imageOf s t) ≡ onto (record { state = withoutCounts s; tables = t }) m
   unfolding onto
   written-read in-system = reloaded (imageOf s t) s t S (pictures s t S) in-system (m .state) (long .state) (m .tables) (long .tables)
 
@@ -245,12 +246,14 @@ read-again m m′ im byte e long =
     let g : Memory = loaded (m .state) (m .tables) im in
     ap (loaded (m′ .state) (m′ .tables)) (sym (read-written m im byte e))
     ∙ written-read (g .state) (g .tables) (loaded-ok (m .state) (m .tables) im (k .0) (k .1)) m′ long (read-in-system m im byte e)
+    ∙ ap (λ (s : List ℕ). onto (record { state = s; tables = g .tables }) m′)
+    (without-same (g .state) (loaded-fresh (m .state) (m .tables) im (k .0) (k .1)))
 
 -- ---- the same of the calls
 
 -- what a writing wrote, read into any memory
 pub write-then-read : (m m′ : Memory) (out : List ℕ) → writeRefusal m out ≡ 0 → Long (m′ .state) (m′ .tables)
-    → readCall m′ (imageOf (m .state) (m .tables)) ≡ taken (onto m m′) [] (0 ∷ [])
+    → readCall m′ (imageOf (m .state) (m .tables)) ≡ taken (onto (record { state = withoutCounts (m .state); tables = m .tables }) m′) [] (0 ∷ [])
 unfolding readCall
 write-then-read m m′ out e long =
     let k = write-taken m out e in

@@ -5,24 +5,24 @@ use mathlib.Core.Path.{_≡_, sym, ap, subst, _∙_}
 use mathlib.Core.Logic.{_≢_, _⊎_, inl, inr}
 use mathlib.Core.Bool.{Bool, true, false, not, _&&_}
 use mathlib.Core.List.{List}
-use native.Mathlib.Decide.{ℕ-discrete}
 use native.Mathlib.Omega.{arith}
 use lib.Dec.{leb, ltb, eqb}
 use lib.ListN.{length, getD, take, drop}
 use borrow.Author.Tests.{eqb-true, eqb-false, eq-eqb, ne-eqb, leb-true, le-leb, ltb-true, lt-ltb, not-true}
 use Rattle.model.specs.Loops.{allBelow, node}
 use Rattle.model.specs.Ids.{settingsInRange, validId, digitOf}
-use Rattle.model.specs.Memory.{stateLength, tablesLength, base, digits, depth, nodeCount, idOf, tableStart, tableOf}
+use Rattle.model.specs.Memory.{stateLength, tablesLength, base, digits, depth, nodeCount, nodeOf, idOf, tableStart, tableOf}
 use Rattle.model.specs.Tables.{slotPlace, slotAt, firstOf}
 use Rattle.model.specs.Nodes.{qualifies}
 use Rattle.model.specs.Sound.{hasValidId, idDiffers, hasNewId, mayStand, slotDiffers, noGapBefore, slotSound, entrySound, levelSound, ownerFirst, statusSound}
-use Rattle.model.specs.Sound.{allZero, spareZero, placeUsed, placeSound, stateRestZero, tablesRestZero, unusedZero, tableSound, hasSoundTable, sound}
-use Rattle.model.proofs.Bools.{and-left, and-right, and-intro, or-right, or-intro-left, or-intro-right, true-or-false, parts}
+use Rattle.model.specs.Sound.{countsSound, allZero, placeUsed, placeSound, stateRestZero, tablesRestZero, unusedZero, tableSound, hasSoundTable, sound}
+use Rattle.model.proofs.Bools.{and-intro, or-right, or-intro-left, or-intro-right, true-or-false, parts}
 use Rattle.model.proofs.Loops.{all-at, all-of}
 use Rattle.model.proofs.Ids.{InRange, settings-range, settings-of, valid-fits}
 use Rattle.model.proofs.Nodes.{nodes-at, nodes-of}
 use Rattle.model.proofs.Zero.{part-zero-at, part-zero-of}
 use Rattle.model.proofs.Status.{IsNode, StatusOk, status-ok, status-of}
+use Rattle.model.proofs.NodeCounts.{CountsOk, counts-ok, counts-of}
 
 -- ---- tables
 
@@ -170,7 +170,7 @@ pub record Sound (s t : List ℕ) : Type 0 where
   pub new : (x y : ℕ) → IsNode s x → 1 ≤ y → y < x → idOf s y ≢ idOf s x
   pub tables : (x : ℕ) → IsNode s x → TableOk s x (tableOf t x)
   pub statuses : (x : ℕ) → IsNode s x → StatusOk s x
-  pub spare : (x : ℕ) → IsNode s x → (k : ℕ) → 6 ≤ k → k < 8 → getD s (8 * x + k) 0 ≡ 0
+  pub counts : (x : ℕ) → IsNode s x → CountsOk s x (nodeOf s x)
   pub head : (p : ℕ) → 4 ≤ p → p < 8 → getD s p 0 ≡ 0
   pub rest : (p : ℕ) → 8 * nodeCount s + 8 ≤ p → p < stateLength → getD s p 0 ≡ 0
   pub tables-rest : (p : ℕ) → 512 * nodeCount s ≤ p → p < tablesLength → getD t p 0 ≡ 0
@@ -193,19 +193,6 @@ module _ (s t : List ℕ) where
       all-of (x - 1) (idDiffers s x)
       (λ k l. ap not (ne-eqb (idOf s (k + 1)) (idOf s x) (h (k + 1) (omega arith) (omega arith))))
 
-  spare-at : (x : ℕ) → spareZero s x ≡ true → (k : ℕ) → 6 ≤ k → k < 8 → getD s (8 * x + k) 0 ≡ 0
-  spare-at x e k l h = go (ℕ-discrete k 6)
-    where
-      go : Dec (k ≡ 6) → getD s (8 * x + k) 0 ≡ 0
-      go (yes q) = ap (λ (k : ℕ). getD s (8 * x + k) 0) q ∙ eqb-true _ 0 (and-left _ _ e)
-      go (no q) =
-          let w : k ≡ 7 = omega arith in
-          ap (λ (k : ℕ). getD s (8 * x + k) 0) w ∙ eqb-true _ 0 (and-right (eqb (getD s (8 * x + 6) 0) 0) _ e)
-
-  spare-of : (x : ℕ) → ((k : ℕ) → 6 ≤ k → k < 8 → getD s (8 * x + k) 0 ≡ 0) → spareZero s x ≡ true
-  spare-of x h =
-      and-intro _ _ (eq-eqb _ 0 (h 6 (omega arith) (omega arith))) (eq-eqb _ 0 (h 7 (omega arith) (omega arith)))
-
   pub sound-ok : Long s t → sound s t ≡ true → Sound s t
   unfolding sound unusedZero stateRestZero tablesRestZero
   sound-ok l e =
@@ -220,7 +207,7 @@ module _ (s t : List ℕ) where
         new = λ x y i. id-new x y (nodes-at n (hasNewId s) (search parts) x (i .low) (i .high));
         tables = λ x i. table-ok s x (tableOf t x) (nodes-at n (hasSoundTable s t) (search parts) x (i .low) (i .high));
         statuses = λ x i. status-ok s x (nodes-at n (statusSound s) (search parts) x (i .low) (i .high));
-        spare = λ x i. spare-at x (nodes-at n (spareZero s) (search parts depth 12) x (i .low) (i .high));
+        counts = λ x i. counts-ok s x (nodes-at n (countsSound s) (search parts depth 12) x (i .low) (i .high));
         head = part-zero-at s 4 8 (omega (arith, l .state)) (search parts depth 12);
         rest = part-zero-at s (8 * nodeCount s + 8) stateLength (l .state) (search parts depth 12);
         tables-rest = part-zero-at t (512 * nodeCount s) tablesLength (l .tables) (search parts depth 12);
@@ -241,8 +228,8 @@ module _ (s t : List ℕ) where
       nodes-of n (hasSoundTable s t) (λ x a b. table-of s x (tableOf t x) (r .tables x (record { low = a; high = b }))) in
       let statuses : allBelow n (node (statusSound s)) ≡ true =
       nodes-of n (statusSound s) (λ x a b. status-of s x (r .statuses x (record { low = a; high = b }))) in
-      let spare : allBelow n (node (spareZero s)) ≡ true =
-      nodes-of n (spareZero s) (λ x a b. spare-of x (r .spare x (record { low = a; high = b }))) in
+      let counts : allBelow n (node (countsSound s)) ≡ true =
+      nodes-of n (countsSound s) (λ x a b. counts-of s x (r .counts x (record { low = a; high = b }))) in
       let head : allZero (take 4 (drop 4 s)) ≡ true = part-zero-of s 4 8 (omega (arith, r .long .state)) (omega arith) (r .head) in
       let rest : allZero (take (stateLength - (8 * nodeCount s + 8)) (drop (8 * nodeCount s + 8) s)) ≡ true =
       part-zero-of s (8 * nodeCount s + 8) stateLength (r .long .state) (omega arith) (r .rest) in
@@ -252,7 +239,7 @@ module _ (s t : List ℕ) where
 
 -- the record and the table of a node lie in the memory
 module _ (s t : List ℕ) (S : Sound s t) (x : ℕ) (n : IsNode s x) where
-  pub node-fits : 8 * x + 6 ≤ length s
+  pub node-fits : 8 * x + 8 ≤ length s
   node-fits = omega (arith, S .long .state, S .few, n .high)
 
   pub table-fits : tableStart x + 512 ≤ length t

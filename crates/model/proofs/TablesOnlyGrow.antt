@@ -74,9 +74,9 @@ module _ (s t : List ℕ) (S : Sound s t) (x y : ℕ) (c : CanDeliver s x y) whe
     own : Grows (tableOf t x) (d .senderTable)
     their : Grows (tableOf t y) (d .receiverTable)
 
-  tells : (s′ seen : List ℕ) (k pending notified : ℕ) → isInSystem s x ≡ false → Tells s t x y d s′ seen k pending notified → Does
-  tells s′ seen k pending notified out w =
-      let full : Node = notifyingNode (nodeOf s x) k pending notified in
+  tells : (s′ seen : List ℕ) (k pending notified notices : ℕ) → isInSystem s x ≡ false → Tells s t x y d s′ seen k pending notified notices → Does
+  tells s′ seen k pending notified notices out w =
+      let full : Node = notifyingNode (nodeOf s x) k pending notified notices in
       record {
         id = same-id (w .sender) ∙ settle-id full refl;
         out = out;
@@ -100,10 +100,10 @@ module _ (s t : List ℕ) (S : Sound s t) (x y : ℕ) (c : CanDeliver s x y) whe
             own = rw (w .own) (learn-table-grows s x (tableOf t y) (tableOf t x));
             their = rw (w .theirs) (grows-refl (tableOf t y));
           }
-      go (did-attach w) = tells _ _ _ _ _ (away-out (waiting-away s x (w .status))) (w .tells)
-      go (did-notify w) = tells _ _ _ _ _ (notifying-out s x (w .status)) (w .tells)
+      go (did-attach w) = tells _ _ _ _ _ _ (away-out (waiting-away s x (w .status))) (w .tells)
+      go (did-notify w) = tells _ _ _ _ _ _ (notifying-out s x (w .status)) (w .tells)
 
-  fits : 8 * x + 6 ≤ length s
+  fits : 8 * x + 8 ≤ length s
   fits = node-fits s t S x nx
 
   -- the sender keeps its id

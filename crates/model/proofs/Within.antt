@@ -75,11 +75,13 @@ then-set {n} {f} k v h w = within-then n f (λ l. set l k v) w (within-set n k v
 pub within-node : (x : ℕ) (r : Node) → x ≤ 64 → Within stateLength (λ s. withNode s x r)
 unfolding withNode
 within-node x r h =
-    then-set (8 * x + 5) (r .notified) (omega arith)
+    then-set (8 * x + 7) (r .notices) (omega arith)
+    (then-set (8 * x + 6) (r .requests) (omega arith)
+    (then-set (8 * x + 5) (r .notified) (omega arith)
     (then-set (8 * x + 4) (r .pending) (omega arith)
     (then-set (8 * x + 3) (r .target) (omega arith)
     (then-set (8 * x + 2) (r .level) (omega arith)
-    (then-set (8 * x + 1) (r .status) (omega arith) (within-set stateLength (8 * x) (r .id) (omega arith))))))
+    (then-set (8 * x + 1) (r .status) (omega arith) (within-set stateLength (8 * x) (r .id) (omega arith))))))))
 
 -- ---- a table
 

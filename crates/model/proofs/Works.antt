@@ -73,7 +73,7 @@ module _ (s t : List ℕ) (S : Sound s t) (x y : ℕ) (c : CanDeliver s x y) whe
       their : length (tableOf t y) ≡ 512
       their = table-length t y (table-fits s t S y (c .receiver))
 
-      tells : {s′ seen : List ℕ} {level pending notified : ℕ} → Tells s t x y d s′ seen level pending notified
+      tells : {s′ seen : List ℕ} {level pending notified notices : ℕ} → Tells s t x y d s′ seen level pending notified notices
           → (length (d .senderTable) ≡ 512) × (length (d .receiverTable) ≡ 512)
       tells {s′} {seen} w = (
         ap length (w .own) ∙ learn-table-grows s′ x seen (tableOf t x) .long ∙ own,

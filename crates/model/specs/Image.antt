@@ -197,7 +197,7 @@ loadRecord im r t =
     let x = recNode im r in
     withTable t x (append (imDepth im) (tableOf t x) (recLevel im r) (recDigit im r) (recNeighbor im r))
 
--- the state that an image gives: every node is in system, so each record is zero but for the id
+-- the state that an image gives: every node is in system and has counted nothing, so each record is zero but for the id
 unfoldable pub loaded : List ℕ → List ℕ → List ℕ → Memory
 loaded s t im =
     record {
@@ -206,3 +206,12 @@ loaded s t im =
           (withSettings (zeroed stateLength s) (imBase im) (imDigits im) (imDepth im) (imNodes im));
       tables = eachBelow (imRecords im) (loadRecord im) (zeroed tablesLength t);
     }
+
+-- ---- what an image of version 1 keeps of a state: all but the counts (for demand 2; no paper has the words)
+
+abbrev pub zeroCounts : ℕ → List ℕ → List ℕ
+zeroCounts k s = set (set s (8 * (k + 1) + 6) 0) (8 * (k + 1) + 7) 0
+
+-- the state with both counts of every node at zero
+unfoldable pub withoutCounts : List ℕ → List ℕ
+withoutCounts s = eachBelow (nodeCount s) zeroCounts s

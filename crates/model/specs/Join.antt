@@ -1,4 +1,4 @@
--- Founding and joining: document 01, "The join, step by step".
+-- Founding and joining: document 01, "The join, step by step"; what they count: document 02, ticket 3.
 use Prim.Native.Nat.{ℕ, suc, _+_}
 use mathlib.Core.Bool.{Bool, cond, not, _&&_, _||_}
 use mathlib.Core.List.{List}
@@ -7,7 +7,7 @@ use lib.Dec.{leb, ltb, eqb}
 use Rattle.model.specs.Loops.{allBelow, firstBelow, eachBelow}
 use Rattle.model.specs.Ids.{digitOf}
 use Rattle.model.specs.Memory.{stateLength, tablesLength, digits, depth, nodeCount, zeroed, Node, Memory, nodeOf, idOf, statusOf, levelOf, targetOf}
-use Rattle.model.specs.Memory.{pendingOf, notifiedOf, withNode, inSystem, copying, waiting, notifying, isInSystem, isJoining}
+use Rattle.model.specs.Memory.{pendingOf, notifiedOf, noticesOf, withNode, inSystem, copying, waiting, notifying, isInSystem, isJoining}
 use Rattle.model.specs.Memory.{hasNode, addNode, removeNode, tableOf, withTable}
 use Rattle.model.specs.Tables.{entrySize, firstOf, ownTable}
 use Rattle.model.specs.Nodes.{suffixOf}
@@ -17,23 +17,53 @@ use Rattle.model.specs.Learning.{learn, learnTable}
 
 -- a new node, in system
 abbrev pub newNode : ℕ → Node
-newNode id = record { id = id; status = inSystem; level = 0; target = 0; pending = 0; notified = 0 }
+newNode id =
+    record { id = id; status = inSystem; level = 0; target = 0; pending = 0; notified = 0; requests = 0; notices = 0 }
 
--- a node in system
+-- a node in system; its counts stay
 abbrev pub inSystemNode : Node → Node
-inSystemNode r = record { id = r .id; status = inSystem; level = 0; target = 0; pending = 0; notified = 0 }
+inSystemNode r =
+    record {
+      id = r .id;
+      status = inSystem;
+      level = 0;
+      target = 0;
+      pending = 0;
+      notified = 0;
+      requests = r .requests;
+      notices = r .notices;
+    }
 
--- one that copies or waits, by its status and target
+-- one that copies or waits, by its status and target: it has sent one request more, to its target
 abbrev pub joiningNode : Node → ℕ → ℕ → Node
 joiningNode r status target =
-    record { id = r .id; status = status; level = 0; target = target; pending = 0; notified = 0 }
+    record {
+      id = r .id;
+      status = status;
+      level = 0;
+      target = target;
+      pending = 0;
+      notified = 0;
+      requests = r .requests + 1;
+      notices = r .notices;
+    }
 
--- one that notifies
-abbrev pub notifyingNode : Node → ℕ → ℕ → ℕ → Node
-notifyingNode r level pending notified =
-    record { id = r .id; status = notifying; level = level; target = 0; pending = pending; notified = notified }
+-- one that notifies, with so many answered notices
+abbrev pub notifyingNode : Node → ℕ → ℕ → ℕ → ℕ → Node
+notifyingNode r level pending notified notices =
+    record {
+      id = r .id;
+      status = notifying;
+      level = level;
+      target = 0;
+      pending = pending;
+      notified = notified;
+      requests = r .requests;
+      notices = notices;
+    }
 
--- a notifying node that has nobody left to notify is in system within the same step (the paper's "settles"); the rest of its record is cleared
+-- a notifying node that has nobody left to notify is in system within the same step (the paper's "settles"); the rest of its record is cleared but
+-- for its counts
 unfoldable pub settle : Node → Node
 settle r = cond (eqb (r .status) notifying && eqb (r .pending) 0) (inSystemNode r) r
 
@@ -51,7 +81,8 @@ founded s t b d K id =
       tables = withTable (zeroed tablesLength t) 1 (ownTable d id 1);
     }
 
--- beginning a join: the node with the next number copies, from the gateway first, and stands in its own entries and no other
+-- beginning a join: the node with the next number copies, from the gateway first, to which it sends its first request, and stands in its own entries
+-- and no other
 unfoldable pub begun : List ℕ → List ℕ → ℕ → ℕ → Memory
 begun s t id gateway =
     let x = nodeCount s + 1 in
@@ -156,13 +187,13 @@ unfoldable pub deliverAttached : List ℕ → ℕ → ℕ → List ℕ → List 
 deliverAttached s x y Tx Ty =
     let k = attachLevel s Ty x (suffixOf s x y) in
     let notified = addNode 0 y in
-    let s′ = withNode s x (notifyingNode (nodeOf s x) k 0 notified) in
+    let s′ = withNode s x (notifyingNode (nodeOf s x) k 0 notified (noticesOf s x)) in
     let Tx′ = learnTable s′ x Ty Tx in
     let Ty′ = learn s′ y x Ty in
     record {
       sender =
           settle
-          (notifyingNode (nodeOf s x) k (gather s x k notified Ty′ (gather s x k notified Tx′ 0)) notified);
+          (notifyingNode (nodeOf s x) k (gather s x k notified Ty′ (gather s x k notified Tx′ 0)) notified (noticesOf s x));
       senderTable = Tx′;
       receiverTable = Ty′;
       kind = kindAttached;
@@ -174,8 +205,8 @@ unfoldable pub deliverWaiting : List ℕ → ℕ → ℕ → List ℕ → List �
 deliverWaiting s x y Tx Ty =
     cond (roomAtSuffix s Ty x y) (deliverAttached s x y Tx Ty) (deliverSentOn s x y Tx Ty)
 
--- a request of a notifying node: y learns x and x learns y's table. y is notified and no longer pending, and the nodes of y's table that x is to
--- notify, by its attach level, become pending.
+-- a request of a notifying node, its notice: y learns x and x learns y's table. y is notified and no longer pending, the nodes of y's table that x is
+-- to notify, by its attach level, become pending, and one notice more was answered.
 unfoldable pub deliverNotifying : List ℕ → ℕ → ℕ → List ℕ → List ℕ → Delivery
 deliverNotifying s x y Tx Ty =
     let k = levelOf s x in
@@ -184,7 +215,7 @@ deliverNotifying s x y Tx Ty =
     record {
       sender =
           settle
-          (notifyingNode (nodeOf s x) k (gather s x k notified Ty′ (removeNode (pendingOf s x) y)) notified);
+          (notifyingNode (nodeOf s x) k (gather s x k notified Ty′ (removeNode (pendingOf s x) y)) notified (noticesOf s x + 1));
       senderTable = learnTable s x Ty′ Tx;
       receiverTable = Ty′;
       kind = kindNotified;

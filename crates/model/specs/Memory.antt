@@ -5,6 +5,7 @@ use mathlib.Core.Bool.{Bool, cond, _||_}
 use mathlib.Core.List.{List, _++_}
 use lib.ListN.{getD, set, take, drop, replicate}
 use lib.Dec.{eqb}
+use Rattle.model.specs.Loops.{countBelow, node}
 
 -- state and table memory
 pub record Memory : Type 0 where
@@ -31,7 +32,8 @@ depth s = getD s 2 0
 abbrev pub nodeCount : List ℕ → ℕ
 nodeCount s = getD s 3 0
 
--- a node's record, in words 8x to 8x + 5 for node x: its id, its status, its attach level, the node that it asks (its target), and two sets
+-- a node's record, in words 8x to 8x + 7 for node x: its id, its status, its attach level, the node that it asks (its target), two sets, and two
+-- counts (document 02, ticket 3): the copy and wait requests that it has sent, and its notices that were answered
 pub record Node : Type 0 where
   pub id : ℕ
   pub status : ℕ
@@ -39,6 +41,8 @@ pub record Node : Type 0 where
   pub target : ℕ
   pub pending : ℕ
   pub notified : ℕ
+  pub requests : ℕ
+  pub notices : ℕ
 
 abbrev pub idOf : List ℕ → ℕ → ℕ
 idOf s x = getD s (8 * x) 0
@@ -60,6 +64,14 @@ pendingOf s x = getD s (8 * x + 4) 0
 abbrev pub notifiedOf : List ℕ → ℕ → ℕ
 notifiedOf s x = getD s (8 * x + 5) 0
 
+-- how many copy and wait requests x has sent
+abbrev pub requestsOf : List ℕ → ℕ → ℕ
+requestsOf s x = getD s (8 * x + 6) 0
+
+-- how many of x's notices were answered
+abbrev pub noticesOf : List ℕ → ℕ → ℕ
+noticesOf s x = getD s (8 * x + 7) 0
+
 -- node x's record
 abbrev pub nodeOf : List ℕ → ℕ → Node
 nodeOf s x =
@@ -70,6 +82,8 @@ nodeOf s x =
       target = targetOf s x;
       pending = pendingOf s x;
       notified = notifiedOf s x;
+      requests = requestsOf s x;
+      notices = noticesOf s x;
     }
 
 -- the state with r as node x's record
@@ -77,11 +91,17 @@ unfoldable pub withNode : List ℕ → ℕ → Node → List ℕ
 withNode s x r =
     set
     (set
+    (set
+    (set
     (set (set (set (set s (8 * x) (r .id)) (8 * x + 1) (r .status)) (8 * x + 2) (r .level)) (8 * x + 3) (r .target))
     (8 * x + 4)
     (r .pending))
     (8 * x + 5)
-    (r .notified)
+    (r .notified))
+    (8 * x + 6)
+    (r .requests))
+    (8 * x + 7)
+    (r .notices)
 
 -- the four statuses by their numbers; in system is the paper's "settled"
 abbrev pub inSystem : ℕ
@@ -116,6 +136,10 @@ addNode nodes u = cond (hasNode nodes u) nodes (nodes + 2 ^ (u - 1))
 
 unfoldable pub removeNode : ℕ → ℕ → ℕ
 removeNode nodes u = cond (hasNode nodes u) (nodes - 2 ^ (u - 1)) nodes
+
+-- how many nodes a set has
+unfoldable pub setSize : ℕ → ℕ
+setSize nodes = countBelow 64 (node (hasNode nodes))
 
 -- node x's table is one run of the table memory: the 512 bytes from 512 (x − 1) on
 abbrev pub tableStart : ℕ → ℕ

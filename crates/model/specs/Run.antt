@@ -6,7 +6,7 @@ use mathlib.Core.List.{List, [], _∷_}
 use lib.ListN.{getD}
 use lib.Dec.{eqb}
 use Rattle.model.specs.Memory.{Memory}
-use Rattle.model.specs.Join.{kindCopied, kindSentOn}
+use Rattle.model.specs.Join.{kindCopied, kindSentOn, kindNotified}
 use Rattle.model.specs.Calls.{Outcome, foundCall, readCall, beginCall, deliverCall, lookupCall, surveyCall, verdictCall, writeCall, soundCall}
 
 -- a call with its arguments
@@ -86,33 +86,47 @@ goesOn m (c ∷ cs) = not (starts m c) && goesOn (after m c) cs
 unfoldable pub isRun : Memory → Call → List Call → Bool
 isRun m c cs = starts m c && goesOn (after m c) cs
 
--- ---- what a node has sent
+-- ---- what a node has sent, and which of its notices were answered
 
 -- the kinds of delivery that leave their sender copying or waiting
 abbrev pub keepsAsking : ℕ → Bool
 keepsAsking kind = eqb kind kindCopied || eqb kind kindSentOn
 
--- asked of a call that was taken: it sent a request of x. It began the join of x, or it delivered a request of x and left x copying or waiting, as
--- its kind tells.
+-- a test of the calls of a join: of the answer of a beginning, and of the sender and the answer of a delivery. It holds of no other call.
+abbrev pub ofJoins : (List ℕ → Bool) → (ℕ → List ℕ → Bool) → Call → List ℕ → Bool
+ofJoins began delivered (found b d K id) answer = false
+ofJoins began delivered (read im) answer = false
+ofJoins began delivered (begin id gateway) answer = began answer
+ofJoins began delivered (deliver x y) answer = delivered x answer
+ofJoins began delivered (lookup u z) answer = false
+ofJoins began delivered survey answer = false
+ofJoins began delivered verdict answer = false
+ofJoins began delivered (write out) answer = false
+ofJoins began delivered sound answer = false
+
+-- asked of a call that was taken: it sent a copy or wait request of x. It began the join of x, or it delivered a request of x and left x copying or
+-- waiting, as its kind tells.
 abbrev pub isSentBy : ℕ → Call → List ℕ → Bool
-isSentBy x (found b d K id) answer = false
-isSentBy x (read im) answer = false
-isSentBy x (begin id gateway) answer = eqb (getD answer 1 0) x
-isSentBy x (deliver y z) answer = eqb y x && keepsAsking (getD answer 1 0)
-isSentBy x (lookup u z) answer = false
-isSentBy x survey answer = false
-isSentBy x verdict answer = false
-isSentBy x (write out) answer = false
-isSentBy x sound answer = false
+isSentBy x =
+    ofJoins (λ (answer : List ℕ). eqb (getD answer 1 0) x) (λ (y : ℕ) (answer : List ℕ). eqb y x && keepsAsking (getD answer 1 0))
 
--- what x has sent after an event, where it had sent n before
-unfoldable pub tally : ℕ → Event → ℕ → ℕ
-tally x e n = cond (isTaken (e .answer) && isSentBy x (e .call) (e .answer)) (n + 1) n
+-- asked of a call that was taken: it answered a notice of x (document 02, ticket 3). It delivered a request of x while x notified, as its kind tells.
+abbrev pub isAnsweredTo : ℕ → Call → List ℕ → Bool
+isAnsweredTo x =
+    ofJoins (λ (answer : List ℕ). false) (λ (y : ℕ) (answer : List ℕ). eqb y x && eqb (getD answer 1 0) kindNotified)
 
-unfoldable pub sentFrom : ℕ → ℕ → List Event → ℕ
-sentFrom n x [] = n
-sentFrom n x (e ∷ es) = sentFrom (tally x e n) x es
+-- a count after an event, where it was n before: one more if the call was taken and the test holds of it
+unfoldable pub tally : (Call → List ℕ → Bool) → Event → ℕ → ℕ
+tally f e n = cond (isTaken (e .answer) && f (e .call) (e .answer)) (n + 1) n
 
--- what x has sent in a run: how many requests of x its history counts
+unfoldable pub tallyFrom : (Call → List ℕ → Bool) → ℕ → List Event → ℕ
+tallyFrom f n [] = n
+tallyFrom f n (e ∷ es) = tallyFrom f (tally f e n) es
+
+-- what x has sent in a run: how many copy and wait requests of x its history counts
 abbrev pub sent : ℕ → List Event → ℕ
-sent x es = sentFrom 0 x es
+sent x es = tallyFrom (isSentBy x) 0 es
+
+-- how many notices of x were answered in it (document 02, ticket 3)
+abbrev pub answered : ℕ → List Event → ℕ
+answered x es = tallyFrom (isAnsweredTo x) 0 es

@@ -1,14 +1,14 @@
--- Soundness: document 01, "Identifiers and tables", last paragraph; a definition for each of its clauses.
+-- Soundness: document 01, "Identifiers and tables", last paragraph, and of the counts document 02, ticket 3; a definition for each clause.
 use Prim.Native.Nat.{ℕ, _+_, _-_, _*_, _/_, _%_, _^_}
-use mathlib.Core.Bool.{Bool, true, not, _&&_, _||_}
+use mathlib.Core.Bool.{Bool, true, cond, not, _&&_, _||_}
 use mathlib.Core.List.{List, [], _∷_}
 use lib.ListN.{getD, take, drop}
 use lib.Dec.{leb, ltb, eqb}
 use Rattle.model.specs.Loops.{allBelow}
 use Rattle.model.specs.Ids.{settingsInRange, validId, digitOf}
-use Rattle.model.specs.Memory.{stateLength, tablesLength, base, digits, depth, nodeCount, idOf, statusOf, levelOf, targetOf}
-use Rattle.model.specs.Memory.{pendingOf, notifiedOf, inSystem, copying, waiting, notifying, isInSystem, isAttached, hasNode}
-use Rattle.model.specs.Memory.{tableOf}
+use Rattle.model.specs.Memory.{stateLength, tablesLength, base, digits, depth, nodeCount, Node, nodeOf, idOf, statusOf, levelOf, targetOf}
+use Rattle.model.specs.Memory.{pendingOf, notifiedOf, requestsOf, inSystem, copying, waiting, notifying, isInSystem, isAttached, hasNode}
+use Rattle.model.specs.Memory.{setSize, tableOf}
 use Rattle.model.specs.Tables.{slotAt, firstOf}
 use Rattle.model.specs.Nodes.{isNode, suffixOf, qualifies, allNodes}
 
@@ -111,15 +111,43 @@ statusSound s x =
     || (eqb (statusOf s x) copying && copyingSound s x
     || (eqb (statusOf s x) waiting && waitingSound s x || eqb (statusOf s x) notifying && notifyingSound s x))
 
+-- ---- the counts
+
+-- how many copy and wait requests x may have sent: while it copies, its common suffix with its target and 1 more; while it waits, 2 more; else d + 1
+unfoldable pub requestLimit : List ℕ → ℕ → ℕ
+requestLimit s x =
+    cond (eqb (statusOf s x) copying) (suffixOf s x (targetOf s x) + 1)
+    (cond (eqb (statusOf s x) waiting) (suffixOf s x (targetOf s x) + 2) (digits s + 1))
+
+-- x has sent no more
+abbrev pub requestsInLimit : List ℕ → ℕ → Bool
+requestsInLimit s x = leb (requestsOf s x) (requestLimit s x)
+
+-- the answered notices of a record r: of a node in system, at most 62
+abbrev pub noticesFew : Node → Bool
+noticesFew r = leb (r .notices) 62
+
+-- of a notifying node, one less than the nodes it has notified, of which there is at least one
+abbrev pub noticesLessOne : Node → Bool
+noticesLessOne r = eqb (r .notices + 1) (setSize (r .notified))
+
+-- of a node that has not attached yet, none
+abbrev pub noNotices : Node → Bool
+noNotices r = eqb (r .notices) 0
+
+unfoldable pub noticesSound : Node → Bool
+noticesSound r =
+    cond (eqb (r .status) inSystem) (noticesFew r) (cond (eqb (r .status) notifying) (noticesLessOne r) (noNotices r))
+
+-- both counts of x's record
+unfoldable pub countsSound : List ℕ → ℕ → Bool
+countsSound s x = requestsInLimit s x && noticesSound (nodeOf s x)
+
 -- ---- the places that nothing uses, which are zero
 
 unfoldable pub allZero : List ℕ → Bool
 allZero [] = true
 allZero (w ∷ ws) = eqb w 0 && allZero ws
-
--- the two spare words of x's record
-abbrev pub spareZero : List ℕ → ℕ → Bool
-spareZero s x = eqb (getD s (8 * x + 6) 0) 0 && eqb (getD s (8 * x + 7) 0) 0
 
 -- place p of a table is a slot below K of an entry with level below d and digit below b
 abbrev pub placeUsed : List ℕ → ℕ → Bool
@@ -137,9 +165,9 @@ stateRestZero s =
 unfoldable pub tablesRestZero : List ℕ → List ℕ → Bool
 tablesRestZero s t = allZero (take (tablesLength - 512 * nodeCount s) (drop (512 * nodeCount s) t))
 
--- the two spare words of each record, words 4 to 7, and the records and tables behind the last node's
+-- words 4 to 7, and the records and tables behind the last node's
 unfoldable pub unusedZero : List ℕ → List ℕ → Bool
-unusedZero s t = allNodes s (spareZero s) && (stateRestZero s && tablesRestZero s t)
+unusedZero s t = stateRestZero s && tablesRestZero s t
 
 -- ---- the whole
 
@@ -160,4 +188,4 @@ sound s t =
     && (allNodes s (hasValidId s)
     && (allNodes s (hasNewId s)
     && (allNodes s (hasSoundTable s t)
-    && (allNodes s (statusSound s) && unusedZero s t)))))
+    && (allNodes s (statusSound s) && (allNodes s (countsSound s) && unusedZero s t))))))
