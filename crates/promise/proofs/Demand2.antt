@@ -9,7 +9,7 @@ use lib.ListN.{length, getD, take, drop}
 use lib.Seq.{length-take-le, take-at}
 use Rattle.model.specs.Memory.{Memory, stateLength, tablesLength}
 use Rattle.model.specs.Consistency.{Verdict, firstShort, consistent}
-use Rattle.model.specs.Image.{imageOf, loaded}
+use Rattle.model.specs.Image.{imageOf, loaded, withoutCounts}
 use Rattle.model.specs.Refusals.{memoryShort, readRefusal, verdictRefusal, writeRefusal}
 use Rattle.model.specs.Calls.{Outcome, taken, verdictFields, readCall, verdictCall, writeCall}
 use Rattle.model.specs.Run.{isTaken}
@@ -20,6 +20,7 @@ use Rattle.model.proofs.Taken.{long-of, verdict-taken, write-taken}
 use Rattle.model.proofs.Calls.{taken-is, taken-zero}
 use Rattle.model.proofs.Consistency.{NotWhole, entry-fewer, fewer-entry, consistent-is, is-consistent, verdict-is, first-not-whole, first-node-least, first-level-least, first-digit-least}
 use Rattle.model.proofs.Sections.{image-most}
+use Rattle.model.proofs.WithoutCounts.{without-length}
 use Rattle.model.proofs.RoundTrip.{onto, write-then-read, read-then-write}
 use Rattle.promise.specs.Fixed.{fixed}
 use Rattle.promise.specs.Demand2.{Short, Before, FirstShort, VerdictIs, Bytes, lengthWritten, written, ReadThenWritten, WrittenThenRead, Demand2}
@@ -146,14 +147,15 @@ module _ (m : Memory) (out : List ℕ) (e : isTaken (writeCall m out .answer) �
   written-back : (m′ : Memory) → memoryShort m′ ≡ false → WrittenThenRead m m′ out
   unfolding onto taken
   written-back m′ f =
-      let w : readCall m′ (written m out) ≡ taken (onto m m′) [] (0 ∷ []) =
+      let u : Memory = record { state = withoutCounts (m .state); tables = m .tables } in
+      let w : readCall m′ (written m out) ≡ taken (onto u m′) [] (0 ∷ []) =
       ap (readCall m′) (in-front _ m image out wrote) ∙ write-then-read m m′ out can-write (long-of m′ f) in
       let long = sound-written .long in
       record {
         taken = ap (λ (o : Outcome). isTaken (o .answer)) w;
         state =
             ap (λ (o : Outcome). fixed (o .memory)) w
-            ∙ ap₂ (λ (s t : List ℕ). record { state = s; tables = t }) (fixed-part stateLength (m .state) (m′ .state) (long .state))
+            ∙ ap₂ (λ (s t : List ℕ). record { state = s; tables = t }) (fixed-part stateLength (u .state) (m′ .state) (omega (arith, without-length (m .state), long .state)))
             (fixed-part tablesLength (m .tables) (m′ .tables) (long .tables));
       }
 

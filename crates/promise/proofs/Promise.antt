@@ -1,25 +1,27 @@
 -- Demand 3: what holds of every run. Assumes nothing.
 use Prim.Native.Nat.{ℕ, _+_, _-_, _≤_}
 use mathlib.Core.Path.{_≡_, refl, sym, ap, subst, _∙_}
-use mathlib.Core.Logic.{_⊎_, inl, inr}
-use mathlib.Core.Bool.{true, false, not, false≢true}
+use mathlib.Core.Logic.{_⊎_, inl, inr, ⊎-elim}
+use mathlib.Core.Bool.{Bool, true, false, cond, not, false≢true}
 use mathlib.Core.List.{List, [], _∷_, _++_}
+use native.Mathlib.Nat.{add-zero}
 use native.Mathlib.Omega.{arith}
 use lib.ListN.{getD}
-use Rattle.model.specs.Memory.{Memory, digits}
+use Rattle.model.specs.Memory.{Memory, digits, nodeOf}
 use Rattle.model.specs.Nodes.{isNode}
 use Rattle.model.specs.Lookup as book
 use Rattle.model.specs.Lookup.{Lookup, veryHops}
 use Rattle.model.specs.Consistency.{consistent}
 use Rattle.model.specs.Refusals.{foundRefusal, readRefusal, lookupRefusal}
 use Rattle.model.specs.Calls.{Outcome, refused, taken, lookupFields, foundCall, readCall, lookupCall}
-use Rattle.model.specs.Run.{Call, found, read, begin, deliver, lookup, survey, verdict, write, sound, step, after, play, history, isTaken, starts, goesOn, isRun, sentFrom, sent}
+use Rattle.model.specs.Run.{Call, found, read, begin, deliver, lookup, survey, verdict, write, sound, step, after, play, history, isTaken, starts, goesOn, isRun, tallyFrom, sent}
 use Rattle.model.proofs.Bools.{and-left, and-right, and-intro, not-both, true-or-false}
 use Rattle.model.proofs.Status.{IsNode, is-node, is-node-of}
+use Rattle.model.proofs.NodeCounts.{Fresh}
 use Rattle.model.proofs.Sound.{Sound}
-use Rattle.model.proofs.FoundingIsSound.{founded-ok}
-use Rattle.model.proofs.LoadingIsSound.{loaded-ok}
-use Rattle.model.proofs.RequestBound.{limit-le}
+use Rattle.model.proofs.FoundingIsSound.{founded-fresh, founded-ok}
+use Rattle.model.proofs.LoadingIsSound.{loaded-fresh, loaded-ok}
+use Rattle.model.proofs.RequestBound.{requests-most}
 use Rattle.model.proofs.Lookup.{hops-bound}
 use Rattle.model.proofs.HopsUnchanged.{same-lookup, same-hops}
 use Rattle.model.proofs.Later.{node-later}
@@ -27,8 +29,9 @@ use Rattle.model.proofs.TablesOnlyGrow.{Onward}
 use Rattle.model.proofs.Taken.{found-taken, read-taken, lookup-free}
 use Rattle.promise.specs.Promise.{alreadyMatched, Passes, NodeIn, Demand3}
 use Rattle.model.proofs.Calls.{taken-is, taken-zero}
-use Rattle.promise.proofs.Steps.{Silent, quiet}
-use Rattle.promise.proofs.Run.{Holds, run-goes}
+use Rattle.promise.proofs.Steps.{Idle, looks, quiet}
+use Rattle.promise.proofs.Run.{run-goes}
+use Rattle.promise.proofs.RunCounts.{Count, raises, Kept, Counted, requestCount, noticeCount, requests-kept, notices-kept, run-counted, tally-from}
 use Rattle.promise.proofs.Demand2.{says-yes}
 
 -- ---- the start
@@ -36,10 +39,14 @@ use Rattle.promise.proofs.Demand2.{says-yes}
 abbrev SoundAfter : Outcome → Type 0
 SoundAfter o = Sound (o .memory .state) (o .memory .tables)
 
--- a taken founding or reading leaves a sound state, and nobody has sent anything
+abbrev FreshAfter : Outcome → Type 0
+FreshAfter o = (x : ℕ) → IsNode (o .memory .state) x → Fresh (o .memory .state) x
+
+-- a taken founding or reading leaves a sound state in which nothing is counted, and counts nothing itself
 pub record Started (m : Memory) (c : Call) : Type 0 where
   pub sound : Sound (after m c .state) (after m c .tables)
-  pub silent : Silent m c
+  pub fresh : (x : ℕ) → IsNode (after m c .state) x → Fresh (after m c .state) x
+  pub idle : Idle m c
 
 module _ (m : Memory) where
   started : (c : Call) → starts m c ≡ true → Started m c
@@ -48,12 +55,22 @@ module _ (m : Memory) where
       let z = taken-zero m (foundRefusal m b d K id) [] _ _ e in
       let k = found-taken m b d K id z in
       let S = founded-ok (m .state) (m .tables) b d K id (k .long) (k .range) (k .valid) in
-      record { sound = subst SoundAfter (sym (taken-is (foundRefusal m b d K id) (refused m [] 0) _ z)) S; silent = quiet m (found b d K id) (λ x a. refl) }
+      let w = sym (taken-is (foundRefusal m b d K id) (refused m [] 0) _ z) in
+      record {
+        sound = subst SoundAfter w S;
+        fresh = subst FreshAfter w (founded-fresh (m .state) (m .tables) b d K id (k .long) (k .range) (k .valid));
+        idle = looks (λ p q a. refl);
+      }
   started (read im) e =
       let z = taken-zero m (readRefusal m im) [] _ _ e in
       let k = read-taken m im z in
       let S = loaded-ok (m .state) (m .tables) im (k .0) (k .1) in
-      record { sound = subst SoundAfter (sym (taken-is (readRefusal m im) _ _ z)) S; silent = quiet m (read im) (λ x a. refl) }
+      let w = sym (taken-is (readRefusal m im) _ _ z) in
+      record {
+        sound = subst SoundAfter w S;
+        fresh = subst FreshAfter w (loaded-fresh (m .state) (m .tables) im (k .0) (k .1));
+        idle = looks (λ p q a. refl);
+      }
   started (begin id g) e = absurd (false≢true e)
   started (deliver x y) e = absurd (false≢true e)
   started (lookup u z) e = absurd (false≢true e)
@@ -62,13 +79,41 @@ module _ (m : Memory) where
   started (write out) e = absurd (false≢true e)
   started sound e = absurd (false≢true e)
 
-  -- so the count of the run is that of the calls after its start
-  sent-after : (c : Call) → starts m c ≡ true → (x : ℕ) (cs : List Call) → sent x (history m (c ∷ cs)) ≡ sent x (history (after m c) cs)
-  unfolding history sentFrom
-  sent-after c e x cs = ap (λ (n : ℕ). sentFrom n x (history (after m c) cs)) (started c e .silent x 0)
+-- ---- the counts of a run
 
-  start-holds : (c : Call) → starts m c ≡ true → Holds (λ (x : ℕ). 0) (after m c)
-  start-holds c e = record { sound = started c e .sound; nodes = λ x n. omega arith; others = λ x f. refl }
+module _ (m : Memory) (c : Call) (start : starts m c ≡ true) (k : Count) (K : Kept k) where
+  -- what a record counted at the start
+  abbrev first : ℕ → ℕ
+  first x = cond (isNode (after m c .state) x) (k .of (nodeOf (after m c .state) x)) 0
+
+  start-counted : Counted k K first (after m c)
+  start-counted = record {
+    nodes = λ x n. sym (ap (λ (b : Bool). cond b (k .of (nodeOf (after m c .state) x)) 0) (is-node-of (after m c .state) x n));
+    others =
+        λ x f.
+        ap (λ (b : Bool). cond b (k .of (nodeOf (after m c .state) x)) 0)
+        (⊎-elim (λ e. absurd (f (is-node (after m c .state) x e))) (λ e. e) (true-or-false (isNode (after m c .state) x)));
+  }
+
+  -- the start counts nothing itself, so what the run counts is what its other calls do
+  run-tally : (x : ℕ) (cs : List Call)
+      → tallyFrom (raises k x) (first x) (history (after m c) cs) ≡ first x + tallyFrom (raises k x) 0 (history m (c ∷ cs))
+  unfolding history tallyFrom
+  run-tally x cs =
+      ap (λ (n : ℕ). tallyFrom (raises k x) n (history (after m c) cs)) (sym (add-zero (first x)))
+      ∙ tally-from (raises k x) (history (after m c) cs) (first x) 0
+      ∙ ap (λ (n : ℕ). first x + tallyFrom (raises k x) n (history (after m c) cs)) (sym (quiet m c (k .began x) (k .delivered x) (started m c start .idle) 0))
+
+  module _ (cs : List Call) (on : goesOn (after m c) cs ≡ true) where
+    abbrev M : Memory
+    M = play (after m c) cs
+
+    counted : (x : ℕ) → IsNode (play (after m c) cs .state) x
+        → k .of (nodeOf (play (after m c) cs .state) x) ≡ first x + tallyFrom (raises k x) 0 (history m (c ∷ cs))
+    counted x n = run-counted k K first (after m c) cs start-counted on .nodes x n ∙ run-tally x cs
+
+    none-counted : (x : ℕ) → (IsNode (play (after m c) cs .state) x → ⊥) → tallyFrom (raises k x) 0 (history m (c ∷ cs)) ≡ 0
+    none-counted x f = omega (arith, run-counted k K first (after m c) cs start-counted on .others x f, run-tally x cs)
 
 -- ---- a verdict that says yes
 
@@ -96,15 +141,24 @@ on-late m (c ∷ early) late e = on-late (after m c) early late (and-right (not 
 
 -- ---- the three parts, of a list of calls from a sound state
 
--- what a node has sent is at most its limit, and any other number has sent nothing
-requests-bound : (count : ℕ → ℕ) (m : Memory) → Holds count m → (x : ℕ) → count x ≤ digits (m .state) + 1
-requests-bound count m H x = go (true-or-false (isNode (m .state) x))
+-- what a node has sent is no more than its record counts, and any other number has sent nothing
+requests-bound : (m : Memory) (c : Call) → starts m c ≡ true → (cs : List Call) → goesOn (after m c) cs ≡ true
+    → Sound (play (after m c) cs .state) (play (after m c) cs .tables) → (x : ℕ)
+    → sent x (history m (c ∷ cs)) ≤ digits (play (after m c) cs .state) + 1
+requests-bound m c start cs on S x = go (true-or-false (isNode (M .state) x))
   where
-    go : (isNode (m .state) x ≡ true) ⊎ (isNode (m .state) x ≡ false) → count x ≤ digits (m .state) + 1
+    M : Memory
+    M = play (after m c) cs
+
+    go : (isNode (M .state) x ≡ true) ⊎ (isNode (M .state) x ≡ false) → sent x (history m (c ∷ cs)) ≤ digits (M .state) + 1
     go (inl e) =
-        let n = is-node (m .state) x e in
-        omega (arith, H .nodes x n, limit-le (m .state) (m .tables) (H .sound) x n)
-    go (inr e) = omega (arith, H .others x (λ n. not-both (isNode (m .state) x) (is-node-of (m .state) x n) e))
+        let n = is-node (M .state) x e in
+        omega (arith, counted m c start requestCount requests-kept cs on x n, requests-most (M .state) (M .tables) S x n)
+    go (inr e) =
+        omega (
+          arith,
+          none-counted m c start requestCount requests-kept cs on x (λ n. not-both (isNode (M .state) x) (is-node-of (M .state) x n) e),
+        )
 
 module _ (m : Memory) (S : Sound (m .state) (m .tables)) (u z : ℕ) (nu : IsNode (m .state) u) (nz : IsNode (m .state) z) where
   lookup-answer : lookupCall m u z .answer ≡ 0 ∷ lookupFields (book.lookup (m .state) (m .tables) u z)
@@ -139,24 +193,29 @@ lookups-stay m m′ S S′ on p u z a b =
 pub run-sound : (m : Memory) (c : Call) (cs : List Call) → isRun m c cs ≡ true → Sound (play m (c ∷ cs) .state) (play m (c ∷ cs) .tables)
 unfolding isRun play
 run-sound m c cs run =
-    run-goes (λ (x : ℕ). 0) (after m c) cs (start-holds m c (and-left (starts m c) _ run)) (and-right (starts m c) _ run) .holds .sound
+    run-goes (after m c) cs (started m c (and-left (starts m c) _ run) .sound) (and-right (starts m c) _ run) .sound
 
 pub promise : Demand3
 unfolding isRun play
 promise m c cs run =
     let start : starts m c ≡ true = and-left (starts m c) _ run in
     let on : goesOn (after m c) cs ≡ true = and-right (starts m c) _ run in
-    let H : Holds (λ (x : ℕ). 0) (after m c) = start-holds m c start in
-    let G = run-goes (λ (x : ℕ). 0) (after m c) cs H on in
+    let S : Sound (after m c .state) (after m c .tables) = started m c start .sound in
+    let G = run-goes (after m c) cs S on in
     let M : Memory = play (after m c) cs in
     record {
-      requests = λ x. omega (arith, sent-after m c start x cs, requests-bound (λ (x : ℕ). sent x (history (after m c) cs)) M (G .holds) x);
-      lookups = λ u z a b. lookup-bound M (G .holds .sound) u z (is-node (M .state) u a) (is-node (M .state) z b);
+      requests = requests-bound m c start cs on (G .sound);
+      counted =
+          λ x a.
+          let n = is-node (M .state) x a in
+          (counted m c start requestCount requests-kept cs on x n, counted m c start noticeCount notices-kept cs on x n);
+      fresh = λ x a. started m c start .fresh x (is-node (after m c .state) x a);
+      lookups = λ u z a b. lookup-bound M (G .sound) u z (is-node (M .state) u a) (is-node (M .state) z b);
       unchanged =
           λ early late e.
           let on′ : goesOn (after m c) (early ++ late) ≡ true = subst (λ (cs : List Call). goesOn (after m c) cs ≡ true) e on in
-          let E = run-goes (λ (x : ℕ). 0) (after m c) early H (on-early (after m c) early late on′) in
-          let L = run-goes _ (play (after m c) early) late (E .holds) (on-late (after m c) early late on′) in
+          let E = run-goes (after m c) early S (on-early (after m c) early late on′) in
+          let L = run-goes (play (after m c) early) late (E .sound) (on-late (after m c) early late on′) in
           let w : play (after m c) cs ≡ play (play (after m c) early) late = ap (play (after m c)) e ∙ play-append (after m c) early late in
           subst
           (λ (M : Memory).
@@ -164,5 +223,5 @@ promise m c cs run =
           → (veryHops (M .state) (M .tables) u z ≡ veryHops (play (after m c) early .state) (play (after m c) early .tables) u z)
           × (lookupCall M u z .answer ≡ lookupCall (play (after m c) early) u z .answer))
           (sym w)
-          (lookups-stay (play (after m c) early) (play (play (after m c) early) late) (E .holds .sound) (L .holds .sound) (L .onward));
+          (lookups-stay (play (after m c) early) (play (play (after m c) early) late) (E .sound) (L .sound) (L .onward));
     }

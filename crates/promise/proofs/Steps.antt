@@ -9,46 +9,49 @@ use borrow.Author.Tests.{ne-eqb}
 use Rattle.model.specs.Memory.{Memory}
 use Rattle.model.specs.Refusals.{beginRefusal, deliverRefusal}
 use Rattle.model.specs.Calls.{Outcome, refusedAt, unlessRefused, foundCall, readCall, beginCall, deliverCall, lookupCall, surveyCall, verdictCall, writeCall, soundCall}
-use Rattle.model.specs.Run.{Call, found, read, begin, deliver, lookup, survey, verdict, write, sound, step, after, Event, isTaken, starts, isSentBy, tally}
+use Rattle.model.specs.Run.{Call, found, read, begin, deliver, lookup, survey, verdict, write, sound, step, after, Event, isTaken, starts, ofJoins, tally}
 use Rattle.model.proofs.Calls.{refused-is, looks-on, not-taken-same}
 
 -- the call as an event of the history
 abbrev pub event : Memory → Call → Event
 event m c = record { call = c; answer = step m c .answer }
 
--- the event adds nothing to what any node has sent
-abbrev pub Silent : Memory → Call → Type 0
-Silent m c = (x n : ℕ) → tally x (event m c) n ≡ n
+-- the event adds nothing to a count of calls of which the test holds
+abbrev pub Silent : Memory → Call → (Call → List ℕ → Bool) → Type 0
+Silent m c f = (n : ℕ) → tally f (event m c) n ≡ n
+
+-- a refused call, and one that is no beginning and no delivery
+pub data Idle (m : Memory) (c : Call) : Type 0 where
+  refuses : isTaken (step m c .answer) ≡ false → Idle m c
+  looks : ((began : List ℕ → Bool) (delivered : ℕ → List ℕ → Bool) (answer : List ℕ) → ofJoins began delivered c answer ≡ false) → Idle m c
 
 pub data Effect (m : Memory) (c : Call) : Type 0 where
-  still : after m c ≡ m → Silent m c → Effect m c
+  still : after m c ≡ m → Idle m c → Effect m c
   begins : (id gateway : ℕ) → c ≡ begin id gateway → beginRefusal m id gateway ≡ 0 → Effect m c
   delivers : (x y : ℕ) → c ≡ deliver x y → deliverRefusal m x y ≡ 0 → Effect m c
 
--- a call that sends nothing
-pub quiet : (m : Memory) (c : Call) → ((x : ℕ) (answer : List ℕ) → isSentBy x c answer ≡ false) → Silent m c
+-- adds nothing to a count of the calls of a join
+pub quiet : (m : Memory) (c : Call) (began : List ℕ → Bool) (delivered : ℕ → List ℕ → Bool) → Idle m c → Silent m c (ofJoins began delivered)
 unfolding tally
-quiet m c f x n =
+quiet m c began delivered (refuses e) n = ap (λ (b : Bool). cond (b && ofJoins began delivered c (step m c .answer)) (n + 1) n) e
+quiet m c began delivered (looks f) n =
     ap (λ (b : Bool). cond b (n + 1) n)
-    (ap (λ (b : Bool). isTaken (step m c .answer) && b) (f x (step m c .answer)) ∙ and-false (isTaken (step m c .answer)))
+    (ap (λ (b : Bool). isTaken (step m c .answer) && b) (f began delivered (step m c .answer)) ∙ and-false (isTaken (step m c .answer)))
 
 -- a refused call
 refused-still : (m : Memory) (c : Call) (out fields : List ℕ) (n : ℕ) (done : Outcome) → n ≢ 0 → step m c ≡ unlessRefused n (refusedAt m out fields) done
     → Effect m c
-unfolding after refusedAt tally
+unfolding after refusedAt
 refused-still m c out fields n done nz e =
     let w = e ∙ refused-is n (refusedAt m out fields) done nz in
-    still (ap (λ (o : Outcome). o .memory) w)
-    (λ x k.
-    ap (λ (b : Bool). cond (b && isSentBy x c (step m c .answer)) (k + 1) k)
-    (ap (λ (o : Outcome). isTaken (o .answer)) w ∙ ne-eqb n 0 nz))
+    still (ap (λ (o : Outcome). o .memory) w) (refuses (ap (λ (o : Outcome). isTaken (o .answer)) w ∙ ne-eqb n 0 nz))
 
 module _ (m : Memory) where
   pub effect : (c : Call) → starts m c ≡ false → Effect m c
   unfolding starts step after foundCall readCall beginCall deliverCall lookupCall surveyCall verdictCall writeCall soundCall
   effect (found b d K id) f =
-      still (not-taken-same m _ [] _ _ [] [] f) (quiet m (found b d K id) (λ x a. refl))
-  effect (read im) f = still (not-taken-same m _ [] _ _ [] (0 ∷ []) f) (quiet m (read im) (λ x a. refl))
+      still (not-taken-same m _ [] _ _ [] [] f) (looks (λ p q a. refl))
+  effect (read im) f = still (not-taken-same m _ [] _ _ [] (0 ∷ []) f) (looks (λ p q a. refl))
   effect (begin id g) f = go (ℕ-discrete (beginRefusal m id g) 0)
     where
       go : Dec (beginRefusal m id g ≡ 0) → Effect m (begin id g)
@@ -59,8 +62,8 @@ module _ (m : Memory) where
       go : Dec (deliverRefusal m x y ≡ 0) → Effect m (deliver x y)
       go (yes e) = delivers x y refl e
       go (no nz) = refused-still m (deliver x y) [] _ _ _ nz refl
-  effect (lookup u z) f = still (looks-on m _ [] _ [] _) (quiet m (lookup u z) (λ x a. refl))
-  effect survey f = still (looks-on m _ [] _ [] _) (quiet m survey (λ x a. refl))
-  effect verdict f = still (looks-on m _ [] _ [] _) (quiet m verdict (λ x a. refl))
-  effect (write out) f = still (looks-on m _ out _ _ _) (quiet m (write out) (λ x a. refl))
-  effect sound f = still (looks-on m _ [] _ [] _) (quiet m sound (λ x a. refl))
+  effect (lookup u z) f = still (looks-on m _ [] _ [] _) (looks (λ p q a. refl))
+  effect survey f = still (looks-on m _ [] _ [] _) (looks (λ p q a. refl))
+  effect verdict f = still (looks-on m _ [] _ [] _) (looks (λ p q a. refl))
+  effect (write out) f = still (looks-on m _ out _ _ _) (looks (λ p q a. refl))
+  effect sound f = still (looks-on m _ [] _ [] _) (looks (λ p q a. refl))

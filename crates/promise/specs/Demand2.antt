@@ -1,5 +1,5 @@
 -- Demand 2, of the calls: the verdict is K-consistency (document 01, "Lookup and verdict", and report TR-07-31, Definition 3.3), and an image
--- holds a network whole (document 01, "The image").
+-- holds a network whole (document 01, "The image") but for the counts (document 02, ticket 3).
 use Prim.Native.Nat.{ℕ, _≤_, _<_, min}
 use mathlib.Core.Path.{_≡_}
 use mathlib.Core.Bool.{true, false}
@@ -9,6 +9,7 @@ use lib.ListN.{length, getD, take}
 use Rattle.model.specs.Memory.{Memory, base, digits, depth}
 use Rattle.model.specs.Nodes.{isNode}
 use Rattle.model.specs.Consistency.{howMany, neighbors, KConsistent}
+use Rattle.model.specs.Image.{withoutCounts}
 use Rattle.model.specs.Refusals.{memoryShort}
 use Rattle.model.specs.Calls.{readCall, verdictCall, writeCall}
 use Rattle.model.specs.Run.{isTaken}
@@ -61,10 +62,11 @@ pub record ReadThenWritten (m : Memory) (im out : List ℕ) : Type 0 where
   pub taken : isTaken (writeCall (readCall m im .memory) out .answer) ≡ true
   pub bytes : written (readCall m im .memory) out ≡ im
 
--- a written state, read into any memory that is long enough, is the same state in every word and byte of the fixed lengths
+-- a written state, read into any memory that is long enough, is the same state in every word and byte of the fixed lengths but for the counts, which
+-- are zero: an image of version 1 has none
 pub record WrittenThenRead (m m′ : Memory) (out : List ℕ) : Type 0 where
   pub taken : isTaken (readCall m′ (written m out) .answer) ≡ true
-  pub state : fixed (readCall m′ (written m out) .memory) ≡ fixed m
+  pub state : fixed (readCall m′ (written m out) .memory) ≡ fixed (record { state = withoutCounts (m .state); tables = m .tables })
 
 pub record Demand2 : Type 0 where
   pub verdicts : (m : Memory) → isTaken (verdictCall m .answer) ≡ true → VerdictIs m

@@ -2,9 +2,9 @@
 use mathlib.Core.Path.{refl}
 use Rattle.model.specs.Loops.{allBelow, anyBelow, countBelow, sumBelow, firstBelow, eachBelow, joinBelow}
 use Rattle.model.specs.Ids.{settingsInRange, digitOf, validId, commonSuffix, lowDigits}
-use Rattle.model.specs.Memory.{withNode, hasNode, tableOf, withTable}
+use Rattle.model.specs.Memory.{withNode, hasNode, setSize, tableOf, withTable}
 use Rattle.model.specs.Tables.{qualified, entrySize, append, ownTable}
-use Rattle.model.specs.Sound.{hasNewId, slotSound, entrySound, levelSound, inSystemSound, joiningSound, copyingSound, waitingSound, pendingSound, notifiedSound, notifyingSound, statusSound, allZero, stateRestZero, tablesRestZero, tableSound, unusedZero, sound}
+use Rattle.model.specs.Sound.{hasNewId, slotSound, entrySound, levelSound, inSystemSound, joiningSound, copyingSound, waitingSound, pendingSound, notifiedSound, notifyingSound, statusSound, requestLimit, noticesSound, countsSound, allZero, stateRestZero, tablesRestZero, tableSound, unusedZero, sound}
 use Rattle.model.specs.Join.{founded}
 use Rattle.model.specs.Lookup.{nextHop, veryHopsWithin, lastOf, answerOf, lookup}
 use Rattle.model.specs.Survey.{arrivesIn, isLost, countPairs, surveyCounts}
@@ -16,7 +16,7 @@ use Rattle.worked.specs.Examples.{dirty, founding, reading, verdictOn, l
 
 -- what the examples compute with
 unfoldable pub computing : Unit {0}
-unfolding allBelow anyBelow countBelow sumBelow firstBelow eachBelow joinBelow settingsInRange digitOf validId commonSuffix lowDigits withNode hasNode tableOf withTable qualified entrySize append ownTable hasNewId slotSound entrySound levelSound inSystemSound joiningSound copyingSound waitingSound pendingSound notifiedSound notifyingSound statusSound allZero stateRestZero tablesRestZero tableSound unusedZero sound founded nextHop veryHopsWithin lastOf answerOf lookup arrivesIn isLost countPairs surveyCounts howMany entryWhole levelWhole nodeWhole consistent firstShort verdict imId lengthRight sameEntry risesFrom recOrdered recAllowed recOwnerFirst ownHasRecord ownHaveRecords loadRecord loaded firstTrue foundRefusal readRefusal recordPlace stateRefusal lookupRefusal verdictRefusal refusedAt taken unlessRefused foundCall readCall lookupCall surveyCall verdictCall dirty founding reading verdictOn lookupOn surveyOn headOfE1 rec E1 E1Short three
+unfolding allBelow anyBelow countBelow sumBelow firstBelow eachBelow joinBelow settingsInRange digitOf validId commonSuffix lowDigits withNode hasNode setSize tableOf withTable qualified entrySize append ownTable hasNewId slotSound entrySound levelSound inSystemSound joiningSound copyingSound waitingSound pendingSound notifiedSound notifyingSound statusSound requestLimit noticesSound countsSound allZero stateRestZero tablesRestZero tableSound unusedZero sound founded nextHop veryHopsWithin lastOf answerOf lookup arrivesIn isLost countPairs surveyCounts howMany entryWhole levelWhole nodeWhole consistent firstShort verdict imId lengthRight sameEntry risesFrom recOrdered recAllowed recOwnerFirst ownHasRecord ownHaveRecords loadRecord loaded firstTrue foundRefusal readRefusal recordPlace stateRefusal lookupRefusal verdictRefusal refusedAt taken unlessRefused foundCall readCall lookupCall surveyCall verdictCall dirty founding reading verdictOn lookupOn surveyOn headOfE1 rec E1 E1Short three
 computing = tt
 
 pub worked : Worked

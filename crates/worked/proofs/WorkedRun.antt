@@ -1,4 +1,4 @@
--- The worked run holds: each call of it computes. Assumes nothing.
+-- The worked runs hold: each call of them computes. Assumes nothing.
 use mathlib.Core.Path.{refl}
 use Rattle.model.specs.Memory.{addNode, removeNode}
 use Rattle.model.specs.Tables.{holds}
@@ -6,15 +6,19 @@ use Rattle.model.specs.Learning.{roomFor, learnAt, learn, learnPlace, learnTabl
 use Rattle.model.specs.Join.{settle, begun, outstanding, deliverCopying, deliverSentOn, attachLevel, gather, deliverAttached, deliverWaiting, deliverNotifying, delivery, delivered}
 use Rattle.model.specs.Refusals.{beginRefusal, deliverRefusal}
 use Rattle.model.specs.Calls.{beginCall, deliverCall}
-use Rattle.model.specs.Run.{step, after, history, starts, goesOn, isRun, tally, sentFrom}
-use Rattle.worked.specs.WorkedRun.{start, rest, events, answers, WorkedRun}
+use Rattle.model.specs.Run.{step, after, play, history, starts, goesOn, isRun, tally, tallyFrom}
+use Rattle.worked.specs.WorkedRun.{start, rest, events, answers, WorkedRun, wider, twoJoins, left, WorkedCounts}
 use Rattle.worked.proofs.Worked.{computing}
 
 -- what a run computes with
 running : Unit {0}
-unfolding computing addNode removeNode holds roomFor learnAt learn learnPlace learnTable settle begun outstanding deliverCopying deliverSentOn attachLevel gather deliverAttached deliverWaiting deliverNotifying delivery delivered beginRefusal deliverRefusal beginCall deliverCall step after history starts goesOn isRun tally sentFrom start rest events answers
+unfolding computing addNode removeNode holds roomFor learnAt learn learnPlace learnTable settle begun outstanding deliverCopying deliverSentOn attachLevel gather deliverAttached deliverWaiting deliverNotifying delivery delivered beginRefusal deliverRefusal beginCall deliverCall step after play history starts goesOn isRun tally tallyFrom start rest events answers wider twoJoins left
 running = tt
 
 pub worked-run : WorkedRun
 unfolding running
 worked-run = record { run = refl; said = refl; requests = refl }
+
+pub worked-counts : WorkedCounts
+unfolding running
+worked-counts = record { run = refl; settled = refl; requests = refl; notices = refl; sent = refl; answered = refl }

@@ -1,11 +1,14 @@
--- A run of the smallest network in which a node joins, as one list about the book's definitions: founding (b 2, d 2, K 1, id 0),
--- beginning (id 1 at node 1), two deliveries from node 2 to node 1, a verdict. So demand 3 speaks of runs that there are.
+-- Two runs of small networks, as lists about the book's definitions. So demand 3 speaks of runs that there are.
 use Prim.Native.Nat.{ℕ}
 use mathlib.Core.Path.{_≡_}
 use mathlib.Core.Bool.{true}
 use mathlib.Core.List.{List, [], _∷_}
-use Rattle.model.specs.Run.{Call, found, begin, deliver, verdict, Event, history, isRun, sent}
+use Rattle.model.specs.Memory.{statusOf, requestsOf, noticesOf, inSystem}
+use Rattle.model.specs.Run.{Call, found, begin, deliver, verdict, play, Event, history, isRun, sent, answered}
 use Rattle.worked.specs.Examples.{dirty}
+
+-- ---- the smallest network in which a node joins: founding (b 2, d 2, K 1, id 0), beginning (id 1 at node 1), two deliveries from node 2 to node 1, a
+-- verdict
 
 -- the call that starts it, and those that go on
 unfoldable pub start : Call
@@ -35,3 +38,25 @@ pub record WorkedRun : Type 0 where
       ∷ []
   -- node 2 has sent the request of its beginning and one as it was copied
   pub requests : sent 2 events ≡ 2
+
+-- ---- a join with a notice (b 2, d 2, K 2): node 2 joins as above; node 3 (id 10) copies from node 1, attaches there at level 0, and notifies node 2
+
+unfoldable pub wider : Call
+wider = found 2 2 2 0
+
+unfoldable pub twoJoins : List Call
+twoJoins =
+    begin 1 1 ∷ deliver 2 1 ∷ deliver 2 1 ∷ begin 16 1 ∷ deliver 3 1 ∷ deliver 3 1 ∷ deliver 3 2 ∷ []
+
+unfoldable pub left : List ℕ
+left = play dirty (wider ∷ twoJoins) .state
+
+pub record WorkedCounts : Type 0 where
+  pub run : isRun dirty wider twoJoins ≡ true
+  -- node 3 is in system and has kept its counts: two requests sent, one notice answered
+  pub settled : statusOf left 3 ≡ inSystem
+  pub requests : requestsOf left 3 ≡ 2
+  pub notices : noticesOf left 3 ≡ 1
+  -- so many has the history
+  pub sent : sent 3 (history dirty (wider ∷ twoJoins)) ≡ 2
+  pub answered : answered 3 (history dirty (wider ∷ twoJoins)) ≡ 1
