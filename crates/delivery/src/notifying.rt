@@ -1,5 +1,5 @@
 // A notification: y learns x, and x learns y's table. y is notified and no longer pending; the nodes of y's table that share at least as many
-// digits with x as its attach level says become pending, but x and the notified.
+// digits with x as its attach level says become pending, but x and the notified. One notice more was answered.
 ghost use mathlib.Core.Path.{_≡_};
 ghost use Rattle.model.specs.Memory.{tableOf};
 ghost use Rattle.model.specs.Join.{deliverNotifying};
@@ -32,7 +32,8 @@ pub fn deliver_notifying(state: &mut [u64], tables: &mut [u8], x: usize, y: usiz
     let left = sets::remove(node.pending, y);
     notify(state, tables, x, y);
     let pending = gather_from(state, tables, x, y, node.level as usize, notified, left);
-    let settled = store_notifying(state, x, node, node.level, pending, notified);
+    let notices = node.notices + 1;
+    let settled = store_notifying(state, x, node, node.level, pending, notified, notices);
     DeliverAnswer {
         kind: Kind::Notified,
         settled,

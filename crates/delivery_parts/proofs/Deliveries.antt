@@ -7,7 +7,7 @@ use native.Mathlib.Omega.{arith}
 use lib.Dec.{eqb}
 use lib.ListN.{length}
 use borrow.Author.Tests.{eq-eqb, ne-eqb}
-use Rattle.model.specs.Memory.{Node as Record, nodeOf, statusOf, levelOf, pendingOf, notifiedOf, withNode, inSystem, copying, waiting, notifying, isInSystem, addNode, removeNode, tableOf, withTable}
+use Rattle.model.specs.Memory.{Node as Record, nodeOf, statusOf, levelOf, pendingOf, notifiedOf, noticesOf, withNode, inSystem, copying, waiting, notifying, isInSystem, addNode, removeNode, tableOf, withTable}
 use Rattle.model.specs.Learning.{learn, learnTable}
 use Rattle.model.specs.Join.{Delivery, joiningNode, notifyingNode, settle, roomAtSuffix, firstAtSuffix, gather, delivered, delivery}
 use Rattle.model.specs.Join.{deliverCopying, deliverSentOn, deliverAttached, deliverWaiting, deliverNotifying}
@@ -15,7 +15,8 @@ use Rattle.model.specs.Calls.{Outcome, taken, deliveryFields}
 use Rattle.model.proofs.Sound.{Sound}
 use Rattle.model.proofs.Sender.{CanDeliver, Sending, copies, waits, notifies, sends, Receiver}
 use Rattle.model.proofs.DeliveryDid.{levelAt, stateAt, pendingAt, delivery-is, to-receiver}
-use Rattle.model.proofs.Memory.{same-level, same-pending, same-notified, stored-twice, table-back}
+use Rattle.model.proofs.Memory.{same-level, same-pending, same-notified, same-requests, same-notices, stored-twice, table-back}
+use Rattle.model.proofs.RequestBound.{requests-most, notices-most}
 use Rattle.model.proofs.Settling.{settled-is}
 use Rattle.state.specs.declared.record.Node.{Node}
 use Rattle.state.specs.Loaded.{bookNode}
@@ -29,6 +30,14 @@ use Rattle.delivery_parts.proofs.Learned.{exchanged-own, exchanged-thei
 use Rattle.delivery_parts.proofs.Stores.{gather-same}
 
 -- ---- the records of x
+
+-- the sums of its counts fit
+module _ (s t : List ℕ) (x y : ℕ) (q : Node) (d : Delivers s t x y) (o : bookNode q ≡ nodeOf s x) where
+  pub requests-few : q .requests ≤ 9
+  requests-few = omega (arith, same-requests o, requests-most s t (d .sound) x (d .sender), d .sound .settings .digits-most)
+
+  pub notices-few : q .notices ≤ 62
+  notices-few = omega (arith, same-notices o, notices-most s t (d .sound) x (d .sender))
 
 module _ (s t : List ℕ) (x y : ℕ) (r : SuffixEntry) (e : EntryOf s t x y r) where
   abbrev asks : Record
@@ -65,7 +74,7 @@ unfolding tookDelivery taken delivered
 left s t s₁ t₁ x y d fields e f g = cc
 
 module _ (s t : List ℕ) (x y : ℕ) (d : Delivers s t x y) where
-  fits : 8 * x + 6 ≤ length s
+  fits : 8 * x + 8 ≤ length s
   fits = omega (arith, d .sound .long .state, d .sound .few, d .sender .high)
 
   -- y's table stays
@@ -104,7 +113,7 @@ module _ (s t : List ℕ) (x y : ℕ) (d : Delivers s t x y) where
   notified₀ = addNode 0 y
 
   abbrev r₀ : Record
-  r₀ = notifyingNode (nodeOf s x) k₀ 0 notified₀
+  r₀ = notifyingNode (nodeOf s x) k₀ 0 notified₀ (noticesOf s x)
 
   abbrev s₀ : List ℕ
   s₀ = stateAt s t x y
@@ -119,7 +128,7 @@ module _ (s t : List ℕ) (x y : ℕ) (d : Delivers s t x y) where
   pending₀ = pendingAt s t x y
 
   meets₀ : Meets s₀ t x y
-  meets₀ = meets-notifying s t s₀ x y k₀ notified₀ d refl
+  meets₀ = meets-notifying s t s₀ x y k₀ notified₀ (noticesOf s x) d refl
 
   gathered : gather s₀ x k₀ notified₀ Ty₀ (gather s₀ x k₀ notified₀ Tx₀ 0) ≡ pending₀
   gathered =
@@ -127,52 +136,53 @@ module _ (s t : List ℕ) (x y : ℕ) (d : Delivers s t x y) where
       ∙ ap (gather s x k₀ notified₀ Ty₀) (gather-same s (network s t (d .sound)) x (d .sender) r₀ refl k₀ notified₀ Tx₀ 0)
 
   -- x's record after, and whether it settled
-  module _ (q : Node) (o : bookNode q ≡ nodeOf s x) (k k′ pending pending′ notified notified′ : ℕ) (ek : k ≡ k′) (ep : pending ≡ pending′)
-      (en : notified ≡ notified′) where
-    sender-is : settle (notifyingNode (bookNode q) k pending notified) ≡ settle (notifyingNode (nodeOf s x) k′ pending′ notified′)
-    sender-is = λ i. settle (notifyingNode (o i) (ek i) (ep i) (en i))
+  module _ (q : Node) (o : bookNode q ≡ nodeOf s x) (k k′ pending pending′ notified notified′ notices notices′ : ℕ) (ek : k ≡ k′)
+      (ep : pending ≡ pending′) (en : notified ≡ notified′) (ec : notices ≡ notices′) where
+    sender-is : settle (notifyingNode (bookNode q) k pending notified notices) ≡ settle (notifyingNode (nodeOf s x) k′ pending′ notified′ notices′)
+    sender-is = λ i. settle (notifyingNode (o i) (ek i) (ep i) (en i) (ec i))
 
-    settled-field : (b : Bool) → b ≡ eqb pending 0 → b ≡ eqb (settle (notifyingNode (nodeOf s x) k′ pending′ notified′) .status) inSystem
+    settled-field : (b : Bool) → b ≡ eqb pending 0 → b ≡ eqb (settle (notifyingNode (nodeOf s x) k′ pending′ notified′ notices′) .status) inSystem
     settled-field b e =
-        e ∙ ap (λ (a : ℕ). eqb a 0) ep ∙ sym (settled-is (notifyingNode (nodeOf s x) k′ pending′ notified′) refl)
+        e ∙ ap (λ (a : ℕ). eqb a 0) ep ∙ sym (settled-is (notifyingNode (nodeOf s x) k′ pending′ notified′ notices′) refl)
 
   pub attached-is : (s₁ s₂ t₁ : List ℕ) (q : Node) (k notified pending : ℕ) (b : Bool) → bookNode q ≡ nodeOf s x → k ≡ k₀
-      → s₁ ≡ withNode s x (notifyingNode (nodeOf s x) k 0 (addNode 0 y)) → t₁ ≡ exchanged s₁ t x y → notified ≡ notified₀
+      → s₁ ≡ withNode s x (notifyingNode (nodeOf s x) k 0 (addNode 0 y) (noticesOf s x)) → t₁ ≡ exchanged s₁ t x y → notified ≡ notified₀
       → pending ≡ gather s₁ x k notified (tableOf t₁ y) (gather s₁ x k notified (tableOf t₁ x) 0)
-      → s₂ ≡ withNode s₁ x (settle (notifyingNode (bookNode q) k pending notified)) → b ≡ eqb pending 0
+      → s₂ ≡ withNode s₁ x (settle (notifyingNode (bookNode q) k pending notified (q .notices))) → b ≡ eqb pending 0
       → outcome s₂ t₁ (record { kind = Attached k; settled = b }) ≡ tookDelivery s t x y (deliverAttached s x y (tableOf t x) (tableOf t y))
   unfolding deliverAttached
   attached-is s₁ s₂ t₁ q k notified pending b o ek e₁ et en ep e₂ eb =
-      let w : s₁ ≡ s₀ = e₁ ∙ ap (λ (k : ℕ). withNode s x (notifyingNode (nodeOf s x) k 0 notified₀)) ek in
+      let w : s₁ ≡ s₀ = e₁ ∙ ap (λ (k : ℕ). withNode s x (notifyingNode (nodeOf s x) k 0 notified₀ (noticesOf s x))) ek in
       let v : t₁ ≡ exchanged s₀ t x y = et ∙ ap (λ (s : List ℕ). exchanged s t x y) w in
       let a : pending ≡ pending₀ = cc (gathered, exchanged-own s₀ t x y meets₀, exchanged-theirs s₀ t x y meets₀) in
       left s t s₂ t₁ x y (deliverAttached s x y (tableOf t x) (tableOf t y)) (3 ∷ k ∷ cond b 1 0 ∷ [])
-      (e₂ ∙ ap₂ (λ (s : List ℕ) (r : Record). withNode s x r) w (sender-is q o _ _ _ _ _ _ ek a en) ∙ stored-twice s x _ _ fits) v
-      (ap₂ (λ (k : ℕ) (b : Bool). 3 ∷ k ∷ cond b 1 0 ∷ []) ek (settled-field q o _ _ _ _ _ _ ek a en b eb))
+      (e₂ ∙ ap₂ (λ (s : List ℕ) (r : Record). withNode s x r) w (sender-is q o _ _ _ _ _ _ _ _ ek a en (same-notices o)) ∙ stored-twice s x _ _ fits) v
+      (ap₂ (λ (k : ℕ) (b : Bool). 3 ∷ k ∷ cond b 1 0 ∷ []) ek (settled-field q o _ _ _ _ _ _ _ _ ek a en (same-notices o) b eb))
 
   abbrev Ty₁ : List ℕ
   Ty₁ = learn s y x (tableOf t y)
 
-  pub notified-is : (s₁ t₁ : List ℕ) (q : Node) (notified rest pending : ℕ) (b : Bool) → bookNode q ≡ nodeOf s x → notified ≡ addNode (q .notified) y
-      → rest ≡ removeNode (q .pending) y → t₁ ≡ notifiedTables s t x y → pending ≡ gather s x (q .level) notified (tableOf t₁ y) rest
-      → s₁ ≡ withNode s x (settle (notifyingNode (bookNode q) (q .level) pending notified)) → b ≡ eqb pending 0
+  pub notified-is : (s₁ t₁ : List ℕ) (q : Node) (notified rest pending notices : ℕ) (b : Bool) → bookNode q ≡ nodeOf s x → notified ≡ addNode (q .notified) y
+      → rest ≡ removeNode (q .pending) y → t₁ ≡ notifiedTables s t x y → pending ≡ gather s x (q .level) notified (tableOf t₁ y) rest → notices ≡ q .notices + 1
+      → s₁ ≡ withNode s x (settle (notifyingNode (bookNode q) (q .level) pending notified notices)) → b ≡ eqb pending 0
       → outcome s₁ t₁ (record { kind = Notified; settled = b }) ≡ tookDelivery s t x y (deliverNotifying s x y (tableOf t x) (tableOf t y))
   unfolding deliverNotifying
-  notified-is s₁ t₁ q notified rest pending b o en er et ep es eb =
+  notified-is s₁ t₁ q notified rest pending notices b o en er et ep ec es eb =
       let l : q .level ≡ levelOf s x = same-level o in
       let n : notified ≡ addNode (notifiedOf s x) y = en ∙ ap (λ (a : ℕ). addNode a y) (same-notified o) in
       let r : rest ≡ removeNode (pendingOf s x) y = er ∙ ap (λ (a : ℕ). removeNode a y) (same-pending o) in
+      let c : notices ≡ noticesOf s x + 1 = ec ∙ ap (λ (n : ℕ). n + 1) (same-notices o) in
       let a : pending ≡ gather s x (levelOf s x) (addNode (notifiedOf s x) y) Ty₁ (removeNode (pendingOf s x) y) = cc (notified-theirs s t x y (meets s t x y d)) in
       left s t s₁ t₁ x y (deliverNotifying s x y (tableOf t x) (tableOf t y)) (4 ∷ 0 ∷ cond b 1 0 ∷ [])
-      (es ∙ ap (withNode s x) (sender-is q o _ _ _ _ _ _ l a n)) et
-      (ap (λ (b : Bool). 4 ∷ 0 ∷ cond b 1 0 ∷ []) (settled-field q o _ _ _ _ _ _ l a n b eb))
+      (es ∙ ap (withNode s x) (sender-is q o _ _ _ _ _ _ _ _ l a n c)) et
+      (ap (λ (b : Bool). 4 ∷ 0 ∷ cond b 1 0 ∷ []) (settled-field q o _ _ _ _ _ _ _ _ l a n c b eb))
 
 -- ---- which delivery it is
 
 pub starts-is : (s s₁ : List ℕ) (x y k notified : ℕ) (q n : Node) → bookNode q ≡ nodeOf s x → notified ≡ addNode 0 y
-    → bookNode n ≡ notifyingNode (bookNode q) k 0 notified → s₁ ≡ withNode s x (bookNode n)
-    → s₁ ≡ withNode s x (notifyingNode (nodeOf s x) k 0 (addNode 0 y))
-starts-is s s₁ x y k notified q n o en f g = g ∙ ap (withNode s x) (f ∙ (λ i. notifyingNode (o i) k 0 (en i)))
+    → bookNode n ≡ notifyingNode (bookNode q) k 0 notified (q .notices) → s₁ ≡ withNode s x (bookNode n)
+    → s₁ ≡ withNode s x (notifyingNode (nodeOf s x) k 0 (addNode 0 y) (noticesOf s x))
+starts-is s s₁ x y k notified q n o en f g = g ∙ ap (withNode s x) (f ∙ (λ i. notifyingNode (o i) k 0 (en i) (o i .notices)))
 
 module _ (s t : List ℕ) (x y : ℕ) (o : Outcome) where
   pub waiting-attaches : (r : SuffixEntry) → EntryOf s t x y r → r .room ≡ true

@@ -127,7 +127,7 @@ placed s t x y d = record {
 -- ---- a new record for x, with its id, keeps that
 
 module _ (s : List ℕ) (n : Network s) (x : ℕ) (nx : IsNode s x) (r : Node) (e : r .id ≡ idOf s x) where
-  fits : 8 * x + 6 ≤ length s
+  fits : 8 * x + 8 ≤ length s
   fits = omega (arith, n .long, n .few, nx .high)
 
   a : Agree x s (withNode s x r)
@@ -175,11 +175,11 @@ module _ (s : List ℕ) (n : Network s) (x : ℕ) (nx : IsNode s x) (r : Node) (
   }
 
 -- x has become notifying
-module _ (s t s₁ : List ℕ) (x y k notified : ℕ) (d : Delivers s t x y) (e : s₁ ≡ withNode s x (notifyingNode (nodeOf s x) k 0 notified)) where
+module _ (s t s₁ : List ℕ) (x y k notified notices : ℕ) (d : Delivers s t x y) (e : s₁ ≡ withNode s x (notifyingNode (nodeOf s x) k 0 notified notices)) where
   pub meets-notifying : Meets s₁ t x y
   meets-notifying =
       subst (λ (s : List ℕ). Meets s t x y) (sym e)
-      (meets-node s (network s t (d .sound)) x (d .sender) (notifyingNode (nodeOf s x) k 0 notified) refl t y (meets s t x y d))
+      (meets-node s (network s t (d .sound)) x (d .sender) (notifyingNode (nodeOf s x) k 0 notified notices) refl t y (meets s t x y d))
 
   pub placed-notifying : Placed s₁ x
   placed-notifying = record {

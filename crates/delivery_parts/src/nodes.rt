@@ -18,11 +18,12 @@ pub fn store_notifying(
     level: u64,
     pending: u64,
     notified: u64,
+    notices: u64,
 ) -> bool
     requires { ⌜ Placed (now state) x ⌝ }
-    ensures { λ q. ⌜ (now (state .exit) ≡ withNode (now (state .entry)) x (join.settle (join.notifyingNode (bookNode r) level pending notified))) × (q ≡ eqb pending 0) ⌝ }
+    ensures { λ q. ⌜ (now (state .exit) ≡ withNode (now (state .entry)) x (join.settle (join.notifyingNode (bookNode r) level pending notified notices))) × (q ≡ eqb pending 0) ⌝ }
 {
-    let node = notifying_node(r, level, pending, notified);
+    let node = notifying_node(r, level, pending, notified, notices);
     record::store(state, x, settle(node));
     sets::is_empty(pending)
 }

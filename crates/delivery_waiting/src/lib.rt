@@ -1,7 +1,7 @@
 // A wait request to a node in system: where E, y's entry for x, is full, x learns y's table and goes on to the first node of E; else x attaches.
 ghost use mathlib.Core.Path.{_≡_};
 ghost use mathlib.Core.Bool.{true};
-ghost use Rattle.model.specs.Memory.{nodeOf, withNode, addNode, tableOf};
+ghost use Rattle.model.specs.Memory.{nodeOf, noticesOf, withNode, addNode, tableOf};
 ghost use Rattle.model.specs.Nodes.{suffixOf};
 ghost use Rattle.model.specs.Join.{notifyingNode, gather, roomAtSuffix, firstAtSuffix, attachLevel, deliverSentOn, deliverAttached, deliverWaiting};
 ghost use Rattle.state.specs.Loaded.{bookNode};
@@ -63,14 +63,14 @@ fn start_notifying(state: &mut [u64], tables: &[u8], x: usize, y: usize, r: Node
     requires { ⌜ Delivers (now state) (now tables) x y ⌝ }
     requires { ⌜ roomAtSuffix (now state) (tableOf (now tables) y) x y ≡ true ⌝ }
     requires { ⌜ bookNode r ≡ nodeOf (now state) x ⌝ }
-    ensures { λ k. ⌜ (k ≡ attachLevel (now (state .entry)) (tableOf (now (tables .entry)) y) x (suffixOf (now (state .entry)) x y)) × (now (state .exit) ≡ withNode (now (state .entry)) x (notifyingNode (nodeOf (now (state .entry)) x) k 0 (addNode 0 y))) ⌝ }
+    ensures { λ k. ⌜ (k ≡ attachLevel (now (state .entry)) (tableOf (now (tables .entry)) y) x (suffixOf (now (state .entry)) x y)) × (now (state .exit) ≡ withNode (now (state .entry)) x (notifyingNode (nodeOf (now (state .entry)) x) k 0 (addNode 0 y) (noticesOf (now (state .entry)) x))) ⌝ }
 {
     let level = attach_level(state, tables, x, y);
     let notified = sets::add(sets::EMPTY, y);
     record::store(
         state,
         x,
-        notifying_node(r, level as u64, sets::EMPTY, notified),
+        notifying_node(r, level as u64, sets::EMPTY, notified, r.notices),
     );
     level
 }
@@ -85,7 +85,15 @@ fn attach(state: &mut [u64], tables: &mut [u8], x: usize, y: usize) -> DeliverAn
     exchange(state, tables, x, y);
     let notified = sets::add(sets::EMPTY, y);
     let pending = to_notify(state, tables, x, y, level, notified);
-    let settled = store_notifying(state, x, node, level as u64, pending, notified);
+    let settled = store_notifying(
+        state,
+        x,
+        node,
+        level as u64,
+        pending,
+        notified,
+        node.notices,
+    );
     DeliverAnswer {
         kind: Kind::Attached(level as u64),
         settled,

@@ -1,12 +1,16 @@
 -- What the stores of founding and beginning make of the memory, as the book has it. Assumes nothing.
-use Prim.Native.Nat.{ℕ, _+_}
+use Prim.Native.Nat.{ℕ, _+_, _≤_}
 use mathlib.Core.Path.{_≡_, ap, ap₂, _∙_}
 use mathlib.Core.List.{List}
+use native.Mathlib.Omega.{arith}
 use lib.ListN.{set}
 use Rattle.model.specs.Memory.{Node as Record, digits, nodeCount, copying, zeroed, withNode, withTable, stateLength, tablesLength}
 use Rattle.model.specs.Tables.{ownTable}
 use Rattle.model.specs.Join.{withSettings, newNode, joiningNode, founded, begun}
+use Rattle.model.proofs.Memory.{same-requests}
+use Rattle.state.specs.declared.record.Node.{Node}
 use Rattle.state.specs.Lent.{memory}
+use Rattle.state.specs.Loaded.{bookNode}
 
 pub founded-is : (s t s₁ t₁ s₂ s₃ t₂ : List ℕ) (b d K id : ℕ) (r : Record) → s₁ ≡ zeroed stateLength s → t₁ ≡ zeroed tablesLength t → s₂ ≡ withSettings s₁ b d K 1
     → r ≡ newNode id → s₃ ≡ withNode s₂ 1 r → t₂ ≡ withTable t₁ 1 (ownTable d id 1) → memory s₃ t₂ ≡ founded s t b d K id
@@ -14,6 +18,10 @@ unfolding founded
 founded-is s t s₁ t₁ s₂ s₃ t₂ b d K id r e₁ f₁ e₂ er e₃ f₂ =
     ap₂ memory (e₃ ∙ ap₂ (λ (s : List ℕ) (r : Record). withNode s 1 r) (e₂ ∙ ap (λ (s : List ℕ). withSettings s b d K 1) e₁) er)
     (f₂ ∙ ap (λ (t : List ℕ). withTable t 1 (ownTable d id 1)) f₁)
+
+-- a new node has sent nothing yet
+pub new-sent : (n : Node) (id : ℕ) → bookNode n ≡ newNode id → n .requests ≤ 9
+new-sent n id e = omega (arith, same-requests e)
 
 pub begun-is : (s t s₁ s₂ t₁ : List ℕ) (n d id gateway : ℕ) (a r : Record) → n ≡ nodeCount s → d ≡ digits s → s₁ ≡ set s 3 (n + 1)
     → a ≡ newNode id → r ≡ joiningNode a copying gateway → s₂ ≡ withNode s₁ (n + 1) r → t₁ ≡ withTable t (n + 1) (ownTable d id (n + 1))

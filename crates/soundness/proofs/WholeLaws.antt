@@ -1,4 +1,4 @@
--- Laws of the whole check: the settings and the count as the code holds them, and the places past the nodes. Assumes nothing.
+-- Laws of the whole check: the settings and the count as the code holds them, what a test tells the next, the places past the nodes. Assumes nothing.
 use Prim.Native.Nat.{ℕ, _+_, _-_, _*_, _≤_, _<_}
 use mathlib.Core.Path.{_≡_, sym, ap, subst, _∙_}
 use mathlib.Core.Logic.{⊎-elim}
@@ -9,16 +9,19 @@ use lib.Dec.{leb}
 use lib.ListN.{length, getD, take, drop}
 use borrow.Author.Tests.{not-true, not-false, le-leb, lt-leb}
 use Rattle.model.specs.Ids.{settingsInRange}
-use Rattle.model.specs.Memory.{base, digits, depth, stateLength, tablesLength}
-use Rattle.model.specs.Sound.{hasValidId, countInRange, allZero}
+use Rattle.model.specs.Memory.{base, digits, depth, nodeCount, stateLength, tablesLength}
+use Rattle.model.specs.Sound.{hasValidId, countInRange, statusSound, allZero}
 use Rattle.model.proofs.Bools.{is-false, not-both, le-or-lt}
 use Rattle.model.proofs.Ids.{settings-range}
 use Rattle.model.proofs.Early.{le-goes, le-leaves, true-goes}
+use Rattle.model.proofs.Nodes.{nodes-at}
+use Rattle.model.proofs.Status.{status-ok}
 use Rattle.model.proofs.Zero.{part-zero-at, part-zero-of}
 use Rattle.model.specs.Nodes.{allNodes}
 use Rattle.state.specs.Loaded.{SettingsOf}
 use Rattle.state.specs.declared.settings.Settings.{Settings}
 use Rattle.state.specs.Checked.{Ranged, Identified}
+use Rattle.soundness_counts.specs.CountFacts.{StatusesOk}
 use Rattle.soundness.specs.Clauses.{tablesPast}
 
 pub settings-are : (s : List ℕ) (v : Settings) (r : Bool) → SettingsOf s v → r ≡ settingsInRange (v .base) (v .digits) (v .depth)
@@ -33,6 +36,11 @@ ranged-of s v r l w e h g =
 
 pub identified-of : (s : List ℕ) (r : Bool) → Ranged s → r ≡ allNodes s (hasValidId s) → not r ≡ false → Identified s
 identified-of s r w e h = record { ranged = w; ids = sym e ∙ not-false r h }
+
+-- after the check of the statuses each is known to keep its rules
+pub statuses-of : (s : List ℕ) (r : Bool) → r ≡ allNodes s (statusSound s) → not r ≡ false → StatusesOk s
+statuses-of s r e h x w =
+    status-ok s x (nodes-at (nodeCount s) (statusSound s) (sym e ∙ not-false r h) x (w .low) (w .high))
 
 -- the count, m being what the code holds for it
 pub count-few : (m n : ℕ) (b : Bool) → m ≡ n → m < 1 → false ≡ (countInRange n && b)

@@ -4,7 +4,7 @@ use mathlib.Core.Bool.{Bool, _&&_}
 use mathlib.Core.List.{List}
 use lib.ListN.{take, drop}
 use Rattle.model.specs.Memory.{tablesLength}
-use Rattle.model.specs.Sound.{hasValidId, hasNewId, hasSoundTable, statusSound, allZero, unusedZero}
+use Rattle.model.specs.Sound.{hasValidId, hasNewId, hasSoundTable, statusSound, countsSound, allZero, unusedZero}
 use Rattle.model.specs.Nodes.{allNodes}
 
 -- the tables past node n are zero
@@ -17,4 +17,4 @@ nodesSound s t =
     allNodes s (hasValidId s)
     && (allNodes s (hasNewId s)
     && (allNodes s (hasSoundTable s t)
-    && (allNodes s (statusSound s) && unusedZero s t)))
+    && (allNodes s (statusSound s) && (allNodes s (countsSound s) && unusedZero s t))))

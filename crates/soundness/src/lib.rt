@@ -1,4 +1,5 @@
-// The exact check of a state: document 01, "Identifiers and tables", last paragraph, in the order of its clauses.
+// The exact check of a state: document 01, "Identifiers and tables", last paragraph, and of the counts document 02, ticket 3, in the order of the
+// book's clauses.
 ghost use mathlib.Core.Path.{_≡_};
 ghost use mathlib.Core.Bool.{not, _&&_};
 ghost use Prim.Native.Nat.{_≤_};
@@ -64,6 +65,9 @@ fn nodes_next(state: &[u64], tables: &[u8], s: Settings) -> bool
         return false;
     }
     if !soundness_status::all(state, s) {
+        return false;
+    }
+    if !soundness_counts::all(state, s) {
         return false;
     }
     unused::all(state, tables, s)

@@ -1,46 +1,16 @@
-// What nothing uses is zero: the spare words of each record, words 4 to 7, the records and tables behind the last node's. (The unused places of a
-// node's own table are the business of `soundness_tables`.)
+// What nothing uses is zero: words 4 to 7, the records and tables behind the last node's. (The unused places of a node's own table are the business of
+// `soundness_tables`.)
 ghost use mathlib.Core.Path.{_≡_};
 ghost use Prim.Native.Nat.{_≤_};
 ghost use lib.ListN.{length};
-ghost use Rattle.model.specs.Sound.{spareZero, stateRestZero, unusedZero};
+ghost use Rattle.model.specs.Sound.{stateRestZero, unusedZero};
 ghost use Rattle.state.specs.Loaded.{SettingsOf};
-ghost use Rattle.model.proofs.Status.{IsNode};
-ghost use Rattle.model.specs.Nodes.{allNodes};
 ghost use Rattle.model.specs.Memory.{tablesLength};
 ghost use Rattle.state.specs.Checked.{Ranged};
 ghost use Rattle.soundness.specs.Clauses.{tablesPast};
 use state::lent::STATE_LENGTH;
 use state::settings::Settings;
 use state::zero;
-
-// The two spare words of the record of node x.
-fn spare(state: &[u64], x: usize) -> bool
-    requires { ⌜ Ranged (now state) ⌝ }
-    requires { ⌜ IsNode (now state) x ⌝ }
-    ensures { λ r. ⌜ r ≡ spareZero (now (state .entry)) x ⌝ }
-{
-    let at = 8 * x;
-    if state[at + 6] != 0 {
-        return false;
-    }
-    state[at + 7] == 0
-}
-
-fn spares(state: &[u64], s: Settings) -> bool
-    requires { ⌜ Ranged (now state) ⌝ }
-    requires { ⌜ SettingsOf (now state) s ⌝ }
-    ensures { λ r. ⌜ r ≡ allNodes (now (state .entry)) (spareZero (now (state .entry))) ⌝ }
-{
-    let mut k = 0;
-    while k < s.nodes {
-        if !spare(state, k + 1) {
-            return false;
-        }
-        k += 1;
-    }
-    true
-}
 
 // Words 4 to 7, and the records behind the last node's.
 fn state_rest(state: &[u64], s: Settings) -> bool
@@ -78,9 +48,6 @@ pub fn all(state: &[u64], tables: &[u8], s: Settings) -> bool
     requires { ⌜ tablesLength ≤ length (now tables) ⌝ }
     ensures { λ r. ⌜ r ≡ unusedZero (now (state .entry)) (now (tables .entry)) ⌝ }
 {
-    if !spares(state, s) {
-        return false;
-    }
     if !state_rest(state, s) {
         return false;
     }

@@ -36,4 +36,6 @@ bookNode r =
       target = r .target;
       pending = r .pending;
       notified = r .notified;
+      requests = r .requests;
+      notices = r .notices;
     }

@@ -1,5 +1,6 @@
 // The records that a step gives a node, each from its record before: what a step does not name stays.
 ghost use mathlib.Core.Path.{_≡_};
+ghost use Prim.Native.Nat.{_≤_};
 ghost use Rattle.model.specs.Memory.{notifying};
 ghost use Rattle.model.specs.Join as join;
 ghost use Rattle.state.specs.Loaded.{bookNode};
@@ -18,10 +19,12 @@ pub fn new_node(id: u32) -> Node
         target: 0,
         pending: sets::EMPTY,
         notified: sets::EMPTY,
+        requests: 0,
+        notices: 0,
     }
 }
 
-// One in system.
+// One in system; its counts stay.
 fn in_system_node(r: Node) -> Node
     ensures { λ n. ⌜ bookNode n ≡ join.inSystemNode (bookNode r) ⌝ }
 {
@@ -34,8 +37,9 @@ fn in_system_node(r: Node) -> Node
     n
 }
 
-// One that copies or waits, by its status and target.
+// One that copies or waits, by its status and target: it has sent one request more. No node has sent more than 9.
 pub fn joining_node(r: Node, status: u64, target: usize) -> Node
+    requires { ⌜ r .requests ≤ 9 ⌝ }
     ensures { λ n. ⌜ bookNode n ≡ join.joiningNode (bookNode r) status target ⌝ }
 {
     let mut n = r;
@@ -44,12 +48,13 @@ pub fn joining_node(r: Node, status: u64, target: usize) -> Node
     n.target = target as u64;
     n.pending = sets::EMPTY;
     n.notified = sets::EMPTY;
+    n.requests = r.requests + 1;
     n
 }
 
-// One that notifies.
-pub fn notifying_node(r: Node, level: u64, pending: u64, notified: u64) -> Node
-    ensures { λ n. ⌜ bookNode n ≡ join.notifyingNode (bookNode r) level pending notified ⌝ }
+// One that notifies, with so many answered notices.
+pub fn notifying_node(r: Node, level: u64, pending: u64, notified: u64, notices: u64) -> Node
+    ensures { λ n. ⌜ bookNode n ≡ join.notifyingNode (bookNode r) level pending notified notices ⌝ }
 {
     let mut n = r;
     n.status = Status::NOTIFYING;
@@ -57,10 +62,11 @@ pub fn notifying_node(r: Node, level: u64, pending: u64, notified: u64) -> Node
     n.target = 0;
     n.pending = pending;
     n.notified = notified;
+    n.notices = notices;
     n
 }
 
-// A notifying node that has nobody left to notify is in system within the same step; the rest of its record is cleared.
+// A notifying node that has nobody left to notify is in system within the same step; the rest of its record is cleared but for its counts.
 pub fn settle(r: Node) -> Node
     requires { ⌜ r .status ≡ notifying ⌝ }
     ensures { λ n. ⌜ bookNode n ≡ join.settle (bookNode r) ⌝ }

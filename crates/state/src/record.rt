@@ -1,4 +1,4 @@
-// A node's record: words 8x to 8x + 5 of the state for node x.
+// A node's record: words 8x to 8x + 7 of the state for node x.
 ghost use mathlib.Core.Path.{_≡_};
 ghost use Rattle.model.specs.Memory.{withNode, nodeOf, idOf, statusOf};
 ghost use Rattle.state.specs.Loaded.{Placed, bookNode};
@@ -10,6 +10,8 @@ pub struct Node {
     pub target: u64,
     pub pending: u64,
     pub notified: u64,
+    pub requests: u64,
+    pub notices: u64,
 }
 
 pub fn load(state: &[u64], x: usize) -> Node
@@ -24,6 +26,8 @@ pub fn load(state: &[u64], x: usize) -> Node
         target: state[at + 3],
         pending: state[at + 4],
         notified: state[at + 5],
+        requests: state[at + 6],
+        notices: state[at + 7],
     }
 }
 
@@ -38,6 +42,8 @@ pub fn store(state: &mut [u64], x: usize, r: Node)
     state[at + 3] = r.target;
     state[at + 4] = r.pending;
     state[at + 5] = r.notified;
+    state[at + 6] = r.requests;
+    state[at + 7] = r.notices;
 }
 
 // The id alone.

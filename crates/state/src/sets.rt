@@ -2,7 +2,7 @@
 ghost use mathlib.Core.Path.{_≡_};
 ghost use Prim.Native.Nat.{_≤_, _^_};
 ghost use lib.Dec.{eqb, ltb};
-ghost use Rattle.model.specs.Memory.{hasNode, addNode, removeNode};
+ghost use Rattle.model.specs.Memory.{hasNode, addNode, removeNode, setSize};
 ghost use Rattle.state.specs.Loaded.{Numbered};
 
 // The set that names no node.
@@ -37,6 +37,13 @@ pub fn is_empty(nodes: u64) -> bool
     ensures { λ r. ⌜ r ≡ eqb nodes 0 ⌝ }
 {
     nodes == 0
+}
+
+// How many nodes the set has.
+pub fn size(nodes: u64) -> u64
+    ensures { λ r. ⌜ r ≡ setSize nodes ⌝ }
+{
+    u64::count_ones(nodes) as u64
 }
 
 // The set names no number above n.

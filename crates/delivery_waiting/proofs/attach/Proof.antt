@@ -23,12 +23,12 @@ to-notify-requires c κs =
     let e = c .before .before .before .before .before in
     let s = e .before .before .before .before .before in
     let d = s .before .before .before .before .before .before .before .pre .0 in
-    meets-exchanged _ _ _ _ (meets-notifying _ _ _ _ _ _ _ d (s .start-notifying .ensures .1)) _ (e .exchange .ensures)
+    meets-exchanged _ _ _ _ (meets-notifying _ _ _ _ _ _ _ _ d (s .start-notifying .ensures .1)) _ (e .exchange .ensures)
 
 store-notifying-requires : tie.Need-store-notifying-requires
 store-notifying-requires c κs =
     let s = c .before .before .before .before .before .before .before .before .before .before .before .before in
-    placed-notifying _ _ _ _ _ _ _ (s .before .before .before .before .before .before .before .pre .0) (s .start-notifying .ensures .1)
+    placed-notifying _ _ _ _ _ _ _ _ (s .before .before .before .before .before .before .before .pre .0) (s .start-notifying .ensures .1)
 
 same-length : tie.Need-same-length
 same-length c = search needs

@@ -1,6 +1,6 @@
 -- `send_on`: the record and x's table are the delivery's, and y's table stays. Assumes nothing.
 use Rattle.delivery_parts.proofs.Readers.{meets}
-use Rattle.delivery_parts.proofs.Deliveries.{sent-on-is}
+use Rattle.delivery_parts.proofs.Deliveries.{requests-few, sent-on-is}
 use borrow.Author.Needs.{needs}
 use Rattle.delivery_waiting.proofs.send_on.Statement.{statement}
 use Rattle.delivery_waiting.proofs.send_on.Tie as tie
@@ -12,7 +12,7 @@ learn-from-requires : tie.Need-learn-from-requires
 learn-from-requires c κs = search meets
 
 joining-node-requires : tie.Need-joining-node-requires
-joining-node-requires c κs = search needs
+joining-node-requires c κs = search requests-few
 
 store-requires : tie.Need-store-requires
 store-requires c κs = search needs

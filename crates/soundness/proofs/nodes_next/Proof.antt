@@ -1,7 +1,7 @@
--- `nodes_next`: the tests are the book's, in its order; after the first the ids are known to be valid. Assumes nothing.
+-- `nodes_next`: the tests are the book's, in its order, and each call knows what the tests before it told. Assumes nothing.
 use borrow.Author.Needs.{needs}
 use Rattle.model.proofs.Bools.{and-leaves, and-goes}
-use Rattle.soundness.proofs.WholeLaws.{identified-of}
+use Rattle.soundness.proofs.WholeLaws.{identified-of, statuses-of}
 use Rattle.soundness.proofs.nodes_next.Statement.{statement}
 use Rattle.soundness.proofs.nodes_next.Tie as tie
 
@@ -36,10 +36,19 @@ returns-4 : tie.Need-returns-4
 returns-4 c = search (and-goes, and-leaves)
 
 all-requires-3 : tie.Need-all-requires-3
-all-requires-3 c κs = search needs
+all-requires-3 c κs =
+    let first = c .before .before .before .before .before .before in
+    let p = first .before .before .before .before .pre in
+    (identified-of _ _ (p .0) (first .before .valid .ensures) (first .if1 .left), (p .1 .0, statuses-of _ _ (c .before .all2 .ensures) (c .if4 .left)))
 
 returns-5 : tie.Need-returns-5
-returns-5 c = search and-goes
+returns-5 c = search (and-goes, and-leaves)
+
+all-requires-4 : tie.Need-all-requires-4
+all-requires-4 c κs = search needs
+
+returns-6 : tie.Need-returns-6
+returns-6 c = search and-goes
 
 pub nodes-next-spec : {M : Type 1} → statement M
 nodes-next-spec =
@@ -54,4 +63,6 @@ nodes-next-spec =
     all-requires-2
     returns-4
     all-requires-3
-    returns-5)
+    returns-5
+    all-requires-4
+    returns-6)

@@ -11,12 +11,12 @@ use Rattle.state.specs.Loaded.{bookNode}
 use Rattle.delivery_parts.proofs.nodes.store_notifying.Statement.{statement}
 use Rattle.delivery_parts.proofs.nodes.store_notifying.Tie as tie
 
-notifies : (n r : Node) (k pending notified : ℕ) → bookNode n ≡ notifyingNode (bookNode r) k pending notified → n .status ≡ notifying
-notifies n r k pending notified e = same-status e
+notifies : (n r : Node) (k pending notified notices : ℕ) → bookNode n ≡ notifyingNode (bookNode r) k pending notified notices → n .status ≡ notifying
+notifies n r k pending notified notices e = same-status e
 
-stored-is : (s s₁ : List ℕ) (x k pending notified : ℕ) (r n m : Node) → bookNode n ≡ notifyingNode (bookNode r) k pending notified
-    → bookNode m ≡ settle (bookNode n) → s₁ ≡ withNode s x (bookNode m) → s₁ ≡ withNode s x (settle (notifyingNode (bookNode r) k pending notified))
-stored-is s s₁ x k pending notified r n m e f g = g ∙ ap (withNode s x) (f ∙ ap settle e)
+stored-is : (s s₁ : List ℕ) (x k pending notified notices : ℕ) (r n m : Node) → bookNode n ≡ notifyingNode (bookNode r) k pending notified notices
+    → bookNode m ≡ settle (bookNode n) → s₁ ≡ withNode s x (bookNode m) → s₁ ≡ withNode s x (settle (notifyingNode (bookNode r) k pending notified notices))
+stored-is s s₁ x k pending notified notices r n m e f g = g ∙ ap (withNode s x) (f ∙ ap settle e)
 
 notifying-node-requires : tie.Need-notifying-node-requires
 notifying-node-requires c κs = search needs

@@ -1,5 +1,5 @@
 -- `begin`: the count, the new record and the new table are those of `begun`. Assumes nothing.
-use Rattle.join.proofs.Laws.{begun-is}
+use Rattle.join.proofs.Laws.{new-sent, begun-is}
 use borrow.Author.Needs.{needs}
 use Rattle.join.proofs.beginning.begin.Statement.{statement}
 use Rattle.join.proofs.beginning.begin.Tie as tie
@@ -17,7 +17,7 @@ new-node-requires : tie.Need-new-node-requires
 new-node-requires c κs = search needs
 
 joining-node-requires : tie.Need-joining-node-requires
-joining-node-requires c κs = search needs
+joining-node-requires c κs = search new-sent
 
 store-requires : tie.Need-store-requires
 store-requires c κs = search needs

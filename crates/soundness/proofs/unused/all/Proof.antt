@@ -6,34 +6,19 @@ use Rattle.soundness.proofs.WholeLaws.{tables-past}
 use Rattle.soundness.proofs.unused.all.Statement.{statement}
 use Rattle.soundness.proofs.unused.all.Tie as tie
 
-spares-requires : tie.Need-spares-requires
-spares-requires c κs = search needs
+state-rest-requires : tie.Need-state-rest-requires
+state-rest-requires c κs = search needs
 
 returns : tie.Need-returns
 unfolding unusedZero tablesRestZero
 returns c = search and-leaves
 
-state-rest-requires : tie.Need-state-rest-requires
-state-rest-requires c κs = search needs
-
-returns-2 : tie.Need-returns-2
-unfolding unusedZero tablesRestZero
-returns-2 c = search (and-goes, and-leaves)
-
 tables-rest-requires : tie.Need-tables-rest-requires
 tables-rest-requires c κs = search needs
 
-returns-3 : tie.Need-returns-3
+returns-2 : tie.Need-returns-2
 unfolding unusedZero tablesRestZero
-returns-3 c = search (and-goes, tables-past)
+returns-2 c = search (and-goes, tables-past)
 
 pub all-spec : {M : Type 1} → statement M
-all-spec =
-    tie.close
-    (tie.spec
-    spares-requires
-    returns
-    state-rest-requires
-    returns-2
-    tables-rest-requires
-    returns-3)
+all-spec = tie.close (tie.spec state-rest-requires returns tables-rest-requires returns-2)

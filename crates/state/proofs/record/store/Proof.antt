@@ -1,4 +1,4 @@
--- `store`: the six writes are those of `withNode`, in its order; none changes the length. Assumes nothing.
+-- `store`: the eight writes are those of `withNode`, in its order; none changes the length. Assumes nothing.
 use mathlib.Core.Path.{refl}
 use native.Mathlib.Omega.{arith}
 use lib.ListN.{length-set}
@@ -61,6 +61,24 @@ mul-state-6 c = search needs
 slice-write-state-6 : tie.Need-slice-write-state-6
 slice-write-state-6 c = simp length-set (omega arith)
 
+add-state-6 : tie.Need-add-state-6
+add-state-6 c = search needs
+
+mul-state-7 : tie.Need-mul-state-7
+mul-state-7 c = search needs
+
+slice-write-state-7 : tie.Need-slice-write-state-7
+slice-write-state-7 c = simp length-set (omega arith)
+
+add-state-7 : tie.Need-add-state-7
+add-state-7 c = search needs
+
+mul-state-8 : tie.Need-mul-state-8
+mul-state-8 c = search needs
+
+slice-write-state-8 : tie.Need-slice-write-state-8
+slice-write-state-8 c = simp length-set (omega arith)
+
 same-length : tie.Need-same-length
 same-length c = search needs
 
@@ -90,5 +108,11 @@ store-spec =
     add-state-5
     mul-state-6
     slice-write-state-6
+    add-state-6
+    mul-state-7
+    slice-write-state-7
+    add-state-7
+    mul-state-8
+    slice-write-state-8
     same-length
     returns)

@@ -1,0 +1,2 @@
+-- What the check of the counts cites.
+pub mod CountFacts
