@@ -7,13 +7,13 @@ use lib.ListN.{getD, drop}
 use lib.Seq.{getD-drop}
 use borrow.Author.Tests.{eq-eqb, ne-eqb}
 use Rattle.model.specs.Memory.{Memory, digits}
-use Rattle.model.specs.Refusals.{lookupRefusal}
+use Rattle.model.specs.Refusals.{stateRefusal, lookupRefusal}
 use Rattle.model.specs.Calls.{surveyCall}
 use Rattle.model.specs.Run as book
 use Rattle.model.specs.Run.{step, after}
 use Rattle.model.proofs.Status.{IsNode}
 use Rattle.model.proofs.Sound.{Sound}
-use Rattle.model.proofs.Taken.{lookup-taken}
+use Rattle.model.proofs.Taken.{state-taken, lookup-taken}
 use Rattle.model.proofs.Fields.{below-at, survey-few, survey-sound}
 use Rattle.putting.specs.Put.{Put}
 use Rattle.putting.proofs.Putting.{put-none, put-then}
@@ -25,14 +25,13 @@ use Rattle.replay_calls.specs.Answered.{padded, Played, playing, listed, shown}
 use Rattle.replay_calls.specs.declared.answer.Words.{Words}
 use Rattle.replay_calls.proofs.Ones.{survey-filled}
 use Rattle.replay_survey.specs.Showable.{Showable}
-use Rattle.replay_table.specs.TableText.{tableText}
 use Rattle.replay_refusals.specs.Refused.{refusedText}
 use Rattle.replay_words.specs.Said.{said}
 use Rattle.replay_words.specs.Sayable.{Sayable}
 use Rattle.script.specs.Commands.{commandOf}
 use Rattle.script.specs.declared.command.Command.{Command}
 use Rattle.script.specs.declared.command.Command.the-variants as is
-use Rattle.replay.specs.Said.{tableSaid, unknownSaid, commandSaid, commandAfter}
+use Rattle.replay.specs.Said.{orRefused, panelSaid, tableSaid, unknownSaid, commandSaid, commandAfter}
 use Rattle.replay.specs.Script.{Saved, Loaded, Turn}
 
 -- ---- a call, played
@@ -74,20 +73,22 @@ played-sayable m m₁ w image out call d e f = record {
       (subst (λ (l : List ℕ). Showable (digits (m .state)) (drop 1 l)) (sym answer) (counts-fit m first));
 }
 
--- ---- a table; r is the refusal that the code found
+-- ---- the panel and a table; r is the refusal that the code found
 
-module _ (m : Memory) (x r : ℕ) (e : r ≡ lookupRefusal m x x) where
-  pub shows : r ≡ 0 → Sound (m .state) (m .tables) × IsNode (m .state) x
-  shows z = let k = lookup-taken m x x (sym e ∙ z) in (k .0, k .1)
+pub panel-sound : (m : Memory) (r : ℕ) → r ≡ stateRefusal m → r ≡ 0 → Sound (m .state) (m .tables)
+panel-sound m r e z = state-taken m (sym e ∙ z)
 
-  module _ (o : List ℕ) (p : List ℕ) (g : ℕ) where
-    pub table-refused : (r ≡ 0 → ⊥) → Put o 0 (refusedText r 0) p g → Put o 0 (tableSaid m x) p g
-    unfolding tableSaid
-    table-refused nz P = rw (sym e, ne-eqb r 0 nz) P
+pub shows : (m : Memory) (x r : ℕ) → r ≡ lookupRefusal m x x → r ≡ 0 → Sound (m .state) (m .tables) × IsNode (m .state) x
+shows m x r e z = let k = lookup-taken m x x (sym e ∙ z) in (k .0, k .1)
 
-    pub table-shown : r ≡ 0 → Put o 0 (tableText (m .state) (m .tables) x) p g → Put o 0 (tableSaid m x) p g
-    unfolding tableSaid
-    table-shown z P = rw (sym e, eq-eqb r 0 z) P
+module _ (r number : ℕ) (e : r ≡ number) (text o p : List ℕ) (g : ℕ) where
+  pub says-refused : (r ≡ 0 → ⊥) → Put o 0 (refusedText r 0) p g → Put o 0 (orRefused number text) p g
+  unfolding orRefused
+  says-refused nz P = rw (sym e, ne-eqb r 0 nz) P
+
+  pub says-shown : r ≡ 0 → Put o 0 text p g → Put o 0 (orRefused number text) p g
+  unfolding orRefused
+  says-shown z P = rw (sym e, eq-eqb r 0 z) P
 
 -- ---- a line that is no command
 
@@ -120,6 +121,9 @@ module _ (m : Memory) (number : ℕ) (command : Command) where
   pub load-leaves : command ≡ is.Load → m ≡ commandAfter m command
   load-leaves e = leaves is.Load e m refl
 
+  pub panel-leaves : command ≡ is.Panel → m ≡ commandAfter m command
+  panel-leaves e = leaves is.Panel e m refl
+
   pub table-leaves : (x : ℕ) → command ≡ is.Table x → m ≡ commandAfter m command
   table-leaves x e = leaves (is.Table x) e m refl
 
@@ -130,6 +134,9 @@ module _ (m : Memory) (number : ℕ) (command : Command) where
     pub call-says : (c : Call) → command ≡ is.Call c → Put o 0 (said (digits (m .state)) 0 c (padded (step m (called [] [] c) .answer))) p g
         → Put o 0 (commandSaid m number command) p g
     call-says c e = says (is.Call c) e o p g
+
+    pub panel-says : command ≡ is.Panel → Put o 0 (panelSaid m) p g → Put o 0 (commandSaid m number command) p g
+    panel-says e = says is.Panel e o p g
 
     pub table-says : (x : ℕ) → command ≡ is.Table x → Put o 0 (tableSaid m x) p g → Put o 0 (commandSaid m number command) p g
     table-says x e = says (is.Table x) e o p g
@@ -164,6 +171,9 @@ module _ (line : List ℕ) (m m₁ : Memory) (command : Command) (e : command �
 
     pub line-call : (c : Call) → command ≡ is.Call c → Turn (commandOf line) m m₁
     line-call c f = by-command (is.Call c) f (h ∙ ap (commandAfter m) f)
+
+    pub line-panel : command ≡ is.Panel → Turn (commandOf line) m m₁
+    line-panel f = by-command is.Panel f (h ∙ ap (commandAfter m) f)
 
     pub line-table : (x : ℕ) → command ≡ is.Table x → Turn (commandOf line) m m₁
     line-table x f = by-command (is.Table x) f (h ∙ ap (commandAfter m) f)

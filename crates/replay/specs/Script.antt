@@ -13,7 +13,7 @@ use Rattle.promise.specs.Promise.{Promise}
 use Rattle.replay_calls.specs.Called.{called}
 use Rattle.script.specs.Commands.{commandOf}
 use Rattle.script.specs.declared.command.Command.{Command}
-use Rattle.script.specs.declared.command.Command.the-variants.{Nothing, Unknown, Call, Save, Load, Table}
+use Rattle.script.specs.declared.command.Command.the-variants.{Nothing, Unknown, Call, Save, Load, Panel, Table}
 
 -- one byte more at the start of the first line
 abbrev pub inFront : ℕ → List (List ℕ) → List (List ℕ)
@@ -40,6 +40,7 @@ Turn Unknown m m₁ = m₁ ≡ m
 Turn (Call c) m m₁ = m₁ ≡ after m (called [] [] c)
 Turn Save m m₁ = Saved m m₁
 Turn Load m m₁ = Loaded m m₁
+Turn Panel m m₁ = m₁ ≡ m
 Turn (Table x) m m₁ = m₁ ≡ m
 
 -- the lines, one after another
@@ -56,6 +57,7 @@ Calls Unknown cs = cs ≡ []
 Calls (Call c) cs = cs ≡ called [] [] c ∷ []
 Calls Save cs = (out : List ℕ) × (cs ≡ book.write out ∷ [])
 Calls Load cs = (cs ≡ []) ⊎ ((image : List ℕ) × (cs ≡ book.read image ∷ []))
+Calls Panel cs = cs ≡ []
 Calls (Table x) cs = cs ≡ []
 
 -- the calls of the lines, one line's behind another's

@@ -10,7 +10,7 @@ ghost use Rattle.putting.specs.Put.{Put};
 ghost use Rattle.replay_calls.specs.Called.{called, outAfter};
 ghost use Rattle.replay_calls.specs.Answered.{padded, listed};
 ghost use Rattle.replay_words.specs.Said.{said};
-ghost use Rattle.replay.specs.Said.{tableSaid, unknownSaid, commandSaid, commandAfter};
+ghost use Rattle.replay.specs.Said.{panelSaid, tableSaid, unknownSaid, commandSaid, commandAfter};
 use calls::Call;
 use putting::piece;
 use replay_calls::answer::Words;
@@ -59,6 +59,19 @@ fn call(state: &mut [u64], tables: &mut [u8], call: Call, words: &mut [u8]) -> u
     played(state, tables, &none, &mut out, call, words).end
 }
 
+// A line for each node, or why there is none.
+fn panel(state: &[u64], tables: &[u8], words: &mut [u8]) -> usize
+    requires { ⌜ 7168 ≤ length (now words) ⌝ }
+    ensures { λ r. ⌜ Put (now (words .entry)) 0 (panelSaid (memory (now (state .entry)) (now (tables .entry)))) (now (words .exit)) r ⌝ }
+    ensures { λ r. ⌜ r ≤ 7168 ⌝ }
+{
+    let r = refusals::sentences::state_refusal(state, tables);
+    if r != 0 {
+        return replay_refusals::put(words, r, 0);
+    }
+    replay_panel::put(state, tables, words)
+}
+
 // A node's table, or why it is not shown.
 fn table(state: &[u64], tables: &[u8], x: u64, words: &mut [u8]) -> usize
     requires { ⌜ 16384 ≤ length (now words) ⌝ }
@@ -101,6 +114,7 @@ pub fn command(
         Command::Call(c) => return call(state, tables, c, words),
         Command::Save => return 0,
         Command::Load => return 0,
+        Command::Panel => return panel(state, tables, words),
         Command::Table(x) => return table(state, tables, x, words),
     }
 }

@@ -1,25 +1,19 @@
--- A node's record and table as text: the node, its id and its status, then a line for each entry that is not empty.
+-- A node's record and table as text: a line of its record, then one for each entry that is not empty.
 use Prim.Native.Nat.{ℕ}
 use mathlib.Core.Bool.{cond}
 use mathlib.Core.List.{List, [], _++_}
 use lib.Dec.{eqb}
 use Rattle.model.specs.Loops.{joinBelow}
-use Rattle.model.specs.Memory.{base, digits, depth, idOf, statusOf, inSystem, copying, waiting, tableOf}
+use Rattle.model.specs.Memory.{base, digits, depth, tableOf}
 use Rattle.model.specs.Tables.{slotAt}
 use Rattle.text.specs.Ascii.{ascii}
 use Rattle.text.specs.Numbers.{hexadecimal}
 use Rattle.text.specs.Lines.{labelled}
+use Rattle.replay_panel.specs.PanelText.{recordText}
 
--- the paper's word for a status
-unfoldable pub statusText : ℕ → List ℕ
-statusText status =
-    cond (eqb status inSystem) (ascii "settled") (cond (eqb status copying) (ascii "copying") (cond (eqb status waiting) (ascii "waiting") (ascii "notifying")))
-
--- node x, its id in as many hexadecimal digits as ids have, and its status
+-- the first line: node x and its record
 unfoldable pub headText : List ℕ → ℕ → List ℕ
-headText s x =
-    labelled (ascii "table ") x
-    ++ (ascii ": id " ++ (hexadecimal (digits s) (idOf s x) ++ (ascii ", " ++ (statusText (statusOf s x) ++ ascii "\n"))))
+headText s x = labelled (ascii "table ") x ++ recordText s x
 
 -- the neighbour in slot k of entry (i, j); nothing where the slot is empty
 unfoldable pub slotText : List ℕ → ℕ → ℕ → ℕ → List ℕ

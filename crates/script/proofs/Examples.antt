@@ -4,11 +4,11 @@ use Rattle.calls.specs.declared.Call.the-variants as call
 use Rattle.text.specs.Ascii.{ascii}
 use Rattle.script.specs.Words.{isBlank, isSolid, isHash, until, beforeComment, fromWord, toBlank, fromBlank, wordIn, word, isEmpty, ends, sameText, named}
 use Rattle.script.specs.Numbers.{digit, areDigits, valueFrom, isNumber, valueOf, numberOf, decimalOf, hexadecimalOf}
-use Rattle.script.specs.Commands.{endsWith, ofFile, found, begin, deliver, lookup, table, fileOrTable, commandOf}
-use Rattle.script.specs.declared.command.Command.the-variants.{Nothing, Unknown, Call, Save, Table}
+use Rattle.script.specs.Commands.{endsWith, ofFile, found, begin, deliver, lookup, table, fileOrShown, commandOf}
+use Rattle.script.specs.declared.command.Command.the-variants.{Nothing, Unknown, Call, Save, Panel, Table}
 
 unfoldable computing : Unit {0}
-unfolding isBlank isSolid isHash until beforeComment fromWord toBlank fromBlank wordIn word isEmpty ends sameText named digit areDigits valueFrom isNumber valueOf numberOf decimalOf hexadecimalOf endsWith ofFile found begin deliver lookup table fileOrTable commandOf
+unfolding isBlank isSolid isHash until beforeComment fromWord toBlank fromBlank wordIn word isEmpty ends sameText named digit areDigits valueFrom isNumber valueOf numberOf decimalOf hexadecimalOf endsWith ofFile found begin deliver lookup table fileOrShown commandOf
 computing = tt
 
 pub founding : commandOf (ascii "found 16 8 4 0fFfffffF") ≡ Call (call.Found 16 8 4 4294967295)
@@ -50,3 +50,7 @@ number-of-65-bits = refl
 pub file : commandOf (ascii "save network") ≡ Save
 unfolding computing
 file = refl
+
+pub panel : commandOf (ascii "panel # of each node") ≡ Panel
+unfolding computing
+panel = refl

@@ -7,13 +7,13 @@ use Rattle.calls.specs.declared.Call.the-variants as call
 use Rattle.text.specs.Ascii.{ascii}
 use Rattle.script.specs.Words.{word, ends, named}
 use Rattle.script.specs.Numbers.{decimalOf, hexadecimalOf}
-use Rattle.script.specs.Commands.{endsWith, ofFile, found, begin, deliver, lookup, table, fileOrTable, commandOf}
+use Rattle.script.specs.Commands.{endsWith, ofFile, found, begin, deliver, lookup, table, fileOrShown, commandOf}
 use Rattle.script.specs.declared.numbers.Number.{Number}
 use Rattle.script.specs.declared.numbers.Number.the-variants as number
 use Rattle.script.specs.declared.numbers.Id.{Id}
 use Rattle.script.specs.declared.numbers.Id.the-variants as ident
 use Rattle.script.specs.declared.command.Command.{Command}
-use Rattle.script.specs.declared.command.Command.the-variants.{Nothing, Unknown, Call, Save, Load, Table}
+use Rattle.script.specs.declared.command.Command.the-variants.{Nothing, Unknown, Call, Save, Load, Panel, Table}
 
 -- ---- how a line ends
 
@@ -113,23 +113,28 @@ module _ (line : List ℕ) (a : Id) (p : a ≡ hexadecimalOf (word 1 line)) wher
 
 module _ (line : List ℕ) where
   module _ (a : Bool) (p : a ≡ named line (ascii "save")) where
-    pub save-is : (x : Command) → a ≡ true → x ≡ ofFile line Save → x ≡ fileOrTable line
-    unfolding fileOrTable
+    pub save-is : (x : Command) → a ≡ true → x ≡ ofFile line Save → x ≡ fileOrShown line
+    unfolding fileOrShown
     save-is x h e = rw (sym p ∙ h) e
 
     module _ (q : a ≡ false) (b : Bool) (p₂ : b ≡ named line (ascii "load")) where
-      pub load-is : (x : Command) → b ≡ true → x ≡ ofFile line Load → x ≡ fileOrTable line
-      unfolding fileOrTable
+      pub load-is : (x : Command) → b ≡ true → x ≡ ofFile line Load → x ≡ fileOrShown line
+      unfolding fileOrShown
       load-is x h e = rw (sym p ∙ q, sym p₂ ∙ h) e
 
-      module _ (q₂ : b ≡ false) (c : Bool) (p₃ : c ≡ named line (ascii "table")) where
-        pub table-named : (x : Command) → c ≡ true → x ≡ table line → x ≡ fileOrTable line
-        unfolding fileOrTable
-        table-named x h e = rw (sym p ∙ q, sym p₂ ∙ q₂, sym p₃ ∙ h) e
+      module _ (q₂ : b ≡ false) (c : Bool) (p₃ : c ≡ named line (ascii "panel")) where
+        pub panel-named : (x : Command) → c ≡ true → x ≡ endsWith 1 line Panel → x ≡ fileOrShown line
+        unfolding fileOrShown
+        panel-named x h e = rw (sym p ∙ q, sym p₂ ∙ q₂, sym p₃ ∙ h) e
 
-        pub none-named : c ≡ false → Unknown ≡ fileOrTable line
-        unfolding fileOrTable
-        none-named h = rw (sym p ∙ q, sym p₂ ∙ q₂, sym p₃ ∙ h)
+        module _ (q₃ : c ≡ false) (d : Bool) (p₄ : d ≡ named line (ascii "table")) where
+          pub table-named : (x : Command) → d ≡ true → x ≡ table line → x ≡ fileOrShown line
+          unfolding fileOrShown
+          table-named x h e = rw (sym p ∙ q, sym p₂ ∙ q₂, sym p₃ ∙ q₃, sym p₄ ∙ h) e
+
+          pub none-named : d ≡ false → Unknown ≡ fileOrShown line
+          unfolding fileOrShown
+          none-named h = rw (sym p ∙ q, sym p₂ ∙ q₂, sym p₃ ∙ q₃, sym p₄ ∙ h)
 
   module _ (z : Bool) (e₀ : z ≡ ends 0 line) where
     pub nothing-is : z ≡ true → Nothing ≡ commandOf line
@@ -172,7 +177,7 @@ module _ (line : List ℕ) where
                   sound-named x h e =
                       rw (sym e₀ ∙ q₀, sym p ∙ q, sym p₂ ∙ q₂, sym p₃ ∙ q₃, sym p₄ ∙ q₄, sym p₅ ∙ q₅, sym p₆ ∙ q₆, sym p₇ ∙ h) e
 
-                  pub file-or-table : (x : Command) → o ≡ false → x ≡ fileOrTable line → x ≡ commandOf line
+                  pub file-or-shown : (x : Command) → o ≡ false → x ≡ fileOrShown line → x ≡ commandOf line
                   unfolding commandOf
-                  file-or-table x h e =
+                  file-or-shown x h e =
                       rw (sym e₀ ∙ q₀, sym p ∙ q, sym p₂ ∙ q₂, sym p₃ ∙ q₃, sym p₄ ∙ q₄, sym p₅ ∙ q₅, sym p₆ ∙ q₆, sym p₇ ∙ h) e

@@ -11,7 +11,7 @@ use Rattle.script.specs.declared.numbers.Number.the-variants as number
 use Rattle.script.specs.declared.numbers.Id.{Id}
 use Rattle.script.specs.declared.numbers.Id.the-variants as ident
 use Rattle.script.specs.declared.command.Command.{Command}
-use Rattle.script.specs.declared.command.Command.the-variants.{Nothing, Unknown, Call, Save, Load, Table}
+use Rattle.script.specs.declared.command.Command.the-variants.{Nothing, Unknown, Call, Save, Load, Panel, Table}
 
 -- what is made of a number or an id; where there is none, the line is not understood
 
@@ -56,12 +56,13 @@ table line = withNumber 1 line (λ x. endsWith 2 line (Table x))
 unfoldable pub ofFile : List ℕ → Command → Command
 ofFile line c = cond (ends 1 line) Unknown (endsWith 2 line c)
 
--- the commands that need a file, and `table`
-unfoldable pub fileOrTable : List ℕ → Command
-fileOrTable line =
+-- the commands that need a file, and those that show records
+unfoldable pub fileOrShown : List ℕ → Command
+fileOrShown line =
     cond (named line (ascii "save")) (ofFile line Save)
     (cond (named line (ascii "load")) (ofFile line Load)
-    (cond (named line (ascii "table")) (table line) Unknown))
+    (cond (named line (ascii "panel")) (endsWith 1 line Panel)
+    (cond (named line (ascii "table")) (table line) Unknown)))
 
 -- a line's command, by its first word
 unfoldable pub commandOf : List ℕ → Command
@@ -74,4 +75,4 @@ commandOf line =
     (cond (named line (ascii "survey")) (endsWith 1 line (Call call.Survey))
     (cond (named line (ascii "verdict")) (endsWith 1 line (Call call.Verdict))
     (cond (named line (ascii "sound")) (endsWith 1 line (Call call.Sound))
-    (fileOrTable line))))))))
+    (fileOrShown line))))))))

@@ -1,6 +1,6 @@
 // A line of the script as a command.
 ghost use mathlib.Core.Path.{_≡_};
-ghost use Rattle.script.specs.Commands.{endsWith, ofFile, found, begin, deliver, lookup, table, fileOrTable, commandOf};
+ghost use Rattle.script.specs.Commands.{endsWith, ofFile, found, begin, deliver, lookup, table, fileOrShown, commandOf};
 use crate::numbers::Id;
 use crate::numbers::Number;
 use crate::numbers::decimal;
@@ -18,6 +18,7 @@ pub enum Command {
     // the file is the line's word 1
     Save,
     Load,
+    Panel,
     Table(u64),
 }
 
@@ -104,15 +105,18 @@ fn of_file(line: &[u8], command: Command) -> Command
     ends_with(line, 2, command)
 }
 
-// The commands that need a file, and `table`.
-fn file_or_table(line: &[u8]) -> Command
-    ensures { λ r. ⌜ r ≡ fileOrTable (now (line .entry)) ⌝ }
+// The commands that need a file, and those that show records.
+fn file_or_shown(line: &[u8]) -> Command
+    ensures { λ r. ⌜ r ≡ fileOrShown (now (line .entry)) ⌝ }
 {
     if named(line, b"save") {
         return of_file(line, Command::Save);
     }
     if named(line, b"load") {
         return of_file(line, Command::Load);
+    }
+    if named(line, b"panel") {
+        return ends_with(line, 1, Command::Panel);
     }
     if named(line, b"table") {
         return table(line);
@@ -148,5 +152,5 @@ pub fn parsed(line: &[u8]) -> Command
     if named(line, b"sound") {
         return ends_with(line, 1, Command::Call(Call::Sound));
     }
-    file_or_table(line)
+    file_or_shown(line)
 }

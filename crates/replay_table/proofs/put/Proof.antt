@@ -8,8 +8,14 @@ use Rattle.replay_table.proofs.put.Tie as tie
 load-requires : tie.Need-load-requires
 load-requires c κs = search needs
 
-head-requires : tie.Need-head-requires
-head-requires c κs = search needs
+slice-aggregate-labelled : tie.Need-slice-aggregate-labelled
+slice-aggregate-labelled c = search needs
+
+labelled-requires : tie.Need-labelled-requires
+labelled-requires c κs = search needs
+
+put-requires : tie.Need-put-requires
+put-requires c κs = search needs
 
 lent-requires : tie.Need-lent-requires
 lent-requires c κs = search needs
@@ -26,4 +32,12 @@ returns c = (search table-put, omega arith)
 pub put-spec : {M : Type 1} → statement M
 put-spec =
     tie.close
-    (tie.spec load-requires head-requires lent-requires entries-requires same-length returns)
+    (tie.spec
+    load-requires
+    slice-aggregate-labelled
+    labelled-requires
+    put-requires
+    lent-requires
+    entries-requires
+    same-length
+    returns)

@@ -1,7 +1,7 @@
 -- `command`: each arm is what its command does and says. Assumes nothing.
 use native.Mathlib.Omega.{arith}
 use borrow.Author.Needs.{needs}
-use Rattle.replay.proofs.Turns.{nothing-leaves, unknown-leaves, call-leaves, save-leaves, load-leaves, table-leaves, nothing-says, unknown-says, call-says, save-says, load-says, table-says}
+use Rattle.replay.proofs.Turns.{nothing-leaves, unknown-leaves, call-leaves, save-leaves, load-leaves, panel-leaves, table-leaves, nothing-says, unknown-says, call-says, save-says, load-says, panel-says, table-says}
 use Rattle.replay.proofs.said.command.Statement.{statement}
 use Rattle.replay.proofs.said.command.Tie as tie
 
@@ -53,11 +53,11 @@ enum-told-4 c = search needs
 returns-5 : tie.Need-returns-5
 returns-5 c = (search load-leaves, (search load-says, omega arith))
 
-enum-known-command-2 : tie.Need-enum-known-command-2
-enum-known-command-2 c = search needs
+enum-told-5 : tie.Need-enum-told-5
+enum-told-5 c = search needs
 
-table-requires : tie.Need-table-requires
-table-requires c κs = search needs
+panel-requires : tie.Need-panel-requires
+panel-requires c κs = search needs
 
 same-length-5 : tie.Need-same-length-5
 same-length-5 c = search needs
@@ -69,7 +69,25 @@ same-length-7 : tie.Need-same-length-7
 same-length-7 c = search needs
 
 returns-6 : tie.Need-returns-6
-returns-6 c = (search table-leaves, (search table-says, omega arith))
+returns-6 c = (search panel-leaves, (search panel-says, omega arith))
+
+enum-known-command-2 : tie.Need-enum-known-command-2
+enum-known-command-2 c = search needs
+
+table-requires : tie.Need-table-requires
+table-requires c κs = search needs
+
+same-length-8 : tie.Need-same-length-8
+same-length-8 c = search needs
+
+same-length-9 : tie.Need-same-length-9
+same-length-9 c = search needs
+
+same-length-10 : tie.Need-same-length-10
+same-length-10 c = search needs
+
+returns-7 : tie.Need-returns-7
+returns-7 c = (search table-leaves, (search table-says, omega arith))
 
 pub command-spec : {M : Type 1} → statement M
 command-spec =
@@ -91,9 +109,15 @@ command-spec =
     returns-4
     enum-told-4
     returns-5
-    enum-known-command-2
-    table-requires
+    enum-told-5
+    panel-requires
     same-length-5
     same-length-6
     same-length-7
-    returns-6)
+    returns-6
+    enum-known-command-2
+    table-requires
+    same-length-8
+    same-length-9
+    same-length-10
+    returns-7)

@@ -1,6 +1,6 @@
 -- `line`: each arm is what its command does. Assumes nothing.
 use borrow.Author.Needs.{needs}
-use Rattle.replay.proofs.Turns.{line-nothing, line-unknown, line-call, line-save, line-load, line-table}
+use Rattle.replay.proofs.Turns.{line-nothing, line-unknown, line-call, line-save, line-load, line-panel, line-table}
 use Rattle.replay.proofs.turn.line.Statement.{statement}
 use Rattle.replay.proofs.turn.line.Tie as tie
 
@@ -101,7 +101,22 @@ same-length-12 : tie.Need-same-length-12
 same-length-12 c = search needs
 
 returns-6 : tie.Need-returns-6
-returns-6 c = search line-table
+returns-6 c = search line-panel
+
+enum-told-7 : tie.Need-enum-told-7
+enum-told-7 c = search needs
+
+plain-requires-5 : tie.Need-plain-requires-5
+plain-requires-5 c κs = search needs
+
+same-length-13 : tie.Need-same-length-13
+same-length-13 c = search needs
+
+same-length-14 : tie.Need-same-length-14
+same-length-14 c = search needs
+
+returns-7 : tie.Need-returns-7
+returns-7 c = search line-table
 
 pub line-spec : {M : Type 1} → statement M
 line-spec =
@@ -139,4 +154,9 @@ line-spec =
     plain-requires-4
     same-length-11
     same-length-12
-    returns-6)
+    returns-6
+    enum-told-7
+    plain-requires-5
+    same-length-13
+    same-length-14
+    returns-7)

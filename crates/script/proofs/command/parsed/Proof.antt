@@ -1,6 +1,6 @@
 -- `parsed`: one name after the other. Assumes nothing.
 use borrow.Author.Needs.{needs}
-use Rattle.script.proofs.Parsed.{nothing-is, found-named, begin-named, deliver-named, lookup-named, survey-named, verdict-named, sound-named, file-or-table}
+use Rattle.script.proofs.Parsed.{nothing-is, found-named, begin-named, deliver-named, lookup-named, survey-named, verdict-named, sound-named, file-or-shown}
 use Rattle.script.proofs.command.parsed.Statement.{statement}
 use Rattle.script.proofs.command.parsed.Tie as tie
 
@@ -94,11 +94,11 @@ ends-with-requires-3 c κs = search needs
 returns-8 : tie.Need-returns-8
 returns-8 c = search sound-named
 
-file-or-table-requires : tie.Need-file-or-table-requires
-file-or-table-requires c κs = search needs
+file-or-shown-requires : tie.Need-file-or-shown-requires
+file-or-shown-requires c κs = search needs
 
 returns-9 : tie.Need-returns-9
-returns-9 c = search file-or-table
+returns-9 c = search file-or-shown
 
 pub parsed-spec : {M : Type 1} → statement M
 parsed-spec =
@@ -134,5 +134,5 @@ parsed-spec =
     named-requires-7
     ends-with-requires-3
     returns-8
-    file-or-table-requires
+    file-or-shown-requires
     returns-9)

@@ -1,9 +1,9 @@
 -- `status`: each return is a case of the definition. Assumes nothing.
 use native.Mathlib.Omega.{arith}
 use borrow.Author.Needs.{needs}
-use Rattle.replay_table.proofs.Pieces.{settled-put, copying-put, waiting-put, notifying-put}
-use Rattle.replay_table.proofs.head.status.Statement.{statement}
-use Rattle.replay_table.proofs.head.status.Tie as tie
+use Rattle.replay_panel.proofs.Pieces.{settled-put, copying-put, waiting-put, notifying-put}
+use Rattle.replay_panel.proofs.record.status.Statement.{statement}
+use Rattle.replay_panel.proofs.record.status.Tie as tie
 
 slice-aggregate-piece : tie.Need-slice-aggregate-piece
 slice-aggregate-piece c = search needs

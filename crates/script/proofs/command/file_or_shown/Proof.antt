@@ -1,8 +1,8 @@
--- `file_or_table`: one name after the other. Assumes nothing.
-use Rattle.script.proofs.Parsed.{save-is, load-is, table-named, none-named}
+-- `file_or_shown`: one name after the other. Assumes nothing.
+use Rattle.script.proofs.Parsed.{save-is, load-is, panel-named, table-named, none-named}
 use borrow.Author.Needs.{needs}
-use Rattle.script.proofs.command.file_or_table.Statement.{statement}
-use Rattle.script.proofs.command.file_or_table.Tie as tie
+use Rattle.script.proofs.command.file_or_shown.Statement.{statement}
+use Rattle.script.proofs.command.file_or_shown.Tie as tie
 
 slice-aggregate-named : tie.Need-slice-aggregate-named
 slice-aggregate-named c = search needs
@@ -34,17 +34,29 @@ slice-aggregate-named-3 c = search needs
 named-requires-3 : tie.Need-named-requires-3
 named-requires-3 c κs = search needs
 
+ends-with-requires : tie.Need-ends-with-requires
+ends-with-requires c κs = search needs
+
+returns-3 : tie.Need-returns-3
+returns-3 c = search panel-named
+
+slice-aggregate-named-4 : tie.Need-slice-aggregate-named-4
+slice-aggregate-named-4 c = search needs
+
+named-requires-4 : tie.Need-named-requires-4
+named-requires-4 c κs = search needs
+
 table-requires : tie.Need-table-requires
 table-requires c κs = search needs
 
-returns-3 : tie.Need-returns-3
-returns-3 c = search table-named
-
 returns-4 : tie.Need-returns-4
-returns-4 c = search none-named
+returns-4 c = search table-named
 
-pub file-or-table-spec : {M : Type 1} → statement M
-file-or-table-spec =
+returns-5 : tie.Need-returns-5
+returns-5 c = search none-named
+
+pub file-or-shown-spec : {M : Type 1} → statement M
+file-or-shown-spec =
     tie.close
     (tie.spec
     slice-aggregate-named
@@ -57,6 +69,10 @@ file-or-table-spec =
     returns-2
     slice-aggregate-named-3
     named-requires-3
-    table-requires
+    ends-with-requires
     returns-3
-    returns-4)
+    slice-aggregate-named-4
+    named-requires-4
+    table-requires
+    returns-4
+    returns-5)

@@ -1,9 +1,9 @@
--- `status_end`: the status between two pieces. Assumes nothing.
+-- `status_end`: the status and the counts between two pieces. Assumes nothing.
 use native.Mathlib.Omega.{arith}
 use borrow.Author.Needs.{needs}
-use Rattle.putting.proofs.Putting.{three-pieces}
-use Rattle.replay_table.proofs.head.status_end.Statement.{statement}
-use Rattle.replay_table.proofs.head.status_end.Tie as tie
+use Rattle.putting.proofs.Putting.{four-pieces}
+use Rattle.replay_panel.proofs.record.status_end.Statement.{statement}
+use Rattle.replay_panel.proofs.record.status_end.Tie as tie
 
 slice-aggregate-piece : tie.Need-slice-aggregate-piece
 slice-aggregate-piece c = search needs
@@ -13,6 +13,9 @@ piece-requires c κs = search needs
 
 status-requires : tie.Need-status-requires
 status-requires c κs = search needs
+
+counts-requires : tie.Need-counts-requires
+counts-requires c κs = search needs
 
 slice-aggregate-piece-2 : tie.Need-slice-aggregate-piece-2
 slice-aggregate-piece-2 c = search needs
@@ -24,7 +27,7 @@ same-length : tie.Need-same-length
 same-length c = search needs
 
 returns : tie.Need-returns
-returns c = (search three-pieces, omega arith)
+returns c = (search four-pieces, omega arith)
 
 pub status-end-spec : {M : Type 1} → statement M
 status-end-spec =
@@ -33,6 +36,7 @@ status-end-spec =
     slice-aggregate-piece
     piece-requires
     status-requires
+    counts-requires
     slice-aggregate-piece-2
     piece-requires-2
     same-length

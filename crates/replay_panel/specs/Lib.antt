@@ -1,0 +1,2 @@
+-- What the contracts of the panel cite.
+pub mod PanelText
