@@ -1,5 +1,5 @@
-/* A small rig: founds a network, lets seven nodes join it at the same time, delivers until all are in system, looks nodes up, asks for the
- * verdict and the hop survey, saves the network as an image and reads it into other memory, after a look whether that holds a network already.
+/* A small rig: founds a network, lets seven nodes join it at the same time, delivers until all are in system, says what each join cost, looks nodes up, asks
+ * for the verdict and the hop survey, saves the network as an image and reads it into other memory, after a look whether that holds a network already.
  * README.md has the line that builds it; examples/rig.out is what it prints. */
 #include <stdio.h>
 #include <stdlib.h>
@@ -17,7 +17,7 @@ struct network {
 #define LENT(n) (n)->state, OVERLAY_STATE_WORDS, (n)->tables, OVERLAY_TABLE_BYTES
 
 static struct network first, second;
-static uint8_t image[OVERLAY_MOST_WRITTEN_BYTES];
+static uint8_t image[OVERLAY_MOST_WRITTEN_BYTES], again[OVERLAY_MOST_WRITTEN_BYTES];
 
 static const char *const refusals[] = {
     [0] = "taken",
@@ -124,6 +124,14 @@ static void print_survey(const struct network *network, unsigned digits)
     printf("lost pairs: %u\n", (unsigned)counts[OVERLAY_SURVEY_COUNTS - 1]);
 }
 
+/* What the join of each node cost. */
+static void print_costs(const struct network *network, unsigned nodes)
+{
+    for (unsigned node = 1; node <= nodes; node++)
+        printf("node %u: requests %u, notices %u\n", node, (unsigned)overlay_requests(network->state, node),
+               (unsigned)overlay_notices(network->state, node));
+}
+
 /* Founds with one node and begins the joins of the others, all by node 1. */
 static void begin_joins(struct network *network, const uint32_t *ids, unsigned nodes)
 {
@@ -166,7 +174,9 @@ static void save_and_read(const struct network *from, struct network *to, unsign
     print_refusal("read without its last byte", overlay_read(LENT(to), image, length - 1));
     read_disordered(to, nodes, length);
     taken("read", overlay_read(LENT(to), image, length));
-    printf("read: %s\n", memcmp(from, to, sizeof *from) == 0 ? "the same network" : "another network");
+    taken("write", overlay_write(LENT(to), again, sizeof again));
+    printf("read, and saved again: %s\n", memcmp(image, again, length) == 0 ? "the same bytes" : "other bytes");
+    printf("node %u after reading: requests %u\n", nodes, (unsigned)overlay_requests(to->state, nodes));
 }
 
 int main(void)
@@ -176,6 +186,7 @@ int main(void)
 
     begin_joins(&first, ids, nodes);
     printf("%u deliveries\n", settle(&first, nodes));
+    print_costs(&first, nodes);
     print_verdict(&first);
     for (unsigned to = 1; to <= nodes; to++)
         print_lookup(&first, nodes, to);

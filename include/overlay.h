@@ -6,7 +6,8 @@
  *
  * What a caller must keep; of a call where one of these fails nothing is promised:
  * - A pointer is valid for its length: so many elements may be read, and written unless they are const here. Where the length is 0 the
- *   pointer is not used, and may be NULL. counts comes without a length: it is valid for OVERLAY_SURVEY_COUNTS words, and never NULL.
+ *   pointer is not used, and may be NULL. counts comes without a length: it is valid for OVERLAY_SURVEY_COUNTS words, and never NULL. So does the state
+ *   of overlay_requests and overlay_notices: it is valid for OVERLAY_STATE_WORDS words, and never NULL.
  * - state and counts are aligned to 8.
  * - No two lent memories overlap: not state and tables, and neither of them an image, the memory for one, or counts.
  * - Nobody else writes lent memory during a call, nor reads what the call may write.
@@ -32,7 +33,7 @@ extern "C" {
 /* ---- version: of this header and of the archive that comes with it; CHANGES.md has a section for each */
 
 #define OVERLAY_VERSION_MAJOR 1
-#define OVERLAY_VERSION_MINOR 2
+#define OVERLAY_VERSION_MINOR 3
 
 /* ---- lengths */
 
@@ -163,6 +164,21 @@ static inline unsigned overlay_short_digit(uint64_t answer) { return (unsigned)(
 
 /* Of write, bits 8 to 39: the length of the image in bytes. */
 static inline uint32_t overlay_image_length(uint64_t answer) { return (uint32_t)(answer >> 8 & 0xffffffff); }
+
+/* ---- the counts of a node, read off a sound state: what its join cost. They stay when the node is in system; found and read set them to zero. A number that
+ * no node has gives 0, however large it is. These two do not judge the state, as the calls do: of one that is not sound they give the words that stand there. */
+
+/* The copy and wait requests that the node has sent: at most one more than an id has digits. */
+static inline uint64_t overlay_requests(const uint64_t *state, uint64_t node)
+{
+    return node >= 1 && node <= OVERLAY_MOST_NODES ? state[8 * node + 6] : 0;
+}
+
+/* The node's notices that were answered: at most 62. */
+static inline uint64_t overlay_notices(const uint64_t *state, uint64_t node)
+{
+    return node >= 1 && node <= OVERLAY_MOST_NODES ? state[8 * node + 7] : 0;
+}
 
 #ifdef __cplusplus
 }

@@ -1,5 +1,6 @@
-/* Calls every function of overlay.h with memories of length 0, but for the nine counts of a survey, and takes every field of an answer: C99 and
- * C++. Its answer is 0 where each call is refused by OVERLAY_SHORT_MEMORY. tools/check_header compiles and runs it. */
+/* Calls every function of overlay.h with memories of length 0, but for the nine counts of a survey, takes every field of an answer, and reads the counts
+ * of nodes: C99 and C++. Its answer is 0 where each call is refused by OVERLAY_SHORT_MEMORY, and where the counts are the words 8m + 6 and 8m + 7 of
+ * node m and 0 for a number that no node can have. tools/check_header compiles and runs it. */
 #include "overlay.h"
 
 static int refused(uint64_t answer)
@@ -11,12 +12,26 @@ static int refused(uint64_t answer)
            overlay_image_length(answer) == 0;
 }
 
+/* The counts of nodes 1 and 64, and of numbers that are none. */
+static int counts_read(void)
+{
+    static uint64_t state[OVERLAY_STATE_WORDS];
+    state[6] = state[7] = 1;
+    state[14] = 3;
+    state[15] = 62;
+    state[OVERLAY_STATE_WORDS - 2] = 9;
+    state[OVERLAY_STATE_WORDS - 1] = 4;
+    return overlay_requests(state, 1) == 3 && overlay_notices(state, 1) == 62 && overlay_requests(state, OVERLAY_MOST_NODES) == 9 &&
+           overlay_notices(state, OVERLAY_MOST_NODES) == 4 && overlay_requests(state, 0) == 0 && overlay_notices(state, 0) == 0 &&
+           overlay_requests(state, OVERLAY_MOST_NODES + 1) == 0 && overlay_notices(state, (uint64_t)1 << 63) == 0;
+}
+
 #define NONE NULL, 0
 
 int main(void)
 {
     uint64_t counts[OVERLAY_SURVEY_COUNTS];
-    return !(refused(overlay_found(NONE, NONE, 2, 2, 1, 0)) && refused(overlay_read(NONE, NONE, NONE)) &&
+    return !(counts_read() && refused(overlay_found(NONE, NONE, 2, 2, 1, 0)) && refused(overlay_read(NONE, NONE, NONE)) &&
              refused(overlay_begin(NONE, NONE, 0, 1)) && refused(overlay_deliver(NONE, NONE, 2, 1)) &&
              refused(overlay_lookup(NONE, NONE, 1, 1)) && refused(overlay_verdict(NONE, NONE)) &&
              refused(overlay_write(NONE, NONE, NONE)) && refused(overlay_sound(NONE, NONE)) &&
