@@ -1,8 +1,8 @@
 //! Times the proved engine beside the second one on the same calls, in one run: `cargo run --release --example bench`.
 //!
-//! A network grows to its size with joins in flight; then nodes are looked up in it, and it is judged, surveyed, written and read back. The
-//! two engines play this in turn for many rounds; a call counts with its shortest time over the rounds. The share of `sound` in a call is
-//! told by further rounds.
+//! A network grows to its size with joins in flight; then nodes are looked up in it, and it is judged, surveyed and written, with the counts of its
+//! joins, and read back last, as reading sets these to zero. The two engines play this in turn for many rounds; a call counts with its shortest time
+//! over the rounds. The share of `sound` in a call is told by further rounds.
 
 use std::hint::black_box;
 use std::time::Instant;
@@ -10,6 +10,7 @@ use std::time::Instant;
 use trials::archive::Archive;
 use trials::engine::{Engine, Second};
 use trials::lent::Lent;
+use trials::panel::panels;
 use trials::random::{fresh_id, Rng};
 use trials::script::Call;
 use trials::second::memory::{STATE_WORDS, TABLE_BYTES};
@@ -45,12 +46,11 @@ fn growth(settings: [u64; 3], nodes: usize, rng: &mut Rng) -> Vec<Call> {
     }
 }
 
-/// Calls on the grown network: lookups of each node, and as many of the calls that need no arguments.
+/// Calls on the grown network: lookups of each node, and as many of the calls that need no arguments; then as many readings.
 fn use_of(nodes: usize, image: &[u8], rng: &mut Rng) -> Vec<Call> {
-    let nodes = nodes as u64;
-    let calls = (1..=nodes).flat_map(|to| {
-        let from = rng.between(1, nodes);
-        let image = image.to_vec();
+    let numbers = 1..=nodes as u64;
+    let calls = numbers.flat_map(|to| {
+        let from = rng.between(1, nodes as u64);
         let looked = Call::Lookup { from, to };
         [
             looked,
@@ -58,10 +58,10 @@ fn use_of(nodes: usize, image: &[u8], rng: &mut Rng) -> Vec<Call> {
             Call::Verdict,
             Call::Survey,
             Call::Write,
-            Call::Read { image },
         ]
     });
-    calls.collect()
+    let image = image.to_vec();
+    calls.chain(vec![Call::Read { image }; nodes]).collect()
 }
 
 /// The calls of a round.
@@ -72,6 +72,9 @@ fn round(settings: [u64; 3], nodes: usize) -> Vec<Call> {
     for call in &calls {
         memory.call(&Second, call);
     }
+    let grown = panels(memory.used_state());
+    let joined = grown[1..nodes].iter().all(|panel| panel.requests > 1);
+    assert!(joined, "each node but the first has sent requests");
     let length = (memory.call(&Second, &Call::Write) >> 8) as usize;
     calls.extend(use_of(nodes, &memory.out[..length], &mut rng));
     calls

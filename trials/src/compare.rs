@@ -1,10 +1,12 @@
 //! One script on two engines: every answer, every byte of memory, output and counts after every call, what any
-//! engine must leave alone, what a refusal may have beside its number, and that a survey adds up.
+//! engine must leave alone, what a refusal may have beside its number, that a survey adds up, and that each node's
+//! two counts are those of the history.
 
 use std::fmt::{self, Display, Formatter};
 
 use crate::engine::Engine;
 use crate::lent::Lent;
+use crate::panel::History;
 use crate::script::{Call, Line, Script};
 use crate::second::memory::{STATE_WORDS, TABLE_BYTES};
 use crate::second::LOST;
@@ -36,6 +38,7 @@ pub struct Pair<'a> {
     engines: [&'a dyn Engine; 2],
     memories: [Lent; 2],
     before: Lent,
+    history: History,
 }
 
 impl<'a> Pair<'a> {
@@ -44,11 +47,16 @@ impl<'a> Pair<'a> {
             engines: [a, b],
             memories: [Lent::noise(), Lent::noise()],
             before: Lent::noise(),
+            history: History::from_here(Lent::noise().used_state()),
         }
     }
 
     pub fn memory(&self) -> &Lent {
         &self.memories[0]
+    }
+
+    pub fn history(&self) -> &History {
+        &self.history
     }
 
     /// Does what the line says with both engines; a call's packed answer, 0 for other lines.
@@ -57,20 +65,23 @@ impl<'a> Pair<'a> {
         self.before.clone_from(&self.memories[0]);
         let [answer, other] = [0, 1].map(|at| self.memories[at].obey(self.engines[at], line));
         self.differ(answer, other)?;
-        let after = self.memory();
+        let after = &self.memories[0];
         left_alone(line, answer, &self.before, after)?;
         if *line == Line::Call(Call::Survey) && answer == 0 {
             adds_up(after.used_state(), after.used_counts())?;
         }
+        self.history.note(line, answer, after.used_state());
+        self.history.stands_in(after.used_state())?;
         Ok(answer)
     }
 
-    /// Puts words and bytes at the start of both memories.
+    /// Puts words and bytes at the start of both memories; each node starts with the counts that it has there.
     pub fn restore(&mut self, words: &[u64], bytes: &[u8]) {
         for memory in &mut self.memories {
             memory.state[..words.len()].copy_from_slice(words);
             memory.tables[..bytes.len()].copy_from_slice(bytes);
         }
+        self.history = History::from_here(self.memories[0].used_state());
     }
 
     fn differ(&self, answer: u64, other: u64) -> Result<(), String> {

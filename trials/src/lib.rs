@@ -8,6 +8,7 @@
 //! - `lent`: the memory that a caller lends, with guard space around what is lent.
 //! - `compare`: runs one script on two engines and finds the first difference.
 //! - `surveys`: what holds of every survey.
+//! - `panel`: what holds of each node's two counts.
 //! - `paper`: the images of document 01.
 //! - `by_hand`: other images, some with the counts of their survey.
 //! - `records`: images with bad records, and what reading must answer to each.
@@ -21,6 +22,7 @@ pub mod compare;
 pub mod engine;
 pub mod fenced;
 pub mod lent;
+pub mod panel;
 pub mod paper;
 pub mod random;
 pub mod records;

@@ -1,5 +1,6 @@
 //! A small seeded generator, and from it settings, ids, runs, states and images.
 
+mod calls;
 mod damage;
 mod ids;
 mod images;
@@ -7,6 +8,7 @@ mod runs;
 mod seeds;
 mod states;
 
+pub use calls::judging_calls;
 pub use damage::damage;
 pub use ids::{bad_id, bad_number, fresh_id, id, settings};
 pub use images::{

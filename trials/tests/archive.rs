@@ -14,6 +14,8 @@ mod images;
 mod judging;
 #[path = "archive/orders.rs"]
 mod orders;
+#[path = "archive/panel.rs"]
+mod panel;
 #[path = "archive/records.rs"]
 mod records;
 #[path = "archive/runs.rs"]

@@ -6,6 +6,8 @@ mod differences;
 mod edges;
 #[path = "second_engine/images.rs"]
 mod images;
+#[path = "second_engine/panel.rs"]
+mod panel;
 #[path = "second_engine/plain.rs"]
 mod plain;
 #[path = "second_engine/plain_records.rs"]
@@ -22,9 +24,13 @@ mod runs;
 mod scripts;
 #[path = "second_engine/soundness.rs"]
 mod soundness;
+#[path = "second_engine/spoiled.rs"]
+mod spoiled;
 #[path = "second_engine/support.rs"]
 mod support;
 #[path = "second_engine/survey.rs"]
 mod survey;
+#[path = "second_engine/wrong_counts.rs"]
+mod wrong_counts;
 #[path = "second_engine/wrong_turns.rs"]
 mod wrong_turns;

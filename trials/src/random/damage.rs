@@ -1,11 +1,14 @@
 //! Damage of a state at one place.
 
+use std::ops::RangeInclusive;
+
 use super::Rng;
 use crate::lent::Lent;
+use crate::panel::{around, Bounds};
 use crate::script::Line;
 use crate::second::memory::{COUNT, STATE_WORDS, TABLE_BYTES};
 
-/// A line that changes one word or one byte of a state, mostly where a node's things lie.
+/// A line that changes one word or one byte of a sound state, mostly where a node's things lie.
 pub fn damage(rng: &mut Rng, memory: &Lent) -> Line {
     let count = memory.state[COUNT] as usize;
     if rng.once_in(2) {
@@ -14,7 +17,11 @@ pub fn damage(rng: &mut Rng, memory: &Lent) -> Line {
             1 => rng.below(8),
             _ => 8 + rng.below(8 * count),
         };
-        let value = changed_word(rng, memory.state[place], count);
+        let near = bounds(memory, place).filter(|_| rng.once_in(2));
+        let value = match near {
+            Some(range) => rng.pick(&around(&range)),
+            None => changed_word(rng, memory.state[place], count),
+        };
         Line::Word { place, value }
     } else {
         let place = match rng.below(8) {
@@ -24,6 +31,18 @@ pub fn damage(rng: &mut Rng, memory: &Lent) -> Line {
         };
         let value = changed_byte(rng, memory.tables[place], count);
         Line::Byte { place, value }
+    }
+}
+
+/// What the word may be if it is one of a node's two counts.
+fn bounds(memory: &Lent, place: usize) -> Option<RangeInclusive<u64>> {
+    let node = place / 8;
+    let is_node = (1..=memory.state[COUNT] as usize).contains(&node);
+    let bounds = is_node.then(|| Bounds::of(memory.used_state(), node))?;
+    match place % 8 {
+        6 => Some(bounds.requests),
+        7 => Some(bounds.notices),
+        _ => None,
     }
 }
 

@@ -3,9 +3,10 @@
 use super::{fresh_id, id, run, settings, Rng};
 use crate::engine::Second;
 use crate::lent::Lent;
+use crate::panel::Bounds;
 use crate::script::{Call, Line};
 use crate::second::memory::{self, State, Tables, STATE_WORDS, TABLE_BYTES};
-use crate::second::network::{Network, Node, Status};
+use crate::second::network::{Network, Node, Panel, Status};
 use crate::second::table::Table;
 use crate::second::{digit, NodeSet};
 
@@ -72,35 +73,56 @@ fn built_network(rng: &mut Rng) -> Network {
             break;
         };
         let status = Status::InSystem;
-        network.add(Node { id, status });
+        let panel = Panel::default();
+        network.add(Node { id, status, panel });
     }
     for number in 2..=network.count() {
         network.node_mut(number).status = built_status(rng, &network, number);
     }
+    build_panels(rng, &mut network);
     network
+}
+
+/// Counts that the statuses allow, often at their bounds.
+fn build_panels(rng: &mut Rng, network: &mut Network) {
+    let mut state = [0; STATE_WORDS];
+    network.encode(&mut state);
+    for number in 1..=network.count() {
+        let Bounds { requests, notices } = Bounds::of(&state, number);
+        let [requests, notices] = [requests, notices].map(|range| {
+            let (least, most) = (*range.start(), *range.end());
+            let inside = rng.between(least, most);
+            rng.pick(&[least, inside, most])
+        });
+        network.node_mut(number).panel = Panel { requests, notices };
+    }
 }
 
 /// A status that the nodes before this one allow; later ones stay as they are or begin a join of their own.
 fn built_status(rng: &mut Rng, network: &Network, number: usize) -> Status {
-    let joining =
-        |node: &Node| matches!(node.status, Status::Copying { .. } | Status::Waiting { .. });
     let before = network.iter().take(number - 1);
-    let attached = before.filter(|(_, node)| !joining(node));
+    let attached = before.filter(|(_, node)| !node.joining());
     let attached: Vec<usize> = attached.map(|(other, _)| other).collect();
     let target = rng.pick(&attached);
     match rng.below(4) {
         0 => Status::InSystem,
         1 if network.node(target).in_system() => Status::Copying { target },
         2 => Status::Waiting { target },
-        _ => built_notifying(rng, network, number, &attached),
+        _ if attached.len() > 1 => built_notifying(rng, network, number, &attached),
+        _ => Status::InSystem,
     }
 }
 
 fn built_notifying(rng: &mut Rng, network: &Network, number: usize, attached: &[usize]) -> Status {
-    let sure = rng.pick(attached);
-    let mut pending = NodeSet::only(sure);
-    let mut notified = NodeSet::default();
-    for &other in attached.iter().filter(|&&other| other != sure) {
+    let place = rng.below(attached.len());
+    let next = (place + 1) % attached.len();
+    let (asked, told) = (attached[place], attached[next]);
+    let mut pending = NodeSet::only(asked);
+    let mut notified = NodeSet::only(told);
+    for &other in attached
+        .iter()
+        .filter(|&&other| other != asked && other != told)
+    {
         match rng.below(3) {
             0 => pending.insert(other),
             1 => notified.insert(other),
@@ -125,10 +147,11 @@ fn built_table(rng: &mut Rng, network: &Network, owner: usize) -> Table {
     let mut table = Table::own_entries(settings, owner, own_id);
     for _ in 0..rng.below(200) {
         let node = 1 + rng.below(network.count());
-        let Node { id, status } = *network.node(node);
-        if matches!(status, Status::Copying { .. } | Status::Waiting { .. }) || node == owner {
+        let other = network.node(node);
+        if other.joining() || node == owner {
             continue;
         }
+        let id = other.id;
         let level = rng.below(settings.common_suffix(own_id, id) + 1);
         table.append(level, digit(id, level), node);
     }

@@ -1,8 +1,8 @@
-//! Beginning a join: one more node, copying, that knows itself and its gateway.
+//! Beginning a join: one more node, copying, that knows itself and has sent a request to its gateway.
 
 use super::answers::{Answer, BeginAnswer};
 use super::memory::{self, MOST_NODES};
-use super::network::{Network, Node, Status};
+use super::network::{Network, Node, Panel, Status};
 use super::refusal::Refusal;
 use super::soundness::lent_and_sound;
 use super::table::Table;
@@ -28,7 +28,11 @@ fn try_begin(
     Refusal::GatewayNotInSystem.when(!network.node(gateway).in_system())?;
 
     let status = Status::Copying { target: gateway };
-    let number = network.add(Node { id, status });
+    let panel = Panel {
+        requests: 1,
+        notices: 0,
+    };
+    let number = network.add(Node { id, status, panel });
     network.encode(state);
     Table::own_entries(settings, number, id).encode(memory::table_bytes_mut(tables, number));
     Ok(BeginAnswer {

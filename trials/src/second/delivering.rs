@@ -41,7 +41,7 @@ fn try_deliver(
     let (state, tables) = memory::lent_mut(state, tables).ok_or(Refusal::ShortMemory)?;
     let network = Network::decode(state);
     let (sender, receiver) = (network.number(sender)?, network.number(receiver)?);
-    Refusal::NotOutstanding.when(!network.node(sender).requests(receiver))?;
+    Refusal::NotOutstanding.when(!network.node(sender).asks(receiver))?;
     let waiting = matches!(network.node(sender).status, Status::Waiting { .. });
     Refusal::Held.when(waiting && !network.node(receiver).in_system())?;
 
@@ -85,7 +85,8 @@ impl Kind {
 
 impl Delivery {
     fn perform(&mut self) -> Kind {
-        match self.network.node(self.sender).status {
+        let before = *self.network.node(self.sender);
+        let kind = match before.status {
             Status::Copying { .. } => self.copy(),
             Status::Waiting { .. } => self.wait(),
             Status::Notifying {
@@ -94,6 +95,18 @@ impl Delivery {
                 notified,
             } => self.notify(attach_level, pending, notified),
             Status::InSystem => unreachable!("a node in the system has nothing outstanding"),
+        };
+        self.count(before.joining());
+        kind
+    }
+
+    /// A sender that goes on copying or waiting has sent one more request; one that was notifying already has one more notice answered.
+    fn count(&mut self, was_joining: bool) {
+        let sender = self.network.node_mut(self.sender);
+        if sender.joining() {
+            sender.panel.requests += 1;
+        } else if !was_joining {
+            sender.panel.notices += 1;
         }
     }
 

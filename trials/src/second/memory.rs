@@ -9,7 +9,7 @@ pub const MOST_NODES: usize = 64;
 
 pub type State = [u64; STATE_WORDS];
 pub type Tables = [u8; TABLE_BYTES];
-/// id, status, attach level, target, pending, notified, and two unused words.
+/// id, status, attach level, target, pending, notified, requests, notices.
 pub type Record = [u64; 8];
 pub type TableBytes = [u8; 512];
 pub type EntryBytes = [u8; 4];

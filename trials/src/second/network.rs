@@ -1,4 +1,4 @@
-//! The records of a sound state as a `Network`: settings, and each node's id and status with what belongs to it.
+//! The records of a sound state as a `Network`: settings, and each node's id, its status with what belongs to it, and its counts.
 
 use super::memory::{self, Record, State, BASE, COUNT, DEPTH, DIGITS};
 use super::node_set::NodeSet;
@@ -23,10 +23,20 @@ pub enum Status {
     },
 }
 
+/// A node's two counts, document 02's front panel.
+#[derive(Clone, Copy, Debug, Default, PartialEq, Eq, Hash)]
+pub struct Panel {
+    /// Copy and wait requests sent.
+    pub requests: u64,
+    /// Notices answered.
+    pub notices: u64,
+}
+
 #[derive(Clone, Copy, Debug, PartialEq, Eq)]
 pub struct Node {
     pub id: u32,
     pub status: Status,
+    pub panel: Panel,
 }
 
 #[derive(Clone, Debug, PartialEq, Eq)]
@@ -41,6 +51,11 @@ impl Node {
         self.status == Status::InSystem
     }
 
+    /// Copying or waiting: nobody else stores it yet.
+    pub fn joining(&self) -> bool {
+        matches!(self.status, Status::Copying { .. } | Status::Waiting { .. })
+    }
+
     /// The lowest level at which others store this node.
     pub fn floor(&self) -> usize {
         match self.status {
@@ -50,7 +65,7 @@ impl Node {
     }
 
     /// Is a request from this node to `receiver` outstanding?
-    pub fn requests(&self, receiver: usize) -> bool {
+    pub fn asks(&self, receiver: usize) -> bool {
         match self.status {
             Status::InSystem => false,
             Status::Copying { target } | Status::Waiting { target } => target == receiver,
@@ -59,7 +74,7 @@ impl Node {
     }
 
     fn decode(record: &Record) -> Node {
-        let [id, status, attach_level, target, pending, notified, ..] = *record;
+        let [id, status, attach_level, target, pending, notified, requests, notices] = *record;
         let target = target as usize;
         let status = match status {
             0 => Status::InSystem,
@@ -74,30 +89,43 @@ impl Node {
         Node {
             id: id as u32,
             status,
+            panel: Panel { requests, notices },
         }
     }
 
     fn encode(&self) -> Record {
-        let id = self.id.into();
-        match self.status {
-            Status::InSystem => [id, 0, 0, 0, 0, 0, 0, 0],
-            Status::Copying { target } => [id, 1, 0, target as u64, 0, 0, 0, 0],
-            Status::Waiting { target } => [id, 2, 0, target as u64, 0, 0, 0, 0],
+        let (number, attach_level, target, pending, notified) = match self.status {
+            Status::InSystem => (0, 0, 0, 0, 0),
+            Status::Copying { target } => (1, 0, target as u64, 0, 0),
+            Status::Waiting { target } => (2, 0, target as u64, 0, 0),
             Status::Notifying {
                 attach_level,
                 pending,
                 notified,
-            } => [id, 3, attach_level as u64, 0, pending.0, notified.0, 0, 0],
-        }
+            } => (3, attach_level as u64, 0, pending.0, notified.0),
+        };
+        let id = self.id.into();
+        let Panel { requests, notices } = self.panel;
+        [
+            id,
+            number,
+            attach_level,
+            target,
+            pending,
+            notified,
+            requests,
+            notices,
+        ]
     }
 }
 
 impl Network {
-    /// A network whose nodes are all in system.
+    /// A network whose nodes are all in system and have sent nothing.
     pub fn settled(settings: Settings, ids: &[u32]) -> Network {
         let in_system = |&id| Node {
             id,
             status: Status::InSystem,
+            panel: Panel::default(),
         };
         Network {
             settings,
@@ -172,7 +200,7 @@ impl Network {
         let numbers = 1..=self.count();
         self.iter()
             .flat_map(|(sender, node)| {
-                let open = numbers.clone().filter(|&receiver| node.requests(receiver));
+                let open = numbers.clone().filter(|&receiver| node.asks(receiver));
                 open.map(move |receiver| (sender, receiver))
             })
             .collect()

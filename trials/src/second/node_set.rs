@@ -28,6 +28,10 @@ impl NodeSet {
         self.0 == 0
     }
 
+    pub fn len(self) -> usize {
+        self.0.count_ones() as usize
+    }
+
     pub fn is_subset(self, of: NodeSet) -> bool {
         self.0 & !of.0 == 0
     }

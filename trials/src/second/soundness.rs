@@ -1,10 +1,13 @@
-//! The judge of a state: every clause of the paper's paragraph, straight on the memory.
+//! The judge of a state: every clause of document 01's paragraph, and of document 02's on the counts, straight on the memory.
 
 use super::memory::{self, EntryBytes, Record, State, Tables, BASE, COUNT, DEPTH, DIGITS};
 use super::memory::{MOST_NODES, TABLE_BYTES};
 use super::node_set::NodeSet;
 use super::refusal::Refusal;
 use super::settings::{digit, Settings};
+
+/// A node tells at most the 63 others, and the first of them by attaching.
+const MOST_NOTICES: u64 = MOST_NODES as u64 - 2;
 
 /// What the clauses about one node need to know of all of them.
 struct Judge {
@@ -95,19 +98,32 @@ impl Judge {
     }
 
     fn record_is_sound(&self, number: usize, record: &Record) -> bool {
-        let [_, status, attach_level, target, pending, notified, unused, unused_too] = *record;
-        let joining_only = attach_level == 0 && pending == 0 && notified == 0;
-        let fields = match status {
-            0 => target == 0 && joining_only,
-            1 => self.has(self.in_system, target) && joining_only,
-            2 => self.has(self.attached, target) && joining_only,
+        let [_, status, attach_level, target, pending, notified, requests, notices] = *record;
+        let no_notifying = attach_level == 0 && pending == 0 && notified == 0;
+        let joining = |targets: NodeSet, more: u64| {
+            self.has(targets, target)
+                && no_notifying
+                && requests <= self.common_suffix(number, target as usize) + more
+                && notices == 0
+        };
+        let after_attaching = target == 0 && requests <= self.settings.digits() as u64 + 1;
+        match status {
+            0 => after_attaching && no_notifying && notices <= MOST_NOTICES,
+            1 => joining(self.in_system, 1),
+            2 => joining(self.attached, 2),
             3 => {
-                let sets = (NodeSet(pending), NodeSet(notified));
-                target == 0 && self.notifying_is_sound(number, attach_level, sets)
+                let (pending, notified) = (NodeSet(pending), NodeSet(notified));
+                after_attaching
+                    && self.notifying_is_sound(number, attach_level, (pending, notified))
+                    && notices.checked_add(1) == Some(notified.len() as u64)
             }
             _ => false,
-        };
-        fields && unused == 0 && unused_too == 0
+        }
+    }
+
+    fn common_suffix(&self, one: usize, other: usize) -> u64 {
+        let (one, other) = (self.ids[one], self.ids[other]);
+        self.settings.common_suffix(one, other) as u64
     }
 
     /// Is the word the number of a node in the set?
@@ -128,12 +144,9 @@ impl Judge {
             && pending.is_subset(others)
             && pending.is_disjoint(notified)
             && notified.is_subset(others)
-            && pending.iter().all(|node| {
-                let common = self
-                    .settings
-                    .common_suffix(self.ids[number], self.ids[node]);
-                common as u64 >= attach_level
-            })
+            && pending
+                .iter()
+                .all(|node| self.common_suffix(number, node) >= attach_level)
     }
 
     fn table_is_sound(&self, number: usize, table: &memory::TableBytes) -> bool {

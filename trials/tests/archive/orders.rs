@@ -12,12 +12,12 @@ use trials::second::{sound, Settings, LOST};
 const MOST: usize = 4;
 const CONSISTENT: u64 = 0x100;
 
-/// A point of a run: the memory that four nodes use, and how many requests each node has sent.
+/// A point of a run: the memory that four nodes use. After each call both engines are held to what its history adds to the counts there, so that
+/// these are the history's.
 #[derive(Clone, PartialEq, Eq, Hash)]
 struct Point {
     words: [u64; 8 * (MOST + 1)],
     bytes: [u8; 512 * MOST],
-    sent: [u8; MOST],
 }
 
 /// How a point was reached first: from which one, by which call.
@@ -54,7 +54,7 @@ impl Walk {
             ends: 0,
         };
         walk.pair.obey(&Line::Call(call.clone())).unwrap();
-        walk.note(0, call, [0; MOST]);
+        walk.note(0, call);
         walk
     }
 
@@ -66,11 +66,10 @@ impl Walk {
     }
 
     /// The memory now, if new, is a point to go on from.
-    fn note(&mut self, from: usize, call: Call, sent: [u8; MOST]) {
+    fn note(&mut self, from: usize, call: Call) {
         let point = Point {
             words: *self.pair.memory().state.first_chunk().unwrap(),
             bytes: *self.pair.memory().tables.first_chunk().unwrap(),
-            sent,
         };
         if self.seen.insert(point.clone()) {
             self.open.push((self.steps.len(), point));
@@ -86,7 +85,7 @@ impl Walk {
             let [verdict, written] =
                 [Call::Verdict, Call::Write].map(|call| self.call(place, &point, &call));
             self.call(place, &point, &Call::Survey);
-            let judged = self.judge(&network, &point, [verdict, written & 0xff]);
+            let judged = self.judge(&network, [verdict, written & 0xff]);
             judged.unwrap_or_else(|what| panic!("{}", self.report(place, what)));
             self.begin_each(place, &point, &network);
             let outstanding = network.outstanding();
@@ -107,7 +106,7 @@ impl Walk {
     }
 
     /// What holds at every point, of which a survey was taken last: `ends` is the verdict's answer and the refusal of writing.
-    fn judge(&self, network: &Network, point: &Point, ends: [u64; 2]) -> Result<(), String> {
+    fn judge(&self, network: &Network, ends: [u64; 2]) -> Result<(), String> {
         let (state, tables) = (
             self.pair.memory().used_state(),
             self.pair.memory().used_tables(),
@@ -115,12 +114,10 @@ impl Walk {
         if !sound(state, tables) {
             return Err("the state is not sound".to_string());
         }
-        if point
-            .sent
-            .iter()
-            .any(|&sent| usize::from(sent) > self.settings.digits() + 1)
-        {
-            return Err(format!("sent {:?}", point.sent));
+        let most = self.settings.digits() as u64 + 1;
+        let history = self.pair.history();
+        if history.requests().any(|sent| sent > most) {
+            return Err(format!("{history:?}"));
         }
         let expected = if network.all_in_system() {
             [CONSISTENT, 0]
@@ -150,9 +147,7 @@ impl Walk {
                 };
                 let answer = self.call(place, point, &call);
                 if answer & 0xff == 0 {
-                    let mut sent = point.sent;
-                    sent[network.count()] += 1;
-                    self.note(place, call, sent);
+                    self.note(place, call);
                 }
             }
         }
@@ -167,9 +162,7 @@ impl Walk {
         if answer & 0xff != 0 {
             return false;
         }
-        let mut sent = point.sent;
-        sent[sender - 1] += u8::from(matches!(answer >> 8 & 0xff, 1 | 2));
-        self.note(place, call, sent);
+        self.note(place, call);
         true
     }
 

@@ -4,9 +4,7 @@ use trials::archive::Archive;
 use trials::compare::compare;
 use trials::engine::Second;
 use trials::lent::Lent;
-use trials::random::{
-    bad_number, damage, fresh_id, image, run, run_from_built, run_in, seeds, Rng,
-};
+use trials::random::{damage, image, judging_calls, run, run_from_built, run_in, seeds, Rng};
 use trials::script::{Call, Line, Script};
 use trials::second::network::Network;
 use trials::second::Settings;
@@ -44,38 +42,6 @@ fn runs_from_any_sound_state_agree() {
     }
 }
 
-/// A call of each kind that judges the state: arguments mostly good, now and then a bad number.
-fn calls(rng: &mut Rng, network: &Network) -> [Call; 7] {
-    let count = network.count();
-    let node = |rng: &mut Rng| match rng.below(8) {
-        0 => bad_number(rng, count),
-        _ => rng.between(1, count as u64),
-    };
-    let outstanding = network.outstanding();
-    let (sender, receiver) = match outstanding.is_empty() {
-        true => (node(rng), node(rng)),
-        false => {
-            let (sender, receiver) = rng.pick(&outstanding);
-            (sender as u64, receiver as u64)
-        }
-    };
-    [
-        Call::Sound,
-        Call::Survey,
-        Call::Verdict,
-        Call::Write,
-        Call::Lookup {
-            from: node(rng),
-            to: node(rng),
-        },
-        Call::Deliver { sender, receiver },
-        Call::Begin {
-            id: fresh_id(rng, network).unwrap_or(0),
-            gateway: node(rng),
-        },
-    ]
-}
-
 /// The line that undoes a damage.
 fn undone(line: &Line, memory: &Lent) -> Line {
     match *line {
@@ -101,7 +67,7 @@ fn calls_on_damaged_states_agree() {
             let line = damage(&mut rng, &memory);
             let undo = undone(&line, &memory);
             script.lines.push(line);
-            calls(&mut rng, &network)
+            judging_calls(&mut rng, &network)
                 .into_iter()
                 .for_each(|call| script.call(call));
             script.lines.push(undo);

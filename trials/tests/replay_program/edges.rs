@@ -106,17 +106,17 @@ refused 2: the state is not sound
 refused 2: the state is not sound
 refused 2: the state is not sound
 found: node 1
-table 1: id fa0, settled
+table 1: id fa0, settled, requests 0, notices 0
   level 0 digit 0: 1
   level 1 digit a: 1
   level 2 digit f: 1
 begin: node 2
-table 2: id 0b0, copying
+table 2: id 0b0, copying, requests 1, notices 0
   level 0 digit 0: 2
   level 1 digit b: 2
   level 2 digit 0: 2
 deliver: copied
-table 2: id 0b0, waiting
+table 2: id 0b0, waiting, requests 2, notices 0
   level 0 digit 0: 2 1
   level 1 digit a: 1
   level 1 digit b: 2
@@ -127,6 +127,55 @@ refused 9: a node number is 0 or above the number of nodes
 refused 9: a node number is 0 or above the number of nodes
 ";
     assert_eq!(printed(script), expected);
+}
+
+/// Of the panels of a network in which node 4 waits for node 3, which has a notice open; then node 3 has it answered and settles.
+const PANELS: &str = "\
+refused 2: the state is not sound
+found: node 1
+node 1: id 000, settled, requests 0, notices 0
+begin: node 2
+node 1: id 000, settled, requests 0, notices 0
+node 2: id 100, copying, requests 1, notices 0
+deliver: copied
+deliver: attached at level 2, settled
+begin: node 3
+deliver: copied
+deliver: attached at level 1
+begin: node 4
+deliver: copied
+node 1: id 000, settled, requests 0, notices 0
+node 2: id 100, settled, requests 2, notices 0
+node 3: id 010, notifying, requests 2, notices 0
+node 4: id 110, waiting, requests 2, notices 0
+line 14: not understood
+line 15: not understood
+line 16: not understood
+line 17: not understood
+line 18: not understood
+refused 14: the receiver of a wait request is not settled
+deliver: notified, settled
+node 1: id 000, settled, requests 0, notices 0
+node 2: id 100, settled, requests 2, notices 0
+node 3: id 010, settled, requests 2, notices 1
+node 4: id 110, waiting, requests 2, notices 0
+table 3: id 010, settled, requests 2, notices 1
+  level 0 digit 0: 3
+  level 1 digit 0: 1
+  level 1 digit 1: 3
+  level 2 digit 0: 3
+refused 15: a node is not settled
+load: the file cannot be read
+node 1: id 000, settled, requests 0, notices 0
+node 2: id 100, settled, requests 2, notices 0
+node 3: id 010, settled, requests 2, notices 1
+node 4: id 110, waiting, requests 2, notices 0
+";
+
+#[test]
+fn panels_before_founding_and_while_nodes_join() {
+    let script = b"panel\nfound 2 3 1 0\npanel\nbegin 100 1\npanel\ndeliver 2 1\ndeliver 2 1\nbegin 10 1\ndeliver 3 1\ndeliver 3 1\nbegin 110 1\ndeliver 4 1\n\tpanel # four\npanel 1\npanels\npanel x\npanel panel\nPanel\ndeliver 4 3\ndeliver 3 2\npanel\ntable 3\nsave a\nload a\npanel";
+    assert_eq!(printed(script), PANELS);
 }
 
 #[test]
@@ -177,6 +226,12 @@ fn section_is_printed(heading: &str, sample: &str) {
     let script = script.replace("samples/", "");
     let printed = printed_beside(&[(sample.into(), image)], script.as_bytes());
     assert_eq!(printed, lines);
+}
+
+#[test]
+fn the_panel_of_the_page_is_printed() {
+    let [script, lines] = blocks("## The panel\n");
+    assert_eq!(printed(script.as_bytes()), lines);
 }
 
 #[test]
@@ -314,6 +369,7 @@ fn name(line: &Line) -> &'static str {
             Command::Save { .. } => "save",
             Command::Load { .. } => "load",
             Command::Table { .. } => "table",
+            Command::Panel => "panel",
         },
     }
 }
@@ -334,6 +390,7 @@ fn the_script_of_the_docs_has_every_command_and_prints_what_stands_beside_it() {
         "load",
         "lookup",
         "not understood",
+        "panel",
         "save",
         "sound",
         "survey",

@@ -12,6 +12,7 @@ pub enum Command {
     Save { file: Vec<u8> },
     Load { file: Vec<u8> },
     Table { node: u64 },
+    Panel,
 }
 
 #[derive(Clone, Debug, PartialEq, Eq)]
@@ -66,6 +67,7 @@ fn command(words: &[&[u8]]) -> Option<Command> {
         [b"table", node] => Command::Table {
             node: number(node)?,
         },
+        [b"panel"] => Command::Panel,
         _ => return None,
     })
 }

@@ -13,7 +13,7 @@ use trials::second::Counts;
 
 use crate::language::{lines, Command, Line};
 use crate::support::Folder;
-use crate::words::{delivered, field, judged, looked_up, refused, said, surveyed, tabled};
+use crate::words::{delivered, field, judged, looked_up, panelled, said, shown, surveyed, tabled};
 
 /// The longest script that is played.
 pub const LONGEST_SCRIPT: usize = 1_048_575;
@@ -103,9 +103,8 @@ impl<'a> Player<'a> {
             }
             Command::Save { file } => self.save(file),
             Command::Load { file } => self.load(file),
-            Command::Table { node } => {
-                tabled(state, tables, *node).unwrap_or_else(|refusal| refused(refusal as u64, 0))
-            }
+            Command::Table { node } => shown(tabled(state, tables, *node)),
+            Command::Panel => shown(panelled(state, tables)),
         }
     }
 

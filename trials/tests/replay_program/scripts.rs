@@ -1,4 +1,4 @@
-//! Random scripts of commands in any layout, with tables, surveys and judgements of soundness among the calls.
+//! Random scripts of commands in any layout, with tables, panels, surveys and judgements of soundness among the calls.
 
 use std::collections::BTreeMap;
 
@@ -21,7 +21,7 @@ struct Maker<'a> {
 pub struct Made {
     pub text: Vec<u8>,
     commands: Vec<Command>,
-    /// What each `table`, each `sound` and each `survey` was answered, its first line.
+    /// What each `table`, each `panel`, each `sound` and each `survey` was answered, line by line of a panel, else its first line.
     looks: Vec<(&'static str, String)>,
     /// What the script reads and has not written itself.
     pub files: Vec<File>,
@@ -76,9 +76,10 @@ impl<'a> Maker<'a> {
         }
     }
 
-    /// With a survey and the table of every node at the end.
+    /// With a survey, a panel and the table of every node at the end.
     fn end(mut self) -> Made {
         self.command(Command::Survey);
+        self.command(Command::Panel);
         for node in 0..=self.player.count() as u64 + 1 {
             self.command(Command::Table { node });
         }
@@ -90,12 +91,18 @@ impl<'a> Maker<'a> {
 impl Maker<'_> {
     fn command(&mut self, command: Command) {
         let answer = self.player.play(&command);
-        let first = answer.lines().next().expect("an answer").to_string();
-        match command {
-            Command::Table { .. } => self.made.looks.push(("table", first)),
-            Command::Sound => self.made.looks.push(("sound", first)),
-            Command::Survey => self.made.looks.push(("survey", first)),
-            _ => {}
+        let looks = match command {
+            Command::Table { .. } => Some(("table", 1)),
+            Command::Panel => Some(("panel", usize::MAX)),
+            Command::Sound => Some(("sound", 1)),
+            Command::Survey => Some(("survey", 1)),
+            _ => None,
+        };
+        if let Some((name, most)) = looks {
+            let lines = answer.lines().take(most);
+            self.made
+                .looks
+                .extend(lines.map(|line| (name, line.to_string())));
         }
         write_line(self.rng, &command, &mut self.made.text);
         self.made.commands.push(command);
@@ -109,6 +116,7 @@ impl Maker<'_> {
             let file = b"early".to_vec();
             let commands = [
                 Command::Table { node: one },
+                Command::Panel,
                 Command::Sound,
                 Command::Verdict,
                 Command::Survey,
@@ -183,11 +191,14 @@ impl Maker<'_> {
         name
     }
 
-    /// At times a table, at times a judgement of soundness or a survey.
+    /// At times a table, at times a panel, a judgement of soundness or a survey.
     fn look(&mut self) {
         if self.rng.once_in(3) {
             let node = self.number();
             self.command(Command::Table { node });
+        }
+        if self.rng.once_in(10) {
+            self.command(Command::Panel);
         }
         if self.rng.once_in(10) {
             self.command(Command::Sound);
@@ -251,6 +262,7 @@ fn command_words(rng: &mut Rng, command: &Command) -> Vec<Vec<u8>> {
         Command::Save { file } => return vec![b"save".to_vec(), file.clone()],
         Command::Load { file } => return vec![b"load".to_vec(), file.clone()],
         Command::Table { node } => vec!["table".into(), number(*node)],
+        Command::Panel => vec!["panel".into()],
     };
     texts.into_iter().map(String::into_bytes).collect()
 }
@@ -300,6 +312,11 @@ fn random_scripts_print_what_the_second_engine_answers() {
         "table copying",
         "table waiting",
         "table notifying",
+        "panel refused 2",
+        "panel settled",
+        "panel copying",
+        "panel waiting",
+        "panel notifying",
         "sound refused 2",
         "sound sound",
         "survey refused 2",
@@ -323,13 +340,14 @@ fn networks_of_64_nodes_print_what_the_second_engine_answers() {
     assert!(full > 0 && kept > 0);
 }
 
-/// A look by what it was answered: its refusal, or the status or judgement that ends its first line.
+/// A look by what it was answered: its refusal, or the node's status, or the word that ends the line.
 fn kind(name: &str, answer: &str) -> String {
-    let end = match answer.strip_prefix("refused ") {
-        Some(_) => answer.split(':').next(),
-        None => answer.split(' ').next_back(),
+    let word = match name {
+        _ if answer.starts_with("refused ") => answer.split(':').next(),
+        "table" | "panel" => answer.split(", ").nth(1),
+        _ => answer.split(' ').next_back(),
     };
-    format!("{name} {}", end.expect("a word"))
+    format!("{name} {}", word.expect("a word"))
 }
 
 #[test]

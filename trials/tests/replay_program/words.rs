@@ -1,7 +1,7 @@
 //! Answers in words.
 
 use trials::second::memory;
-use trials::second::network::{Network, Status};
+use trials::second::network::{Network, Node, Panel, Status};
 use trials::second::table::Table;
 use trials::second::{lent_and_sound, Counts, Refusal, LOST};
 
@@ -103,22 +103,41 @@ pub fn surveyed(digits: usize, counts: &Counts) -> String {
     words
 }
 
-/// A node's id and status, then a line for each entry that is not empty.
-pub fn tabled(state: &[u64], tables: &[u8], node: u64) -> Result<String, Refusal> {
-    let (state, tables) = lent_and_sound(state, tables)?;
-    let network = Network::decode(state);
-    let number = network.number(node)?;
-    let owner = network.node(number);
-    let status = match owner.status {
+/// The words of what no call answers, or of its refusal.
+pub fn shown(words: Result<String, Refusal>) -> String {
+    words.unwrap_or_else(|refusal| refused(refusal as u64, 0))
+}
+
+/// A node's id, status and counts.
+fn described(network: &Network, number: usize) -> String {
+    let Node { id, status, panel } = network.node(number);
+    let status = match status {
         Status::InSystem => "settled",
         Status::Copying { .. } => "copying",
         Status::Waiting { .. } => "waiting",
         Status::Notifying { .. } => "notifying",
     };
-    let (settings, id) = (network.settings, owner.id);
-    let digits = settings.digits();
-    let mut words = format!("table {number}: id {id:0digits$x}, {status}");
-    let table = Table::decode(settings, memory::table_bytes(tables, number));
+    let digits = network.settings.digits();
+    let Panel { requests, notices } = panel;
+    format!("id {id:0digits$x}, {status}, requests {requests}, notices {notices}")
+}
+
+/// A line for each node.
+pub fn panelled(state: &[u64], tables: &[u8]) -> Result<String, Refusal> {
+    let (state, _) = lent_and_sound(state, tables)?;
+    let network = Network::decode(state);
+    let line = |(number, _)| format!("node {number}: {}", described(&network, number));
+    let lines: Vec<String> = network.iter().map(line).collect();
+    Ok(lines.join("\n"))
+}
+
+/// A node, then a line for each of its entries that is not empty.
+pub fn tabled(state: &[u64], tables: &[u8], node: u64) -> Result<String, Refusal> {
+    let (state, tables) = lent_and_sound(state, tables)?;
+    let network = Network::decode(state);
+    let number = network.number(node)?;
+    let mut words = format!("table {number}: {}", described(&network, number));
+    let table = Table::decode(network.settings, memory::table_bytes(tables, number));
     for (level, digit, entry) in table.iter().filter(|(.., entry)| !entry.is_empty()) {
         words += &format!("\n  level {level} digit {digit:x}:");
         entry.iter().for_each(|node| words += &format!(" {node}"));

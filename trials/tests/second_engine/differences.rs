@@ -3,94 +3,9 @@
 use trials::compare::compare;
 use trials::engine::{Engine, Second};
 use trials::script::Script;
-use trials::second::{Counts, LOST};
+use trials::second::LOST;
 
-/// The second engine, but spoiled in what a reading, a beginning, a lookup, a verdict, a writing or a survey does.
-struct Spoiled {
-    read: fn(&mut [u64], &mut [u8], u64) -> u64,
-    begin: fn(&mut [u64], &mut [u8], u64) -> u64,
-    lookup: fn(&mut [u64], &mut [u8]),
-    verdict: fn(u64) -> u64,
-    write: fn(&mut [u8]),
-    survey: SpoilSurvey,
-}
-
-type SpoilSurvey = fn(&mut AfterSurvey);
-
-/// Its memory, its counts before and after it, and its answer.
-struct AfterSurvey<'a> {
-    state: &'a mut [u64],
-    tables: &'a mut [u8],
-    before: Counts,
-    counts: &'a mut Counts,
-    answer: u64,
-}
-
-const UNSPOILED: Spoiled = Spoiled {
-    read: |_, _, answer| answer,
-    begin: |_, _, answer| answer,
-    lookup: |_, _| {},
-    verdict: |answer| answer,
-    write: |_| {},
-    survey: |_| {},
-};
-
-impl Engine for Spoiled {
-    fn name(&self) -> &str {
-        "spoiled"
-    }
-
-    fn sound(&self, state: &mut [u64], tables: &mut [u8]) -> u64 {
-        Second.sound(state, tables)
-    }
-
-    fn found(&self, state: &mut [u64], tables: &mut [u8], settings: [u64; 3], id: u32) -> u64 {
-        Second.found(state, tables, settings, id)
-    }
-
-    fn read(&self, state: &mut [u64], tables: &mut [u8], image: &[u8]) -> u64 {
-        let answer = Second.read(state, tables, image);
-        (self.read)(state, tables, answer)
-    }
-
-    fn begin(&self, state: &mut [u64], tables: &mut [u8], id: u32, gateway: u64) -> u64 {
-        let answer = Second.begin(state, tables, id, gateway);
-        (self.begin)(state, tables, answer)
-    }
-
-    fn deliver(&self, state: &mut [u64], tables: &mut [u8], sender: u64, receiver: u64) -> u64 {
-        Second.deliver(state, tables, sender, receiver)
-    }
-
-    fn lookup(&self, state: &mut [u64], tables: &mut [u8], from: u64, to: u64) -> u64 {
-        (self.lookup)(state, tables);
-        Second.lookup(state, tables, from, to)
-    }
-
-    fn verdict(&self, state: &mut [u64], tables: &mut [u8]) -> u64 {
-        (self.verdict)(Second.verdict(state, tables))
-    }
-
-    fn write(&self, state: &mut [u64], tables: &mut [u8], out: &mut [u8]) -> u64 {
-        let answer = Second.write(state, tables, out);
-        (self.write)(out);
-        answer
-    }
-
-    fn survey(&self, state: &mut [u64], tables: &mut [u8], counts: &mut Counts) -> u64 {
-        let before = *counts;
-        let answer = Second.survey(state, tables, counts);
-        let mut after = AfterSurvey {
-            state,
-            tables,
-            before,
-            counts,
-            answer,
-        };
-        (self.survey)(&mut after);
-        after.answer
-    }
-}
+use crate::spoiled::{SpoilSurvey, Spoiled, UNSPOILED};
 
 const SCRIPT: &str = "found 2 2 1 0\nwrite\nlookup 1 1\nbegin 1 1\nbegin 1 1\nverdict\nsound\n\
                       read 04\nread 0401020201010000000002000100000101010001\nverdict\n\

@@ -1,19 +1,23 @@
 //! Images: round trips, and every kind of damage.
 
 use trials::lent::Lent;
+use trials::panel::panels;
 use trials::random::{changed_bytes, cuts, image, image_damages, seeds, Rng, READING};
+use trials::second::network::Panel;
 use trials::second::{sound, Refusal};
 
 use crate::support::Trial;
 
-/// Reads into the memory; a taken image leaves a sound state and is written back byte for byte, a refused
-/// one changes nothing.
+/// Reads into the memory; a taken image leaves a sound state in which nobody has sent anything, and is written back
+/// byte for byte, a refused one changes nothing.
 fn judge(trial: &mut Trial, before: &mut Lent, image: &[u8]) -> u8 {
     before.clone_from(&trial.memory);
     let refusal = trial.read(image).refusal;
     if refusal == 0 {
         assert!(sound(trial.memory.used_state(), trial.memory.used_tables()));
         assert!(trial.network().all_in_system());
+        let panels = panels(trial.memory.used_state());
+        assert!(panels.iter().all(|panel| *panel == Panel::default()));
         assert_eq!(trial.image(), image);
     } else {
         assert_eq!(trial.memory, *before);

@@ -1,5 +1,6 @@
-//! The paper's paragraph on soundness, clause by clause, slow and literal.
+//! Document 01's paragraph on soundness, and document 02's bounds of the counts, clause by clause, slow and literal.
 
+use trials::panel::Bounds;
 use trials::second::memory::{State, Tables};
 
 /// One state as the clauses see it.
@@ -15,7 +16,7 @@ pub fn plain_sound(state: &State, tables: &Tables) -> bool {
         && plain.unused_places_are_zero()
         && plain
             .nodes()
-            .all(|x| plain.table_obeys(x) && plain.record_obeys(x))
+            .all(|x| plain.table_obeys(x) && plain.record_obeys(x) && plain.counts_obey(x))
 }
 
 impl Plain<'_> {
@@ -71,7 +72,7 @@ impl Plain<'_> {
         let used_word = |place: usize| match place {
             0..=3 => true,
             4..=7 => false,
-            _ => place / 8 <= self.count() as usize && place % 8 < 6,
+            _ => place / 8 <= self.count() as usize,
         };
         let used_byte = |place: usize| {
             let (x, level, digit) = (place / 512, place % 512 / 64, place % 64 / 4);
@@ -125,6 +126,10 @@ impl Plain<'_> {
             3 => target == 0 && self.notifying_obeys(x),
             _ => false,
         }
+    }
+
+    fn counts_obey(&self, x: u64) -> bool {
+        Bounds::kept(self.state, x as usize)
     }
 
     fn notifying_obeys(&self, x: u64) -> bool {

@@ -1,9 +1,10 @@
 //! Demand 3 on the second engine's histories: how many requests a node sends, how long lookups are, that what a yes verdict
-//! found stays, and that surveys add up.
+//! found stays, that surveys add up, and that each node's counts are those of the history.
 
 use trials::compare::{compare, Difference};
 use trials::engine::Second;
 use trials::lent::Lent;
+use trials::panel::History;
 use trials::random::{run, run_from_built, run_in, seeds, Rng};
 use trials::script::{Call, Line, Script};
 use trials::second::memory::Tables;
@@ -12,31 +13,46 @@ use trials::second::{lookup, sound, survey, verdict, very_hops, LookupAnswer, Se
 use trials::surveys::adds_up;
 
 /// What is known of a run from its history alone, and what must not change any more.
-#[derive(Default)]
 struct Watch {
-    /// Requests sent, node n's at n.
-    sent: Vec<usize>,
+    history: History,
     /// The very hops between every two nodes of the last point that passed the verdict.
     kept: Vec<Vec<usize>>,
 }
 
 impl Watch {
-    /// Holds the three parts against a point of the run.
+    fn new(memory: &Lent) -> Watch {
+        Watch {
+            history: History::from_here(memory.used_state()),
+            kept: vec![],
+        }
+    }
+
+    /// Takes down a line of the run; after a call the point is held to the promises.
     fn after(
         &mut self,
-        call: &Call,
+        line: &Line,
         answer: u64,
         memory: &Lent,
         rng: &mut Rng,
     ) -> Result<(), String> {
+        self.history.note(line, answer, memory.used_state());
+        match line {
+            Line::Call(Call::Found { .. } | Call::Read { .. }) if answer == 0 => self.kept.clear(),
+            Line::Call(_) => {}
+            _ => return Ok(()),
+        }
+        self.point_keeps(memory, rng)
+    }
+
+    /// Holds the three parts against a point of the run.
+    fn point_keeps(&mut self, memory: &Lent, rng: &mut Rng) -> Result<(), String> {
         let (state, tables) = (memory.used_state(), memory.used_tables());
         if !sound(state, tables) {
             return Err("the state is not sound".to_string());
         }
         let network = Network::decode(state);
-        if answer & 0xff == 0 {
-            self.count_requests(call, answer, &network)?;
-        }
+        self.few_requests(&network)?;
+        self.history.stands_in(state)?;
         let count = network.count() as u64;
         for _ in 0..3 {
             let (from, to) = (rng.between(1, count), rng.between(1, count));
@@ -54,27 +70,15 @@ impl Watch {
     }
 
     /// (a) how many copy and wait requests each node has sent, counted from the history: at most d + 1.
-    fn count_requests(
-        &mut self,
-        call: &Call,
-        answer: u64,
-        network: &Network,
-    ) -> Result<(), String> {
-        let sender = match call {
-            Call::Found { .. } | Call::Read { .. } => {
-                *self = Watch::default();
-                return Ok(());
-            }
-            Call::Begin { .. } => (answer >> 8) as usize,
-            Call::Deliver { sender, .. } if matches!(answer >> 8 & 0xff, 1 | 2) => *sender as usize,
-            _ => return Ok(()),
-        };
-        self.sent.resize(65, 0);
-        self.sent[sender] += 1;
-        if self.sent[sender] > network.settings.digits() + 1 {
-            return Err(format!("node {sender} sent {} requests", self.sent[sender]));
+    fn few_requests(&self, network: &Network) -> Result<(), String> {
+        let most = network.settings.digits() as u64 + 1;
+        match (1..)
+            .zip(self.history.requests())
+            .find(|(_, sent)| *sent > most)
+        {
+            Some((node, sent)) => Err(format!("node {node} sent {sent} requests")),
+            None => Ok(()),
         }
-        Ok(())
     }
 
     /// (c) The very hops are what they were, and the answer is theirs.
@@ -141,15 +145,12 @@ fn survey_fits(memory: &Lent, passes: bool) -> Result<(), String> {
 
 /// A script whose every point keeps the promises.
 fn watch(seed: u64, script: &Script, rng: &mut Rng) {
-    let (mut memory, mut watch) = (Lent::noise(), Watch::default());
+    let mut memory = Lent::noise();
+    let mut watch = Watch::new(&memory);
     for (line, said) in script.lines.iter().enumerate() {
         let answer = memory.obey(&Second, said);
-        if let Line::Call(call) = said {
-            let kept = watch.after(call, answer, &memory, rng);
-            kept.unwrap_or_else(|what| {
-                panic!("{}", Difference { line, what }.report(seed, script))
-            });
-        }
+        let kept = watch.after(said, answer, &memory, rng);
+        kept.unwrap_or_else(|what| panic!("{}", Difference { line, what }.report(seed, script)));
     }
 }
 

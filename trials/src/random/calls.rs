@@ -1,0 +1,37 @@
+//! One call of each kind that judges the state first.
+
+use super::{bad_number, fresh_id, Rng};
+use crate::script::Call;
+use crate::second::network::Network;
+
+/// Arguments mostly good, now and then a bad number.
+pub fn judging_calls(rng: &mut Rng, network: &Network) -> [Call; 7] {
+    let count = network.count();
+    let node = |rng: &mut Rng| match rng.below(8) {
+        0 => bad_number(rng, count),
+        _ => rng.between(1, count as u64),
+    };
+    let outstanding = network.outstanding();
+    let (sender, receiver) = match outstanding.is_empty() {
+        true => (node(rng), node(rng)),
+        false => {
+            let (sender, receiver) = rng.pick(&outstanding);
+            (sender as u64, receiver as u64)
+        }
+    };
+    [
+        Call::Sound,
+        Call::Survey,
+        Call::Verdict,
+        Call::Write,
+        Call::Lookup {
+            from: node(rng),
+            to: node(rng),
+        },
+        Call::Deliver { sender, receiver },
+        Call::Begin {
+            id: fresh_id(rng, network).unwrap_or(0),
+            gateway: node(rng),
+        },
+    ]
+}

@@ -1,0 +1,146 @@
+//! Engines that do something otherwise.
+
+use trials::engine::{Engine, Second};
+use trials::second::memory::{record, record_mut, Record, State, COUNT, MOST_NODES};
+use trials::second::Counts;
+
+/// The second engine, but spoiled in what it judges sound, or in what a founding, a reading, a beginning, a delivery, a lookup, a verdict, a writing or
+/// a survey does.
+pub struct Spoiled {
+    pub judge: SpoilJudge,
+    pub found: fn(&mut [u64]),
+    pub read: fn(&mut [u64], &mut [u8], u64) -> u64,
+    pub begin: fn(&mut [u64], &mut [u8], u64) -> u64,
+    pub deliver: SpoilDelivery,
+    pub lookup: fn(&mut [u64], &mut [u8]),
+    pub verdict: fn(u64) -> u64,
+    pub write: fn(&mut [u8]),
+    pub survey: SpoilSurvey,
+}
+
+/// What is judged in place of a node's record.
+pub type SpoilJudge = fn(&State, usize, &mut Record);
+
+pub type SpoilDelivery = fn(AfterDelivery);
+
+/// The records of sender and receiver after it, the kind that it answers, 0 for a refusal, whether the sender settled, and the refusal.
+pub struct AfterDelivery<'a> {
+    pub sender: &'a mut Record,
+    pub receiver: &'a mut Record,
+    pub kind: u64,
+    pub settled: bool,
+    pub refusal: u64,
+}
+
+pub type SpoilSurvey = fn(&mut AfterSurvey);
+
+/// Its memory, its counts before and after it, and its answer.
+pub struct AfterSurvey<'a> {
+    pub state: &'a mut [u64],
+    pub tables: &'a mut [u8],
+    pub before: Counts,
+    pub counts: &'a mut Counts,
+    pub answer: u64,
+}
+
+pub const UNSPOILED: Spoiled = Spoiled {
+    judge: |_, _, _| {},
+    found: |_| {},
+    read: |_, _, answer| answer,
+    begin: |_, _, answer| answer,
+    deliver: |_| {},
+    lookup: |_, _| {},
+    verdict: |answer| answer,
+    write: |_| {},
+    survey: |_| {},
+};
+
+impl Spoiled {
+    /// The state with what is judged in place of each record.
+    fn judged(&self, state: &mut State) {
+        let lent = *state;
+        for node in (1..=MOST_NODES).take_while(|&node| node as u64 <= lent[COUNT]) {
+            (self.judge)(&lent, node, record_mut(state, node));
+        }
+    }
+}
+
+impl Engine for Spoiled {
+    fn name(&self) -> &str {
+        "spoiled"
+    }
+
+    fn sound(&self, state: &mut [u64], tables: &mut [u8]) -> u64 {
+        let mut judged = state.to_vec();
+        if let Some(state) = judged.first_chunk_mut() {
+            self.judged(state);
+        }
+        Second.sound(&mut judged, tables)
+    }
+
+    fn found(&self, state: &mut [u64], tables: &mut [u8], settings: [u64; 3], id: u32) -> u64 {
+        let answer = Second.found(state, tables, settings, id);
+        (self.found)(state);
+        answer
+    }
+
+    fn read(&self, state: &mut [u64], tables: &mut [u8], image: &[u8]) -> u64 {
+        let answer = Second.read(state, tables, image);
+        (self.read)(state, tables, answer)
+    }
+
+    fn begin(&self, state: &mut [u64], tables: &mut [u8], id: u32, gateway: u64) -> u64 {
+        let answer = Second.begin(state, tables, id, gateway);
+        (self.begin)(state, tables, answer)
+    }
+
+    fn deliver(&self, state: &mut [u64], tables: &mut [u8], sender: u64, receiver: u64) -> u64 {
+        let answer = Second.deliver(state, tables, sender, receiver);
+        let [refusal, kind, _, settled, ..] = answer.to_le_bytes();
+        let numbers = [sender, receiver].map(|number| number as usize);
+        let state: Option<&mut State> = state.first_chunk_mut();
+        if let Some(state) = state.filter(|_| numbers.iter().all(|n| (1..=MOST_NODES).contains(n)))
+        {
+            let [mut sender, mut receiver] = numbers.map(|number| *record(state, number));
+            (self.deliver)(AfterDelivery {
+                sender: &mut sender,
+                receiver: &mut receiver,
+                kind: kind.into(),
+                settled: settled == 1,
+                refusal: refusal.into(),
+            });
+            *record_mut(state, numbers[1]) = receiver;
+            *record_mut(state, numbers[0]) = sender;
+        }
+        answer
+    }
+
+    fn lookup(&self, state: &mut [u64], tables: &mut [u8], from: u64, to: u64) -> u64 {
+        (self.lookup)(state, tables);
+        Second.lookup(state, tables, from, to)
+    }
+
+    fn verdict(&self, state: &mut [u64], tables: &mut [u8]) -> u64 {
+        (self.verdict)(Second.verdict(state, tables))
+    }
+
+    fn write(&self, state: &mut [u64], tables: &mut [u8], out: &mut [u8]) -> u64 {
+        let answer = Second.write(state, tables, out);
+        (self.write)(out);
+        answer
+    }
+
+    fn survey(&self, state: &mut [u64], tables: &mut [u8], counts: &mut Counts) -> u64 {
+        let before = *counts;
+        let answer = Second.survey(state, tables, counts);
+        let mut after = AfterSurvey {
+            state,
+            tables,
+            before,
+            counts,
+            answer,
+        };
+        (self.survey)(&mut after);
+        after.answer
+    }
+}
