@@ -11,19 +11,6 @@ const PLACES: usize = 8;
 
 const LAST_PLACE: usize = 7;
 
-// The suffix masks, kept as a table: entry i, from 0 to 8, has the bits of the low i digits set.
-const SUFFIX_MASKS: [u32; 9] = [
-    0x0,
-    0xf,
-    0xff,
-    0xfff,
-    0xffff,
-    0xf_ffff,
-    0xff_ffff,
-    0xfff_ffff,
-    0xffff_ffff,
-];
-
 // The base is from 2 to 16, the digits are from 1 to 8, the depth is from 1 to 4.
 pub fn settings_in_range(base: u64, digits: u64, depth: u64) -> bool
     ensures { λ r. ⌜ r ≡ settingsInRange base digits depth ⌝ }
@@ -62,11 +49,15 @@ pub fn digit(id: u32, i: usize) -> usize
     ((id >> (4 * i)) & 15) as usize
 }
 
-// The mask of the low i digits of an id: that of all its places for a larger i.
+// The mask of the low i digits of an id, of all its places for a larger i: 0 for no digits, else the four bits of the highest and every bit below.
 pub fn suffix_mask(i: usize) -> u32
     ensures { λ r. ⌜ r ≡ suffixMask (min i 8) ⌝ }
 {
-    SUFFIX_MASKS[smaller(i, PLACES)]
+    if i == 0 {
+        return 0;
+    }
+    let highest = 15 << (4 * (smaller(i, PLACES) - 1));
+    highest | (highest - 1)
 }
 
 // How many digits of two ids agree from the right, d at most (the paper's "match"): four bits to a digit, so a quarter of the equal bits below

@@ -31,6 +31,6 @@ commonSuffix d x y = firstBelow d (digitsDiffer x y)
 unfoldable pub lowDigits : ℕ → ℕ → ℕ
 lowDigits id i = id % 16 ^ i
 
--- the mask of i digits has their 4i bits set (the code keeps those of 0 to 8 digits as a table)
+-- the mask of i digits has their 4i bits set
 unfoldable pub suffixMask : ℕ → ℕ
 suffixMask i = 16 ^ i - 1
