@@ -1,7 +1,7 @@
 -- The worked lists hold: each example computes.
 use mathlib.Core.Path.{refl}
 use Rattle.model.specs.Loops.{allBelow, anyBelow, countBelow, sumBelow, firstBelow, eachBelow, joinBelow}
-use Rattle.model.specs.Ids.{settingsInRange, digitOf, validId, commonSuffix, lowDigits}
+use Rattle.model.specs.Ids.{settingsInRange, digitOf, validId, commonSuffix, lowDigits, suffixMask}
 use Rattle.model.specs.Memory.{withNode, hasNode, setSize, tableOf, withTable}
 use Rattle.model.specs.Tables.{qualified, entrySize, append, ownTable}
 use Rattle.model.specs.Sound.{hasNewId, slotSound, entrySound, levelSound, inSystemSound, joiningSound, copyingSound, waitingSound, pendingSound, notifiedSound, notifyingSound, statusSound, requestLimit, noticesSound, countsSound, allZero, stateRestZero, tablesRestZero, tableSound, unusedZero, sound}
@@ -12,7 +12,7 @@ use Rattle.model.specs.Consistency.{howMany, entryWhole, levelWhole, nodeWhole,
 use Rattle.model.specs.Image.{imId, lengthRight, sameEntry, risesFrom, recOrdered, recAllowed, recOwnerFirst, ownHasRecord, ownHaveRecords, loadRecord, loaded}
 use Rattle.model.specs.Refusals.{firstTrue, foundRefusal, readRefusal, recordPlace, stateRefusal, lookupRefusal, verdictRefusal}
 use Rattle.model.specs.Calls.{refusedAt, taken, unlessRefused, foundCall, readCall, lookupCall, surveyCall, verdictCall}
-use Rattle.worked.specs.Examples.{dirty, founding, reading, verdictOn, lookupOn, surveyOn, headOfE1, rec, E1, E1Short, three, Worked, Surveyed, Damaged}
+use Rattle.worked.specs.Examples.{dirty, founding, reading, verdictOn, lookupOn, surveyOn, headOfE1, rec, E1, E1Short, three, Worked, Surveyed, Damaged, Masked}
 
 -- what the examples compute with
 unfoldable pub computing : Unit {0}
@@ -30,3 +30,7 @@ surveyed = record { e1 = refl; e1-short = refl; one = refl }
 pub damaged : Damaged
 unfolding computing
 damaged = record { below = refl; level = refl; unqualified = refl; number-first = refl; over = refl; absent = refl; empty = refl; misplaced = refl; absent-first = refl }
+
+pub masked : Masked
+unfolding suffixMask
+masked = record { digits-0 = refl; digits-1 = refl; digits-2 = refl; digits-3 = refl; digits-4 = refl; digits-5 = refl; digits-6 = refl; digits-7 = refl; digits-8 = refl }

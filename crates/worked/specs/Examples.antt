@@ -1,10 +1,10 @@
--- P1 to P12 of document 01, "Trials at the edges", as one list about the book's definitions; the surveys of its images (document 02, Ticket 1); and
--- what reading says of damaged ones (Ticket 2).
+-- P1 to P12 of document 01, "Trials at the edges", as one list about the book's definitions; the surveys of its images (document 02, Ticket 1); what
+-- reading says of damaged ones (Ticket 2); and the nine suffix masks (Ticket 4).
 use Prim.Native.Nat.{ℕ}
 use mathlib.Core.Path.{_≡_}
 use mathlib.Core.List.{List, [], _∷_}
 use lib.ListN.{replicate}
-use Rattle.model.specs.Ids.{commonSuffix}
+use Rattle.model.specs.Ids.{commonSuffix, suffixMask}
 use Rattle.model.specs.Memory.{Memory, stateLength, tablesLength}
 use Rattle.model.specs.Calls.{Outcome, foundCall, readCall, lookupCall, surveyCall, verdictCall}
 
@@ -109,3 +109,17 @@ pub record Damaged : Type 0 where
   pub misplaced : reading (three 6 (rec 1 0 0 3 (rec 1 1 0 1 (rec 2 0 1 2 (rec 2 1 0 2 (rec 3 0 0 3 (rec 3 1 1 3 []))))))) .answer ≡ 18 ∷ 1 ∷ []
   -- the same without the fourth record. Excluded: a misplaced owner before an absent own entry.
   pub absent-first : reading (three 5 (rec 1 0 0 3 (rec 1 1 0 1 (rec 2 0 1 2 (rec 3 0 0 3 (rec 3 1 1 3 [])))))) .answer ≡ 18 ∷ 0 ∷ []
+
+-- The masks of 0 to 8 digits are the nine numbers that the code's table held before Ticket 4; that the code gives them is the contract of
+-- `ident::suffix_mask`. Excluded: three bits to a digit (the mask of one would be 0x7); a digit more or fewer (that of none would be 0xf, or that
+-- of one 0x0).
+pub record Masked : Type 0 where
+  pub digits-0 : suffixMask 0 ≡ 0x0
+  pub digits-1 : suffixMask 1 ≡ 0xf
+  pub digits-2 : suffixMask 2 ≡ 0xff
+  pub digits-3 : suffixMask 3 ≡ 0xfff
+  pub digits-4 : suffixMask 4 ≡ 0xffff
+  pub digits-5 : suffixMask 5 ≡ 0xfffff
+  pub digits-6 : suffixMask 6 ≡ 0xffffff
+  pub digits-7 : suffixMask 7 ≡ 0xfffffff
+  pub digits-8 : suffixMask 8 ≡ 0xffffffff
