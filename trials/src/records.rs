@@ -2,6 +2,7 @@
 //!
 //! - `edited`: an image changed record by record.
 //! - `by_hand`: numbers and places worked out by hand.
+//! - `one_bit`: a neighbor whose id differs from the owner's in one bit.
 //! - `networks`: the right images that faults go into.
 //! - `faults`: one fault of each cause at a record of such an image.
 //! - `faulty`: images with one, two and three faults.
@@ -16,6 +17,7 @@ mod faulty;
 mod long;
 mod moved;
 mod networks;
+mod one_bit;
 mod replaced;
 
 pub use by_hand::by_hand;
@@ -24,6 +26,7 @@ pub use faulty::{one_fault, three_faults, two_faults};
 pub use long::long;
 pub use moved::moved;
 pub use networks::{networks, Whole};
+pub use one_bit::one_bit;
 pub use replaced::two_replaced;
 
 /// An image, and the refusal and the place that reading it must answer.

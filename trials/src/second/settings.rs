@@ -8,19 +8,6 @@ pub struct Settings {
     depth: u8,
 }
 
-/// The low digits of an id that count in a common suffix of 0 to 8 digits.
-const SUFFIX_MASKS: [u32; 9] = [
-    0,
-    0xf,
-    0xff,
-    0xfff,
-    0xffff,
-    0xf_ffff,
-    0xff_ffff,
-    0xfff_ffff,
-    0xffff_ffff,
-];
-
 /// Digit `level` of an id, 0 being the rightmost.
 pub fn digit(id: u32, level: usize) -> usize {
     (id >> (4 * level)) as usize & 15
@@ -63,8 +50,8 @@ impl Settings {
             .count()
     }
 
-    /// May `id` stand in entry (level, wanted) of `owner`?
+    /// May `id` stand in entry (level, wanted) of `owner`? The digits below the level agree if no bit of theirs differs.
     pub fn qualified(&self, id: u32, owner: u32, level: usize, wanted: usize) -> bool {
-        (id ^ owner) & SUFFIX_MASKS[level] == 0 && digit(id, level) == wanted
+        (id ^ owner).trailing_zeros() as usize >= 4 * level && digit(id, level) == wanted
     }
 }

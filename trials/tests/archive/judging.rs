@@ -4,9 +4,10 @@ use trials::archive::Archive;
 use trials::engine::{Engine, Second};
 use trials::lent::Lent;
 use trials::random::{damage, seeds, some_state, Rng};
+use trials::records::one_bit;
 use trials::second::memory::{STATE_WORDS, TABLE_BYTES};
 
-use crate::support::lent_lengths;
+use crate::support::{lent_lengths, Both};
 
 fn judged(ours: &mut Lent, words: usize, bytes: usize, case: &str) -> u64 {
     let answer = Archive.sound(&mut ours.state[..words], &mut ours.tables[..bytes]);
@@ -51,6 +52,17 @@ fn the_judges_agree_on_damaged_states() {
         sound > 100 && unsound > 6_000,
         "{sound} sound, {unsound} not"
     );
+}
+
+/// The cases of `records::a_neighbor_that_differs_in_one_bit`, put into the tables.
+#[test]
+fn a_neighbor_that_differs_in_one_bit_in_the_tables() {
+    for case in one_bit() {
+        let mut memory = Both::read_in(&case.image(false)).memory().clone();
+        memory.tables[case.slot()] = 2;
+        let answer = judged(&mut memory, STATE_WORDS, TABLE_BYTES, &format!("{case:x?}"));
+        assert_eq!(answer, if case.allowed() { 0 } else { 2 }, "{case:x?}");
+    }
 }
 
 #[test]

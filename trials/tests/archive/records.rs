@@ -3,7 +3,7 @@
 use trials::archive::Archive;
 use trials::compare::Pair;
 use trials::engine::Second;
-use trials::records::{by_hand, long, moved, one_fault, three_faults, two_faults};
+use trials::records::{by_hand, long, moved, one_bit, one_fault, three_faults, two_faults};
 use trials::records::{two_replaced, Judged};
 use trials::script::{Call, Line};
 
@@ -25,6 +25,11 @@ fn are_judged(cases: Vec<Judged>) {
 #[test]
 fn those_worked_out_by_hand() {
     are_judged(by_hand());
+}
+
+#[test]
+fn a_neighbor_that_differs_in_one_bit() {
+    are_judged(one_bit().iter().map(|case| case.judged()).collect());
 }
 
 #[test]
