@@ -18,7 +18,7 @@ use Rattle.model.proofs.Status.{IsNode}
 use Rattle.model.proofs.Sound.{Sound}
 use Rattle.model.proofs.Lookup.{Step, arrives, loses, hops, step-of, arrives-path, loses-path, hops-path, hop-node}
 use Rattle.model.proofs.Alike as same
-use Rattle.model.proofs.Alike.{LongAlike, base-same, digits-same, depth-same, id-same, suffix-same, table-same}
+use Rattle.model.proofs.Alike.{LongAlike, base-same, digits-same, depth-same, id-same, alike-to, suffix-alike, table-same}
 
 -- loops over the nodes, where both memories have as many
 pub nodes-same {ℓ κ} : {A : Type ℓ} {B : Type κ} (loop : ℕ → (ℕ → A) → B)
@@ -50,7 +50,7 @@ module _ (s t s′ t′ : List ℕ) (L : LongAlike s t s′ t′) (S : Sound s t
     unfolding nextHop
     next-same u nu =
         cc (
-          suffix-same s s′ a u z (few u (nu .high)) (few z (nz .high)),
+          suffix-alike (alike-to s s′ a) u z (few u (nu .high)) (few z (nz .high)),
           id-same s s′ a z (few z (nz .high)),
           table-same s t s′ t′ L u (nu .low) (few u (nu .high)),
         )

@@ -7,15 +7,15 @@ use native.Mathlib.Omega.{arith}
 use lib.Dec.{eqb}
 use borrow.Author.Tests.{not-false}
 use Rattle.model.specs.Loops.{allBelow, anyBelow}
-use Rattle.model.specs.Memory.{Memory, nodeCount, isInSystem}
+use Rattle.model.specs.Memory.{Memory, nodeCount, nodeOf, isInSystem}
 use Rattle.model.specs.Nodes.{isNode}
 use Rattle.model.specs.Sound.{sound}
 use Rattle.model.specs.Join.{outstanding}
-use Rattle.model.specs.Refusals.{Sentence, firstTrue, memoryShort, unsound, hasId, areNodes, someNotInSystem, stateSentences, beginSentences, deliverSentences, lookupSentences, verdictSentences, writeSentences, foundRefusal, readRefusal, stateRefusal, beginRefusal, deliverRefusal, lookupRefusal, verdictRefusal, writeRefusal}
+use Rattle.model.specs.Refusals.{Sentence, firstTrue, memoryShort, unsound, hasId, areNodes, someNotInSystem, stateSentences, beginSentences, withdrawSentences, deliverSentences, lookupSentences, verdictSentences, writeSentences, foundRefusal, readRefusal, stateRefusal, beginRefusal, withdrawRefusal, deliverRefusal, lookupRefusal, verdictRefusal, writeRefusal}
 use Rattle.model.proofs.Bools.{and-left, and-right}
 use Rattle.model.proofs.Loops.{all-same, any-same}
 use Rattle.model.proofs.Memory.{same-status, same-target, same-pending}
-use Rattle.model.proofs.Status.{IsNode, is-node, in-system-same}
+use Rattle.model.proofs.Status.{IsNode, is-node, in-system-same, attached-same}
 use Rattle.model.proofs.Sound.{Sound, sound-ok}
 use Rattle.model.proofs.Taken.{long-of}
 use Rattle.model.proofs.Alike.{Alike, LongAlike, base-same, digits-same, count-same, id-same, record-same, short-same, sound-same}
@@ -30,6 +30,19 @@ sentence-same test test′ n later later′ e h = ap (λ (b : Bool). cond b n (f
     go : (b : Bool) → (b ≡ false → firstTrue later′ ≡ firstTrue later) → cond b n (firstTrue later′) ≡ cond b n (firstTrue later)
     go true h = refl
     go false h = h refl
+
+-- those of a delivery, by the sender's record and whether the receiver is in system
+pub deliver-judged : (s s′ : List ℕ) (x y : ℕ) → areNodes s′ x y ≡ areNodes s x y
+    → (areNodes s x y ≡ true → (nodeOf s′ x ≡ nodeOf s x) × (isInSystem s′ y ≡ isInSystem s y))
+    → firstTrue (deliverSentences s′ x y) ≡ firstTrue (deliverSentences s x y)
+unfolding outstanding
+deliver-judged s s′ x y e h =
+    sentence-same _ _ 9 _ _ (ap not e)
+    (λ e₉.
+    let n = h (not-false (areNodes s x y) e₉) in
+    let r = n .0 in
+    sentence-same _ _ 13 _ _ (cc (same-status r, same-target r, same-pending r))
+    (λ e₁₃. sentence-same _ _ 14 [] [] (cc (same-status r, n .1)) (λ e₁₄. refl)))
 
 module _ (m m′ : Memory) (a : Alike (m .state) (m .tables) (m′ .state) (m′ .tables)) where
   abbrev s : List ℕ
@@ -83,14 +96,13 @@ module _ (m m′ : Memory) (a : Alike (m .state) (m .tables) (m′ .state) (m′
     in-system-there : (x : ℕ) → x ≤ 64 → isInSystem s′ x ≡ isInSystem s x
     in-system-there x h = in-system-same s s′ x (record-same s s′ (a .state) x h)
 
-    nodes-there : (x y : ℕ) → not (areNodes s x y) ≡ false → (x ≤ 64) × (y ≤ 64)
-    nodes-there x y e =
-        let q = not-false (areNodes s x y) e in (
-          node-few x (is-node s x (and-left (isNode s x) (isNode s y) q)),
-          node-few y (is-node s y (and-right (isNode s x) (isNode s y) q)),
-        )
+    nodes-there : (x y : ℕ) → areNodes s x y ≡ true → (x ≤ 64) × (y ≤ 64)
+    nodes-there x y e = (
+      node-few x (is-node s x (and-left (isNode s x) (isNode s y) e)),
+      node-few y (is-node s y (and-right (isNode s x) (isNode s y) e)),
+    )
 
-    are-nodes-same : (x y : ℕ) → not (areNodes s′ x y) ≡ not (areNodes s x y)
+    are-nodes-same : (x y : ℕ) → areNodes s′ x y ≡ areNodes s x y
     are-nodes-same x y = cc (is-node-same x, is-node-same y)
 
     taken-same : (id : ℕ) → anyBelow (nodeCount s′) (λ k. hasId s′ id (k + 1)) ≡ anyBelow (nodeCount s) (λ k. hasId s id (k + 1))
@@ -118,23 +130,30 @@ module _ (m m′ : Memory) (a : Alike (m .state) (m .tables) (m′ .state) (m′
       sentence-same _ _ 11 _ _ (cc (count-same s s′ (a .state)))
       (λ e₁₁. sentence-same _ _ 12 [] [] (ap not (in-system-there S gateway (node-there S gateway e₉))) (λ e₁₂. refl))))))
 
+  pub withdraw-same : (x : ℕ) → withdrawRefusal m′ x ≡ withdrawRefusal m x
+  unfolding withdrawRefusal
+  withdraw-same x =
+      past-sound (withdrawSentences s x) (withdrawSentences s′ x)
+      (λ L S.
+      sentence-same _ _ 9 _ _ (ap not (is-node-same S x))
+      (λ e₉.
+      sentence-same _ _ 19 _ _ (cc (count-same s s′ (a .state)))
+      (λ e₁₉.
+      sentence-same _ _ 20 [] [] (attached-same s s′ x (record-same s s′ (a .state) x (node-there S x e₉))) (λ e₂₀. refl))))
+
   pub deliver-same : (x y : ℕ) → deliverRefusal m′ x y ≡ deliverRefusal m x y
-  unfolding deliverRefusal outstanding
+  unfolding deliverRefusal
   deliver-same x y =
       past-sound (deliverSentences s x y) (deliverSentences s′ x y)
       (λ L S.
-      sentence-same _ _ 9 _ _ (are-nodes-same S x y)
-      (λ e₉.
-      let n = nodes-there S x y e₉ in
-      let r = record-same s s′ (a .state) x (n .0) in
-      sentence-same _ _ 13 _ _ (cc (same-status r, same-target r, same-pending r))
-      (λ e₁₃. sentence-same _ _ 14 [] [] (cc (same-status r, in-system-there S y (n .1))) (λ e₁₄. refl))))
+      deliver-judged s s′ x y (are-nodes-same S x y)
+      (λ e. let n = nodes-there S x y e in (record-same s s′ (a .state) x (n .0), in-system-there S y (n .1))))
 
   pub lookup-same : (u z : ℕ) → lookupRefusal m′ u z ≡ lookupRefusal m u z
   unfolding lookupRefusal
   lookup-same u z =
       past-sound (lookupSentences s u z) (lookupSentences s′ u z)
-      (λ L S. sentence-same _ _ 9 [] [] (are-nodes-same S u z) (λ e. refl))
+      (λ L S. sentence-same _ _ 9 [] [] (ap not (are-nodes-same S u z)) (λ e. refl))
 
   pub verdict-same : verdictRefusal m′ ≡ verdictRefusal m
   unfolding verdictRefusal

@@ -6,19 +6,19 @@ use mathlib.Core.Bool.{true}
 use mathlib.Core.List.{List}
 use native.Mathlib.Nat.{eq-or-lt-of-le}
 use native.Mathlib.Omega.{arith}
-use lib.ListN.{length, getD, set, length-set}
-use lib.Seq.{getD-set-same, getD-set-other}
+use lib.ListN.{length, getD}
 use Rattle.model.specs.Ids.{validId}
 use Rattle.model.specs.Memory.{tablesLength, base, digits, depth, nodeCount, nodeOf, idOf, isInSystem, copying, tableStart, tableOf}
 use Rattle.model.specs.Tables.{ownTable}
 use Rattle.model.specs.Join.{newNode, joiningNode, begun}
-use Rattle.model.proofs.Memory.{same-id, node-same, node-length, node-stored, node-outside, stored-length, stored-outside, stored-same, stored-other}
-use Rattle.model.proofs.Status.{IsNode, RecordOk, StatusOk, is-copying, joins, attached-same, in-system-same}
+use Rattle.model.proofs.Memory.{same-id, stored-length, stored-outside, stored-same, stored-other}
+use Rattle.model.proofs.NodeStored.{stored-long, stored-count, stored-record, stored-word, stored-kept}
+use Rattle.model.proofs.Status.{IsNode, node-among, RecordOk, StatusOk, is-copying, joins, attached-same, in-system-same}
 use Rattle.model.proofs.NodeCounts.{CountsOk, joining-counts}
 use Rattle.model.proofs.Ids.{InRange}
 use Rattle.model.proofs.Sound.{TableOk, Long, Sound, table-fits}
 use Rattle.model.proofs.OwnTable.{own-long, own-table}
-use Rattle.model.proofs.Later.{Later, node-later, table-later, status-later, counts-later}
+use Rattle.model.proofs.Later.{Later, table-later, status-later, counts-later}
 
 -- what the refusals of a beginning leave
 pub record CanBegin (s : List ℕ) (id gateway : ℕ) : Type 0 where
@@ -29,35 +29,26 @@ pub record CanBegin (s : List ℕ) (id gateway : ℕ) : Type 0 where
   pub room : nodeCount s < 64
 
 module _ (s t : List ℕ) (id gateway : ℕ) (S : Sound s t) (c : CanBegin s id gateway) where
-  s₀ : List ℕ
-  s₀ = set s 3 (nodeCount s + 1)
-
   s₁ : List ℕ
   s₁ = begun s t id gateway .state
 
   t₁ : List ℕ
   t₁ = begun s t id gateway .tables
 
-  fits : 8 * (nodeCount s + 1) + 8 ≤ length s₀
-  unfolding s₀
-  fits = omega (arith, length-set s 3 (nodeCount s + 1), S .long .state, c .room)
+  fits : 8 * (nodeCount s + 1) + 8 ≤ length s
+  fits = omega (arith, S .long .state, c .room)
 
   stored : nodeOf s₁ (nodeCount s + 1) ≡ joiningNode (newNode id) copying gateway
-  unfolding s₁ begun s₀
-  stored = node-stored s₀ (nodeCount s + 1) (joiningNode (newNode id) copying gateway) fits
+  unfolding s₁ begun
+  stored = stored-record s (nodeCount s + 1) (nodeCount s + 1) (joiningNode (newNode id) copying gateway) (omega arith) fits
 
-  -- every word but the count and the new record's is as it was
   same : (p : ℕ) → p ≢ 3 → (p < 8 * (nodeCount s + 1)) ⊎ (8 * (nodeCount s + 1) + 8 ≤ p) → getD s₁ p 0 ≡ getD s p 0
-  unfolding s₁ begun s₀
-  same p ne h =
-      node-outside s₀ (nodeCount s + 1) (joiningNode (newNode id) copying gateway) fits p h
-      ∙ getD-set-other s 3 p (nodeCount s + 1) 0 ne
+  unfolding s₁ begun
+  same = stored-word s (nodeCount s + 1) (nodeCount s + 1) (joiningNode (newNode id) copying gateway) (omega arith) fits
 
   count : nodeCount s₁ ≡ nodeCount s + 1
-  unfolding s₁ begun s₀
-  count =
-      node-outside s₀ (nodeCount s + 1) (joiningNode (newNode id) copying gateway) fits 3 (inl (omega arith))
-      ∙ getD-set-same s 3 (nodeCount s + 1) 0 (omega (arith, S .long .state))
+  unfolding s₁ begun
+  count = stored-count s (nodeCount s + 1) (nodeCount s + 1) (joiningNode (newNode id) copying gateway) (omega arith) fits
 
   pub begun-count : nodeCount (begun s t id gateway .state) ≡ nodeCount s + 1
   unfolding s₁
@@ -68,16 +59,19 @@ module _ (s t : List ℕ) (id gateway : ℕ) (S : Sound s t) (c : CanBegin s id 
   unfolding s₁
   begun-new = stored
 
-  -- a word of an earlier node's record is as it was
-  same-record : (y k : ℕ) → IsNode s y → k < 8 → getD s₁ (8 * y + k) 0 ≡ getD s (8 * y + k) 0
-  same-record y k n h =
-      let l : 1 ≤ y = n .low in
-      let g : y ≤ nodeCount s = n .high in
-      same (8 * y + k) (omega arith) (inl (omega arith))
-
   pub begun-kept : (y : ℕ) → IsNode s y → nodeOf (begun s t id gateway .state) y ≡ nodeOf s y
+  unfolding begun
+  begun-kept y n =
+      stored-kept s (nodeCount s + 1) (nodeCount s + 1) (joiningNode (newNode id) copying gateway) (omega arith) fits y (n .low)
+      (omega (arith, n .high))
+
+  pub begun-word : (p : ℕ) → p ≢ 3 → (p < 8 * (nodeCount s + 1)) ⊎ (8 * (nodeCount s + 1) + 8 ≤ p)
+      → getD (begun s t id gateway .state) p 0 ≡ getD s p 0
   unfolding s₁
-  begun-kept y n = node-same s s₁ y (λ k. same-record y k n)
+  begun-word = same
+
+  node-on : (y : ℕ) → IsNode s y → IsNode (begun s t id gateway .state) y
+  node-on = node-among s (begun s t id gateway .state) (omega (arith, begun-count))
 
   pub begun-later : Later s (begun s t id gateway .state)
   unfolding s₁
@@ -85,8 +79,8 @@ module _ (s t : List ℕ) (id gateway : ℕ) (S : Sound s t) (c : CanBegin s id 
     base = same 0 (omega arith) (inl (omega arith));
     digits = same 1 (omega arith) (inl (omega arith));
     depth = same 2 (omega arith) (inl (omega arith));
-    more = omega (arith, count);
-    ids = λ y n. same-id (begun-kept y n);
+    ids = λ y n n′. same-id (begun-kept y n);
+    stays = λ y n e. node-on y n;
     attached = λ y n e. attached-same s s₁ y (begun-kept y n) ∙ e;
     in-system = λ y n e. in-system-same s s₁ y (begun-kept y n) ∙ e;
   }
@@ -141,7 +135,7 @@ module _ (s t : List ℕ) (id gateway : ℕ) (S : Sound s t) (c : CanBegin s id 
 
   table : (y : ℕ) → IsNode s₁ y → TableOk s₁ y (tableOf t₁ y)
   unfolding t₁ begun
-  table y n = ⊎-elim newest (λ o. rw (begun-table y o) (table-later s s₁ later y (tableOf t y) o (S .tables y o))) (which y n)
+  table y n = ⊎-elim newest (λ o. rw (begun-table y o) (table-later s s₁ later y (tableOf t y) o n (S .tables y o))) (which y n)
     where
       newest : y ≡ nodeCount s + 1 → TableOk s₁ y (tableOf t₁ y)
       newest e =
@@ -151,7 +145,7 @@ module _ (s t : List ℕ) (id gateway : ℕ) (S : Sound s t) (c : CanBegin s id 
           (own-table s₁ (nodeCount s + 1) range is-new (valid (nodeCount s + 1) is-new) .rules)))
 
   status : (y : ℕ) → IsNode s₁ y → StatusOk s₁ y
-  status y n = ⊎-elim newest (λ o. status-later s s₁ later y o (kept y o) (S .statuses y o)) (which y n)
+  status y n = ⊎-elim newest (λ o. status-later s s₁ later y o n (kept y o) (S .statuses y o)) (which y n)
     where
       newest : y ≡ nodeCount s + 1 → StatusOk s₁ y
       newest e =
@@ -159,13 +153,13 @@ module _ (s t : List ℕ) (id gateway : ℕ) (S : Sound s t) (c : CanBegin s id 
           (subst (RecordOk s₁ (nodeCount s + 1)) (sym stored)
           (is-copying refl
           (record {
-            is-node = node-later s s₁ later gateway (c .is-node);
+            is-node = node-among s s₁ (omega (arith, count)) gateway (c .is-node);
             in-system = later .in-system gateway (c .is-node) (c .in-system);
             rest = joins (newNode id) copying gateway;
           })))
 
   counts : (y : ℕ) → IsNode s₁ y → CountsOk s₁ y (nodeOf s₁ y)
-  counts y n = ⊎-elim newest (λ o. counts-later s s₁ later y o (kept y o) (S .statuses y o) (S .counts y o)) (which y n)
+  counts y n = ⊎-elim newest (λ o. counts-later s s₁ later y o n (kept y o) (S .statuses y o) (S .counts y o)) (which y n)
     where
       newest : y ≡ nodeCount s + 1 → CountsOk s₁ y (nodeOf s₁ y)
       newest e =
@@ -173,29 +167,26 @@ module _ (s t : List ℕ) (id gateway : ℕ) (S : Sound s t) (c : CanBegin s id 
           (subst (CountsOk s₁ (nodeCount s + 1)) (sym stored)
           (joining-counts s₁ (nodeCount s + 1) (newNode id) copying gateway (inl refl) refl (omega arith)))
 
+  pub begun-long : (length (begun s t id gateway .state) ≡ length s) × (length (begun s t id gateway .tables) ≡ length t)
+  unfolding begun
+  begun-long = (
+    stored-long s (nodeCount s + 1) (nodeCount s + 1) (joiningNode (newNode id) copying gateway) (omega arith) fits,
+    stored-length t (nodeCount s + 1) (ownTable (digits s) id (nodeCount s + 1)) own-size new-fits,
+  )
+
   long : Long s₁ t₁
-  unfolding s₁ t₁ begun s₀
-  long = record {
-    state =
-        omega (
-          arith,
-          node-length s₀ (nodeCount s + 1) (joiningNode (newNode id) copying gateway) fits,
-          length-set s 3 (nodeCount s + 1),
-          S .long .state,
-        );
-    tables =
-        omega (
-          arith,
-          stored-length t (nodeCount s + 1) (ownTable (digits s) id (nodeCount s + 1)) own-size new-fits,
-          S .long .tables,
-        );
-  }
+  unfolding s₁ t₁
+  long = record { state = omega (arith, begun-long .0, S .long .state); tables = omega (arith, begun-long .1, S .long .tables) }
+
+  pub begun-byte : (p : ℕ) → (p < 512 * nodeCount s) ⊎ (512 * nodeCount s + 512 ≤ p) → getD (begun s t id gateway .tables) p 0 ≡ getD t p 0
+  unfolding begun
+  begun-byte p h =
+      stored-outside t (nodeCount s + 1) (ownTable (digits s) id (nodeCount s + 1)) own-size new-fits p
+      (⊎-elim (λ l. inl (omega arith)) (λ g. inr (omega arith)) h)
 
   tables-zero : (p : ℕ) → 512 * nodeCount s₁ ≤ p → p < tablesLength → getD t₁ p 0 ≡ 0
-  unfolding t₁ begun
-  tables-zero p l h =
-      stored-outside t (nodeCount s + 1) (ownTable (digits s) id (nodeCount s + 1)) own-size new-fits p (inr (omega (arith, count)))
-      ∙ S .tables-rest p (omega (arith, count)) h
+  unfolding t₁
+  tables-zero p l h = begun-byte p (inr (omega (arith, count, l))) ∙ S .tables-rest p (omega (arith, count)) h
 
   pub begun-ok : Sound (begun s t id gateway .state) (begun s t id gateway .tables)
   unfolding s₁ t₁

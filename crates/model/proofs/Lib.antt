@@ -15,6 +15,7 @@ pub mod Sets
 pub mod SetSizes
 -- ---- the lent memory and tables
 pub mod Memory
+pub mod NodeStored
 pub mod Parts
 pub mod Zero
 pub mod Over
@@ -43,6 +44,9 @@ pub mod ReplacingKeepsSound
 pub mod NotifyingKeepsSound
 pub mod DeliveryKeepsSound
 pub mod TablesOnlyGrow
+-- ---- withdrawing
+pub mod Withdrawing
+pub mod Undoing
 -- ---- lookup and verdict
 pub mod Lookup
 pub mod Survey
@@ -76,3 +80,5 @@ pub mod AlikeLearning
 pub mod AlikeDelivery
 pub mod AlikeLooking
 pub mod AlikeRefusals
+-- ---- with a node that copies or waits, and without it
+pub mod Invisible

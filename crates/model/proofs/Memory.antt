@@ -12,7 +12,7 @@ use borrow.Author.Fill.{fill-more}
 use lib.Dec.{lit<}
 use lib.Seq.{sets, sets-eq, getD-set-same, getD-set-other, ext-getD}
 use Rattle.model.specs.Memory.{Node, nodeOf, withNode, tableStart, tableOf, withTable, zeroed}
-use Rattle.model.proofs.Splice.{splice, splice-length, splice-before, splice-at, splice-after, splice-twice, splice-back, part-length, part-at, part-same}
+use Rattle.model.proofs.Splice.{splice, splice-length, splice-before, splice-at, splice-after, splice-both, splice-twice, splice-back, part-length, part-at, part-same}
 
 -- ---- a node's record
 
@@ -61,6 +61,14 @@ pub node-same : (s s′ : List ℕ) (y : ℕ) → ((k : ℕ) → k < 8 → getD 
 node-same s s′ y h =
     node-eq (subst (λ (p : ℕ). getD s′ p 0 ≡ getD s p 0) (add-zero (8 * y)) (h 0 (lit< tt))) (h 1 (lit< tt)) (h 2 (lit< tt))
     (h 3 (lit< tt)) (h 4 (lit< tt)) (h 5 (lit< tt)) (h 6 (lit< tt)) (h 7 (lit< tt))
+
+-- the words of two nodes' records are apart
+pub words-apart : (x y k : ℕ) → y ≢ x → k < 8 → (8 * y + k < 8 * x) ⊎ (8 * x + 8 ≤ 8 * y + k)
+words-apart x y k e h = go (decLt y x)
+  where
+    go : Dec (y < x) → (8 * y + k < 8 * x) ⊎ (8 * x + 8 ≤ 8 * y + k)
+    go (yes l) = inl (omega arith)
+    go (no g) = inr (omega arith)
 
 abbrev pub words : Node → List ℕ
 words r = r .id ∷ r .status ∷ r .level ∷ r .target ∷ r .pending ∷ r .notified ∷ r .requests ∷ r .notices ∷ []
@@ -200,6 +208,19 @@ stored-twice s x a b fits =
     ∙ ap (splice (8 * x) 8 (words b)) (spliced s x a fits)
     ∙ splice-twice (8 * x) 8 (words a) s refl fits (words b)
     ∙ sym (spliced s x b fits)
+
+-- the same record, and the same table, stored in two memories that have the same at a place
+pub node-both : (s s′ : List ℕ) (x : ℕ) (r : Node) → 8 * x + 8 ≤ length s → 8 * x + 8 ≤ length s′ → (p : ℕ) → getD s′ p 0 ≡ getD s p 0
+    → getD (withNode s′ x r) p 0 ≡ getD (withNode s x r) p 0
+node-both s s′ x r f f′ p e =
+    ap (λ (l : List ℕ). getD l p 0) (spliced s′ x r f′)
+    ∙ splice-both (8 * x) 8 (words r) s′ s refl f′ f p e
+    ∙ sym (ap (λ (l : List ℕ). getD l p 0) (spliced s x r f))
+
+pub table-both : (t t′ : List ℕ) (x : ℕ) (T : List ℕ) → length T ≡ 512 → tableStart x + 512 ≤ length t → tableStart x + 512 ≤ length t′ → (p : ℕ)
+    → getD t′ p 0 ≡ getD t p 0 → getD (withTable t′ x T) p 0 ≡ getD (withTable t x T) p 0
+unfolding withTable
+table-both t t′ x T size f f′ = splice-both (tableStart x) 512 T t′ t size f′ f
 
 -- a table put back as it was changes nothing
 pub table-back : (t : List ℕ) (x : ℕ) → withTable t x (tableOf t x) ≡ t

@@ -1,4 +1,4 @@
--- Laws of loops over the nodes, which are numbered from 1, and of the places of their tables. Assumes nothing.
+-- Laws of loops over the nodes, which are numbered from 1, of the places of their tables, and of common suffixes. Assumes nothing.
 use Prim.Native.Nat.{ℕ, _+_, _-_, _*_, _≤_, _<_}
 use mathlib.Core.Path.{_≡_, ap₂, subst}
 use mathlib.Core.Bool.{Bool, true, false, not}
@@ -6,8 +6,9 @@ use mathlib.Core.List.{List}
 use native.Mathlib.Omega.{arith}
 use lib.ListN.{take, drop}
 use Rattle.model.specs.Loops.{allBelow, anyBelow, node}
-use Rattle.model.specs.Memory.{tableOf}
-use Rattle.model.proofs.Loops.{all-zero, all-goes, all-leaves, all-ends, all-at, all-of, any-at}
+use Rattle.model.specs.Memory.{digits, idOf, tableOf}
+use Rattle.model.specs.Nodes.{suffixOf}
+use Rattle.model.proofs.Loops.{all-zero, all-goes, all-leaves, all-ends, all-at, all-of, any-at, any-false}
 
 -- ---- tests of nodes
 
@@ -24,6 +25,9 @@ module _ (n : ℕ) (f : ℕ → Bool) where
   no-node-at e x l h =
       let w : x - 1 + 1 ≡ x = omega arith in
       subst (λ (y : ℕ). f y ≡ false) w (any-at n (node f) e (x - 1) (omega arith))
+
+  pub no-node-of : ((x : ℕ) → 1 ≤ x → x ≤ n → f x ≡ false) → anyBelow n (node f) ≡ false
+  no-node-of h = any-false n (node f) (λ k l. h (k + 1) (omega arith) (omega arith))
 
 -- ---- loops
 
@@ -43,3 +47,9 @@ all-ends-to m n f i p e l g = all-ends n f i e (omega arith) (omega arith)
 
 -- what the needs of such a loop are closed by, as `search (needs, all-loop-to)`
 pub ruleset all-loop-to = (all-zero, all-goes, all-leaves-to, all-ends-to)
+
+-- ---- common suffixes
+
+-- the common suffix of two nodes is the same where the number of digits and both ids are
+pub suffix-by : (s s′ : List ℕ) (x y : ℕ) → digits s′ ≡ digits s → idOf s′ x ≡ idOf s x → idOf s′ y ≡ idOf s y → suffixOf s′ x y ≡ suffixOf s x y
+suffix-by s s′ x y d e f = cc (d, e, f)

@@ -18,13 +18,13 @@ use Rattle.model.proofs.Bools.{or-cases, not-both}
 use Rattle.model.proofs.Sets.{has-none, has-add, has-add-other, has-remove, add-within, remove-le}
 use Rattle.model.proofs.SetSizes.{size-none}
 use Rattle.model.proofs.Memory.{same-status, node-stored}
-use Rattle.model.proofs.Status.{IsNode, PendingOk, NotifiedOk, NotifyingOk, RecordOk, is-notifying, rests, attached-notifying, attached-same, notifying-out}
+use Rattle.model.proofs.Status.{IsNode, node-among, PendingOk, NotifiedOk, NotifyingOk, RecordOk, is-notifying, rests, attached-notifying, attached-same, notifying-out}
 use Rattle.model.proofs.NodeCounts.{CountsOk}
 use Rattle.model.proofs.Settling.{Settling, settles, stays, settle-attached}
 use Rattle.model.proofs.Ids.{InRange}
 use Rattle.model.proofs.Sound.{standing, Sound, node-fits}
 use Rattle.model.proofs.LearningKeepsRules.{OwnTable}
-use Rattle.model.proofs.Later.{Later, node-later}
+use Rattle.model.proofs.Later.{Later}
 use Rattle.model.proofs.ReplacingKeepsSound.{Agree, agree-node, agree-both, agree-count, agree-kept, agree-later, replaced-ok}
 use Rattle.model.proofs.Gather.{ToNotify, Gathered, gather-has, gather-within}
 use Rattle.model.proofs.SoundNodes.{own-later, own, suffix-below, range, learned-table, learned-node}
@@ -88,6 +88,9 @@ module _ (s t : List ℕ) (S : Sound s t) (x y : ℕ) (c : CanDeliver s x y) (s�
   same-count : nodeCount s′ ≡ nodeCount s
   same-count = agree-count x s s′ a (nx .low)
 
+  on : (z : ℕ) → IsNode s z → IsNode s′ z
+  on = node-among s s′ (omega (arith, same-count))
+
   abbrev Ty′ : List ℕ
   Ty′ = learn s′ y x (tableOf t y)
 
@@ -126,6 +129,9 @@ module _ (s t : List ℕ) (S : Sound s t) (x y : ℕ) (c : CanDeliver s x y) (s�
       l₁ : Later s s₁
       l₁ = delivered-later s t S x y c
 
+      on₁ : (z : ℕ) → IsNode s z → IsNode s₁ z
+      on₁ = node-among s s₁ (omega (arith, agree-count x s s₁ a₁ (nx .low)))
+
       l₂ : Later s′ s₁
       l₂ =
           agree-later x s′ s₁ (agree-both x s s′ s₁ a a₁) (nx .low) (λ q. settle-attached full refl s₁ x (node-stored s x (d .sender) fits ∙ w .sender))
@@ -154,8 +160,8 @@ module _ (s t : List ℕ) (S : Sound s t) (x y : ℕ) (c : CanDeliver s x y) (s�
       tells-ok =
           subst₂ (λ (Tx Ty : List ℕ). Sound s₁ (withTable (withTable t y Ty) x Tx)) (sym (w .own)) (sym (w .theirs))
           (replaced-ok s t x y (d .sender) (learnTable s′ x seen (tableOf t x)) Ty′ S nx ny (delivered-id s t S x y c) l₁
-          (own-later s′ s₁ l₂ x (learnTable s′ x seen (tableOf t x)) (node-later s s′ l x nx) mine)
-          (own-later s′ s₁ l₂ y Ty′ (node-later s s′ l y ny) theirs) (subst (RecordOk s x) (sym (w .sender)) (rules (w .settling)))
+          (own-later s′ s₁ l₂ x (learnTable s′ x seen (tableOf t x)) (on x nx) (on₁ x nx) mine)
+          (own-later s′ s₁ l₂ y Ty′ (on y ny) (on₁ y ny) theirs) (subst (RecordOk s x) (sym (w .sender)) (rules (w .settling)))
           (subst (CountsOk s x) (sym (w .sender)) (telling-counts s t S x nx y k pending before notices ny yet (not-itself s x nx before done) (r .other) counted (w .settling))))
 
 -- ---- the two cases
@@ -192,7 +198,7 @@ module _ (s t : List ℕ) (S : Sound s t) (x y : ℕ) (c : CanDeliver s x y) whe
       range′ = ranged s t S x y c s′ a status′
 
       seen : OwnTable s′ y (tableOf t y)
-      seen = own-later s s′ (l s t S x y c s′ a status′) y (tableOf t y) (c .receiver) (own s t S y (c .receiver))
+      seen = own-later s s′ (l s t S x y c s′ a status′) y (tableOf t y) (c .receiver) (on s t S x y c s′ a status′ y (c .receiver)) (own s t S y (c .receiver))
 
       Tx′ : List ℕ
       Tx′ = learnTable s′ x (tableOf t y) (tableOf t x)

@@ -106,9 +106,12 @@ passed (c ∷ cs) g e n =
     both false t u e f = f
 
 -- and back, sentence by sentence
-pub free : (test : Bool) (n : ℕ) (later : List Sentence) → test ≡ false → firstTrue later ≡ 0 → firstTrue ((test, n) ∷ later) ≡ 0
+pub skipped : (test : Bool) (n : ℕ) (later : List Sentence) → test ≡ false → firstTrue ((test, n) ∷ later) ≡ firstTrue later
 unfolding firstTrue
-free test n later e z = ap (λ (b : Bool). cond b n (firstTrue later)) e ∙ z
+skipped test n later e = ap (λ (b : Bool). cond b n (firstTrue later)) e
+
+pub free : (test : Bool) (n : ℕ) (later : List Sentence) → test ≡ false → firstTrue later ≡ 0 → firstTrue ((test, n) ∷ later) ≡ 0
+free test n later e z = skipped test n later e ∙ z
 
 -- ---- the first sentences, then the others
 

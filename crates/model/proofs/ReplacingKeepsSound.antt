@@ -5,13 +5,13 @@ use mathlib.Core.Path.{_≡_, sym, subst, subst₃, _∙_}
 use mathlib.Core.Logic.{_≢_, _⊎_, inl, inr}
 use mathlib.Core.Bool.{true}
 use mathlib.Core.List.{List}
-use native.Mathlib.Decide.{ℕ-discrete, decLt}
+use native.Mathlib.Decide.{ℕ-discrete}
 use native.Mathlib.Omega.{arith}
 use lib.ListN.{length, getD}
 use Rattle.model.specs.Ids.{validId}
 use Rattle.model.specs.Memory.{base, digits, depth, nodeCount, Node, nodeOf, idOf, isAttached, isInSystem, withNode, tableStart, tableOf, withTable}
-use Rattle.model.proofs.Memory.{same-id, node-same, node-length, node-stored, node-outside, stored-length, stored-outside, stored-same, stored-other}
-use Rattle.model.proofs.Status.{IsNode, RecordOk, StatusOk, attached-same, in-system-same}
+use Rattle.model.proofs.Memory.{same-id, node-same, words-apart, node-length, node-stored, node-outside, stored-length, stored-outside, stored-same, stored-other}
+use Rattle.model.proofs.Status.{IsNode, node-among, RecordOk, StatusOk, attached-same, in-system-same}
 use Rattle.model.proofs.NodeCounts.{CountsOk}
 use Rattle.model.proofs.Ids.{InRange}
 use Rattle.model.proofs.Sound.{TableOk, Long, Sound, node-fits, table-fits}
@@ -34,11 +34,7 @@ agree-both x s s′ s″ a b = record { words = λ p h. b .words p h ∙ sym (a 
 module _ (x : ℕ) (s s′ : List ℕ) (a : Agree x s s′) where
   -- the words of another node's record
   agree-record : (y k : ℕ) → y ≢ x → k < 8 → getD s′ (8 * y + k) 0 ≡ getD s (8 * y + k) 0
-  agree-record y k e h = a .words (8 * y + k) (apart (decLt y x))
-    where
-      apart : Dec (y < x) → (8 * y + k < 8 * x) ⊎ (8 * x + 8 ≤ 8 * y + k)
-      apart (yes l) = inl (omega arith)
-      apart (no g) = inr (omega arith)
+  agree-record y k e h = a .words (8 * y + k) (words-apart x y k e h)
 
   pub agree-kept : (y : ℕ) → y ≢ x → nodeOf s′ y ≡ nodeOf s y
   agree-kept y e = node-same s s′ y (λ k. agree-record y k e)
@@ -59,8 +55,8 @@ module _ (x : ℕ) (s s′ : List ℕ) (a : Agree x s s′) where
     base = a .words 0 (inl (omega arith));
     digits = a .words 1 (inl (omega arith));
     depth = a .words 2 (inl (omega arith));
-    more = omega (arith, agree-count h);
-    ids = λ y n. agree-id y;
+    ids = λ y n n′. agree-id y;
+    stays = λ y n e. node-among s s′ (omega (arith, agree-count h)) y n;
     attached = λ y n. attached y (ℕ-discrete y x);
     in-system = λ y n. in-system y (ℕ-discrete y x);
   }
@@ -135,18 +131,21 @@ module _ (s t : List ℕ) (x y : ℕ) (r : Node) (Tx Ty : List ℕ) (S : Sound s
   count = agree-count x s s₁ a (nx .low)
 
   back : (z : ℕ) → IsNode s₁ z → IsNode s z
-  back z n = record { low = n .low; high = omega (arith, count, n .high) }
+  back = node-among s₁ s (omega (arith, count))
+
+  on : (z : ℕ) → IsNode s z → IsNode s₁ z
+  on = node-among s s₁ (omega (arith, count))
 
   status : (z : ℕ) → IsNode s z → Dec (z ≡ x) → StatusOk s₁ z
   unfolding s₁
-  status z n (yes e) = subst (StatusOk s₁) (sym e) (status-later s s₁ l x nx (node-stored s x r fits-node) ok)
-  status z n (no e) = status-later s s₁ l z n (agree-kept x s s₁ a z e) (S .statuses z n)
+  status z n (yes e) = subst (StatusOk s₁) (sym e) (status-later s s₁ l x nx (on x nx) (node-stored s x r fits-node) ok)
+  status z n (no e) = status-later s s₁ l z n (on z n) (agree-kept x s s₁ a z e) (S .statuses z n)
 
   counts : (z : ℕ) → IsNode s z → Dec (z ≡ x) → CountsOk s₁ z (nodeOf s₁ z)
   unfolding s₁
   counts z n (yes e) =
-      subst (λ (z : ℕ). CountsOk s₁ z (nodeOf s₁ z)) (sym e) (counts-later s s₁ l x nx (node-stored s x r fits-node) ok counted)
-  counts z n (no e) = counts-later s s₁ l z n (agree-kept x s s₁ a z e) (S .statuses z n) (S .counts z n)
+      subst (λ (z : ℕ). CountsOk s₁ z (nodeOf s₁ z)) (sym e) (counts-later s s₁ l x nx (on x nx) (node-stored s x r fits-node) ok counted)
+  counts z n (no e) = counts-later s s₁ l z n (on z n) (agree-kept x s s₁ a z e) (S .statuses z n) (S .counts z n)
 
   valid : (z : ℕ) → IsNode s z → validId (base s₁) (digits s₁) (idOf s₁ z) ≡ true
   unfolding s₁
@@ -172,7 +171,7 @@ module _ (s t : List ℕ) (x y : ℕ) (r : Node) (Tx Ty : List ℕ) (S : Sound s
     tables =
         λ z n.
         replaced-table s t S x y nx ny Tx Ty (ox .long) (oy .long) (TableOk s₁) (ox .rules) (oy .rules)
-        (λ z n. table-later s s₁ l z (tableOf t z) n (S .tables z n)) z (back z n);
+        (λ z n. table-later s s₁ l z (tableOf t z) n (on z n) (S .tables z n)) z (back z n);
     statuses = λ z n. status z (back z n) (ℕ-discrete z x);
     counts = λ z n. counts z (back z n) (ℕ-discrete z x);
     head = λ p h g. a .words p (inl (omega (arith, nx .low))) ∙ S .head p h g;

@@ -4,7 +4,7 @@ use Prim.Native.Nat.{ℕ, zero, suc, _+_, _-_, _*_, _/_, _%_, _^_, _≤_, _<_}
 use mathlib.Core.Path.{_≡_, refl, sym, ap, ap₂, subst, _∙_}
 use mathlib.Core.Logic.{_≢_, _⊎_, inl, inr}
 use mathlib.Core.Bool.{Bool, true, false, cond}
-use native.Mathlib.Nat.{one-mul, pow-suc, zero-div, div-self, mul-mod-left, zero-mul, div-lt-iff-lt-mul, div-eq-of-lt, mod-lt}
+use native.Mathlib.Nat.{one-mul, pow-suc, zero-div, div-self, mul-mod-left, zero-mul, div-lt-iff-lt-mul, le-div-iff-mul-le, div-eq-of-lt, mod-lt}
 use native.Mathlib.Decide.{decLt, ℕ-discrete}
 use native.Mathlib.Omega.{arith}
 use lib.Bits.{bitAnd, bitOr, bitXor, and-mask, and-high, or-add-and, xor-add-and, or-shr, or-mod, xor-shr, xor-mod, or-zero-l, or-zero-r, xor-zero-r, or-self, xor-self, or-lt}
@@ -181,6 +181,23 @@ has-within nodes n u l e = go (decLt n u)
         let m : 2 ^ n ≤ 2 ^ (u - 1) = pow-mono (omega arith) in
         let z : nodes / 2 ^ (u - 1) ≡ 0 = div-eq-of-lt (omega arith) in
         absurd (not-both (eqb (nodes / 2 ^ (u - 1) % 2) 1) e (ap (λ (q : ℕ). eqb (q % 2) 1) z))
+
+-- and one that names no node above m is below 2 ^ m
+pub has-below : (nodes n m : ℕ) → nodes < 2 ^ n → ((u : ℕ) → 1 ≤ u → u ≤ n → hasNode nodes u ≡ true → u ≤ m) → nodes < 2 ^ m
+unfolding hasNode
+has-below nodes zero m l f = omega (arith, pow-pos m, l)
+has-below nodes (suc n) m l f = go (λ h. has-below nodes n m h (λ u low high. f u low (omega arith))) (decLt nodes (2 ^ n))
+  where
+    go : (nodes < 2 ^ n → nodes < 2 ^ m) → Dec (nodes < 2 ^ n) → nodes < 2 ^ m
+    go fewer (yes h) = fewer h
+    go fewer (no g) =
+        let least : 1 ≤ nodes / 2 ^ n = le-div-iff-mul-le (pow-pos n) .1 (omega (arith, one-mul (2 ^ n))) in
+        let most : nodes / 2 ^ n < 2 = div-lt-iff-lt-mul (pow-pos n) .1 (omega (arith, l, pow-suc 2 n)) in
+        let last : suc n - 1 ≡ n = omega arith in
+        let one : nodes / 2 ^ n ≡ 1 = omega arith in
+        let has = eq-eqb (nodes / 2 ^ (suc n - 1) % 2) 1 (ap (λ (k : ℕ). nodes / 2 ^ k % 2) last ∙ ap (λ (q : ℕ). q % 2) one) in
+        let top : suc n ≤ m = f (suc n) (omega arith) (omega arith) has in
+        omega (arith, l, pow-mono top)
 
 pub add-within : (nodes n u : ℕ) → nodes < 2 ^ n → 1 ≤ u → u ≤ n → addNode nodes u < 2 ^ n
 add-within nodes n u l a h = subst (λ (q : ℕ). q < 2 ^ n) (add-or nodes u) (or-lt n nodes (2 ^ (u - 1)) l (pow-lt (omega arith)))

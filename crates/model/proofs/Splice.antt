@@ -1,8 +1,9 @@
 -- Laws of a list with a part replaced: `splice a n vs l` is l with the n elements from index a on replaced by the n of vs.
 -- A node's record in the state and a node's table in the table memory are such parts. Assumes nothing.
 use Prim.Native.Nat.{ℕ, _+_, _-_, _≤_, _<_}
-use mathlib.Core.Path.{_≡_, sym, ap, ap₂, _∙_}
+use mathlib.Core.Path.{_≡_, sym, ap, ap₂, subst, _∙_}
 use mathlib.Core.List.{List, _++_, append-assoc}
+use native.Mathlib.Decide.{decLt}
 use native.Mathlib.Omega.{arith}
 use lib.ListN.{length, getD, take, drop, length-append, length-drop, take-append-drop, List·getD-append}
 use lib.Seq.{length-take-le, getD-take, getD-drop, getD-append-add, take-at, drop-at, drop-drop, ext-getD}
@@ -49,6 +50,19 @@ module _ (a n : ℕ) (vs l : List ℕ) (e : length vs ≡ n) (fits : a + n ≤ l
       ap₂ (λ (p q : List ℕ). p ++ (us ++ q)) (take-at (take a l) (vs ++ drop (a + n) l) a front)
       (ap (drop (a + n)) (sym (append-assoc (take a l) vs (drop (a + n) l)))
       ∙ drop-at (take a l ++ vs) (drop (a + n) l) (a + n) (length-append (take a l) vs ∙ ap₂ _+_ front e))
+
+-- two lists that have the same at a place have the same there with the same part
+pub splice-both : (a n : ℕ) (vs l m : List ℕ) → length vs ≡ n → a + n ≤ length l → a + n ≤ length m → (p : ℕ) → getD l p 0 ≡ getD m p 0
+    → getD (splice a n vs l) p 0 ≡ getD (splice a n vs m) p 0
+splice-both a n vs l m e f g p q = go (decLt p a) (decLt p (a + n))
+  where
+    go : Dec (p < a) → Dec (p < a + n) → getD (splice a n vs l) p 0 ≡ getD (splice a n vs m) p 0
+    go (yes h) k = splice-before a n vs l e f p h ∙ q ∙ sym (splice-before a n vs m e g p h)
+    go (no h) (yes k) =
+        let w : a + (p - a) ≡ p = omega arith in
+        subst (λ (p : ℕ). getD (splice a n vs l) p 0 ≡ getD (splice a n vs m) p 0) w
+        (splice-at a n vs l e f (p - a) (omega arith) ∙ sym (splice-at a n vs m e g (p - a) (omega arith)))
+    go (no h) (no k) = splice-after a n vs l e f p (omega arith) ∙ q ∙ sym (splice-after a n vs m e g p (omega arith))
 
 -- a part put back as it was changes nothing
 pub splice-back : (a n : ℕ) (l : List ℕ) → splice a n (take n (drop a l)) l ≡ l

@@ -4,6 +4,7 @@ use mathlib.Core.Path.{_≡_, refl, ap, _∙_}
 use mathlib.Core.Logic.{_≢_, ⊎-elim}
 use mathlib.Core.Bool.{Bool, true, false, not, _&&_, _||_}
 use mathlib.Core.List.{List}
+use native.Mathlib.Nat.{le-trans}
 use lib.Dec.{eqb}
 use borrow.Author.Tests.{eqb-true, eqb-false, eq-eqb, ne-eqb, leb-true, le-leb, ltb-true, lt-ltb, not-true}
 use Rattle.model.specs.Memory.{Node, digits, nodeCount, nodeOf, statusOf, levelOf, targetOf, pendingOf, notifiedOf, inSystem, copying, waiting, notifying, hasNode, isAttached, isInSystem}
@@ -48,6 +49,10 @@ module _ (s s′ : List ℕ) (y : ℕ) (e : nodeOf s′ y ≡ nodeOf s y) where
 pub record IsNode (s : List ℕ) (x : ℕ) : Type 0 where
   pub low : 1 ≤ x
   pub high : x ≤ nodeCount s
+
+-- a node of one state is one of every state with as many nodes or more
+pub node-among : (s s′ : List ℕ) → nodeCount s ≤ nodeCount s′ → (x : ℕ) → IsNode s x → IsNode s′ x
+node-among s s′ h x n = record { low = n .low; high = le-trans (n .high) h }
 
 pub is-node : (s : List ℕ) (x : ℕ) → isNode s x ≡ true → IsNode s x
 is-node s x e = record { low = leb-true 1 x (search parts); high = leb-true x (nodeCount s) (search parts) }

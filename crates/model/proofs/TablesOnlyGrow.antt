@@ -1,11 +1,11 @@
--- Every taken call leads to a later state in which each table has only gained nodes. Assumes nothing.
+-- Every taken call leads onward: the attached nodes stay, with their ids, and their tables only gain nodes. A number that is not attached may be withdrawn and
+-- given again, so nothing is said of it here. Assumes nothing.
 use Prim.Native.Nat.{ℕ, _+_, _*_, _≤_}
 use mathlib.Core.Path.{_≡_, refl, _∙_}
 use mathlib.Core.Bool.{true, false}
 use mathlib.Core.List.{List}
-use native.Mathlib.Nat.{le-trans}
 use lib.ListN.{length}
-use Rattle.model.specs.Memory.{nodeCount, Node, nodeOf, idOf, isAttached, isInSystem, withNode, tableOf}
+use Rattle.model.specs.Memory.{digits, nodeCount, Node, nodeOf, idOf, isAttached, isInSystem, withNode, tableOf}
 use Rattle.model.specs.Join.{Delivery, notifyingNode, begun, delivery, delivered}
 use Rattle.model.proofs.Bools.{back-false, not-both}
 use Rattle.model.proofs.Memory.{same-id, node-stored, table-length}
@@ -14,45 +14,50 @@ use Rattle.model.proofs.Learning.{learn-grows, learn-table-grows}
 use Rattle.model.proofs.Status.{IsNode, attached-in-system, waiting-away, notifying-out}
 use Rattle.model.proofs.Settling.{settle-id, settle-attached}
 use Rattle.model.proofs.Sound.{Sound, node-fits, table-fits}
-use Rattle.model.proofs.Later.{Later, later-refl, node-later}
+use Rattle.model.proofs.Later.{Later}
 use Rattle.model.proofs.ReplacingKeepsSound.{agree-node, agree-count, agree-later, replaced-table}
 use Rattle.model.proofs.BeginningKeepsSound.{CanBegin, begun-later, begun-table}
 use Rattle.model.proofs.Sender.{CanDeliver}
 use Rattle.model.proofs.DeliveryDid.{Tells, Did, did-ask, did-attach, did-notify, delivery-did}
 
--- the memory after is a later one of the same network
+-- x is an attached node
+pub record Attached (s : List ℕ) (x : ℕ) : Type 0 where
+  pub node : IsNode s x
+  pub status : isAttached s x ≡ true
+
+-- the memory after is that of the same network, one call on or many
 pub record Onward (s t s′ t′ : List ℕ) : Type 0 where
-  pub later : Later s s′
-  pub grows : (x : ℕ) → IsNode s x → Grows (tableOf t x) (tableOf t′ x)
+  pub digits : digits s′ ≡ digits s
+  pub attached : (x : ℕ) → Attached s x → Attached s′ x
+  pub ids : (x : ℕ) → Attached s x → idOf s′ x ≡ idOf s x
+  pub grows : (x : ℕ) → Attached s x → Grows (tableOf t x) (tableOf t′ x)
 
 pub onward-refl : (s t : List ℕ) → Onward s t s t
-onward-refl s t = record { later = later-refl s; grows = λ x n. grows-refl (tableOf t x) }
+onward-refl s t = record { digits = refl; attached = λ x a. a; ids = λ x a. refl; grows = λ x a. grows-refl (tableOf t x) }
 
 pub onward-trans : {s t s′ t′ s″ t″ : List ℕ} → Onward s t s′ t′ → Onward s′ t′ s″ t″ → Onward s t s″ t″
-onward-trans {s} {t} {s′} {t′} {s″} f g =
-    let l : Later s s′ = f .later in
-    let m : Later s′ s″ = g .later in
-    record {
-      later = record {
-        base = m .base ∙ l .base;
-        digits = m .digits ∙ l .digits;
-        depth = m .depth ∙ l .depth;
-        more = le-trans (l .more) (m .more);
-        ids = λ x n. m .ids x (node-later s s′ l x n) ∙ l .ids x n;
-        attached = λ x n e. m .attached x (node-later s s′ l x n) (l .attached x n e);
-        in-system = λ x n e. m .in-system x (node-later s s′ l x n) (l .in-system x n e);
-      };
-      grows = λ x n. grows-trans (f .grows x n) (g .grows x (node-later s s′ l x n));
-    }
+onward-trans f g = record {
+  digits = g .digits ∙ f .digits;
+  attached = λ x a. g .attached x (f .attached x a);
+  ids = λ x a. g .ids x (f .attached x a) ∙ f .ids x a;
+  grows = λ x a. grows-trans (f .grows x a) (g .grows x (f .attached x a));
+}
+
+-- one call on
+pub later-onward : {s t s′ t′ : List ℕ} → Later s s′ → ((x : ℕ) → Attached s x → Grows (tableOf t x) (tableOf t′ x)) → Onward s t s′ t′
+later-onward l g = record {
+  digits = l .digits;
+  attached = λ x a. record { node = l .stays x (a .node) (a .status); status = l .attached x (a .node) (a .status) };
+  ids = λ x a. l .ids x (a .node) (l .stays x (a .node) (a .status));
+  grows = g;
+}
 
 -- ---- a beginning
 
 pub begun-onward : (s t : List ℕ) (id gateway : ℕ) → Sound s t → CanBegin s id gateway
     → Onward s t (begun s t id gateway .state) (begun s t id gateway .tables)
-begun-onward s t id gateway S c = record {
-  later = begun-later s t id gateway S c;
-  grows = λ z n. rw (begun-table s t id gateway S c z n) (grows-refl (tableOf t z));
-}
+begun-onward s t id gateway S c =
+    later-onward (begun-later s t id gateway S c) (λ z a. rw (begun-table s t id gateway S c z (a .node)) (grows-refl (tableOf t z)))
 
 -- ---- a delivery
 
@@ -126,10 +131,9 @@ module _ (s t : List ℕ) (S : Sound s t) (x y : ℕ) (c : CanDeliver s x y) whe
 
   pub delivered-onward : Onward s t (delivered s t x y (delivery s t x y) .state) (delivered s t x y (delivery s t x y) .tables)
   unfolding delivered
-  delivered-onward = record {
-    later = delivered-later;
-    grows =
-        replaced-table s t S x y nx ny (d .senderTable) (d .receiverTable) (does .own .long ∙ table-length t x (table-fits s t S x nx))
-        (does .their .long ∙ table-length t y (table-fits s t S y ny)) (λ z T. Grows (tableOf t z) T) (does .own) (does .their)
-        (λ z n. grows-refl (tableOf t z));
-  }
+  delivered-onward =
+      later-onward delivered-later
+      (λ z a.
+      replaced-table s t S x y nx ny (d .senderTable) (d .receiverTable) (does .own .long ∙ table-length t x (table-fits s t S x nx))
+      (does .their .long ∙ table-length t y (table-fits s t S y ny)) (λ z T. Grows (tableOf t z) T) (does .own) (does .their)
+      (λ z n. grows-refl (tableOf t z)) z (a .node))

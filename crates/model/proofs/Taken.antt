@@ -1,24 +1,24 @@
 -- What a call that is not refused may go by: each sentence that did not refuse it, as a fact. Assumes nothing.
 use Prim.Native.Nat.{ℕ, _+_, _-_, _≤_, _<_}
-use mathlib.Core.Path.{_≡_, refl, sym, ap, ap₂, subst}
+use mathlib.Core.Path.{_≡_, refl, sym, ap, ap₂, subst, _∙_}
 use mathlib.Core.Logic.{_≢_}
 use mathlib.Core.Bool.{true, false, not, _&&_, _||_}
 use mathlib.Core.List.{List, [], _++_}
 use native.Mathlib.Omega.{arith}
 use lib.Dec.{ltb, leb}
 use lib.ListN.{length}
-use borrow.Author.Tests.{eqb-false, ltb-false, le-ltb, leb-true, not-false, not-true}
+use borrow.Author.Tests.{eqb-true, eq-eqb, eqb-false, ne-eqb, ltb-false, le-ltb, leb-true, not-false, not-true}
 use Rattle.model.specs.Ids.{validId}
-use Rattle.model.specs.Memory.{Memory, stateLength, tablesLength, nodeCount, idOf, isInSystem}
+use Rattle.model.specs.Memory.{Memory, stateLength, tablesLength, nodeCount, idOf, isInSystem, isAttached}
 use Rattle.model.specs.Nodes.{isNode}
 use Rattle.model.specs.Sound.{sound}
 use Rattle.model.specs.Image.{imNodes, imBase, imDigits, imDepth, imRecords, imId, imIdValid, imIdDiffers, imIdNew, imIsNode, recNode, recNeighbor, recNodesGood, recOrdered, recAllowed, recOwnerFirst, ownHaveRecords, ownPresent, recordsOwned, imageOf}
-use Rattle.model.specs.Refusals.{Sentence, firstTrue, memoryShort, unsound, hasId, areNodes, someNotInSystem, stateSentences, foundRefusal, readRefusal, stateRefusal, beginRefusal, deliverRefusal, lookupRefusal, verdictRefusal, writeRefusal}
+use Rattle.model.specs.Refusals.{Sentence, firstTrue, memoryShort, unsound, hasId, idTaken, areNodes, someNotInSystem, stateSentences, foundRefusal, readRefusal, stateRefusal, beginRefusal, withdrawRefusal, deliverRefusal, lookupRefusal, verdictRefusal, writeRefusal}
 use Rattle.model.proofs.Bools.{and-left, and-right, and-intro, or-none-left, or-none-right}
-use Rattle.model.proofs.Refusals.{numbered, testOf, passed, free, sentence-none}
+use Rattle.model.proofs.Refusals.{numbered, testOf, passed, skipped, free, sentence-none}
 use Rattle.model.proofs.Counts.{counts-ok}
 use Rattle.model.proofs.Loops.{all-at}
-use Rattle.model.proofs.Nodes.{nodes-at, no-node-at}
+use Rattle.model.proofs.Nodes.{nodes-at, no-node-at, no-node-of}
 use Rattle.model.proofs.Ids.{InRange, settings-range}
 use Rattle.model.proofs.Status.{IsNode, is-node, is-node-of}
 use Rattle.model.proofs.Sound.{Long, Sound, sound-ok, sound-of}
@@ -80,6 +80,12 @@ module _ (m : Memory) where
           room = omega (arith, full, S .few);
         },
       )
+
+  pub withdraw-taken : (x : ℕ) → withdrawRefusal m x ≡ 0 → Sound s t × (x ≡ nodeCount s) × (isAttached s x ≡ false)
+  unfolding withdrawRefusal numbered testOf
+  withdraw-taken x e =
+      let p = passed _ refl e in
+      (sound-past m (p 1) (p 2), eqb-true x (nodeCount s) (not-false _ (p 19)), p 20)
 
   both-nodes : (x y : ℕ) → not (areNodes s x y) ≡ false → IsNode s x × IsNode s y
   both-nodes x y e =
@@ -151,17 +157,20 @@ read-taken m im e =
         subst (λ (z : ℕ). imId im z ≢ imId im x) w
         (eqb-false _ _ (not-true _ (all-at (x - 1) (imIdDiffers im x) e (y - 1) (omega arith))))
 
--- ---- a sound state does not refuse a lookup between nodes
+-- ---- what a sound state does not refuse
 
 pub not-short : (m : Memory) → Long (m .state) (m .tables) → memoryShort m ≡ false
 not-short m l =
     ap₂ _||_ (le-ltb (length (m .tables)) tablesLength (l .tables)) (le-ltb (length (m .state)) stateLength (l .state))
 
 -- neither 1 nor 2
-pub state-free : (m : Memory) (later : List Sentence) → Sound (m .state) (m .tables) → firstTrue later ≡ 0
-    → firstTrue (stateSentences m ++ later) ≡ 0
-state-free m later S z =
-    free (memoryShort m) 1 _ (not-short m (S .long)) (free (unsound m) 2 later (ap not (sound-of (m .state) (m .tables) S)) z)
+pub state-skipped : (m : Memory) (later : List Sentence) → Sound (m .state) (m .tables)
+    → firstTrue (stateSentences m ++ later) ≡ firstTrue later
+state-skipped m later S =
+    skipped (memoryShort m) 1 _ (not-short m (S .long)) ∙ skipped (unsound m) 2 later (ap not (sound-of (m .state) (m .tables) S))
+
+pub state-free : (m : Memory) (later : List Sentence) → Sound (m .state) (m .tables) → firstTrue later ≡ 0 → firstTrue (stateSentences m ++ later) ≡ 0
+state-free m later S z = state-skipped m later S ∙ z
 
 pub sound-free : (m : Memory) → Sound (m .state) (m .tables) → stateRefusal m ≡ 0
 unfolding stateRefusal
@@ -172,3 +181,22 @@ unfolding lookupRefusal
 lookup-free m u z S nu nz =
     state-free m _ S
     (free (not (areNodes (m .state) u z)) 9 [] (ap not (and-intro _ _ (is-node-of (m .state) u nu) (is-node-of (m .state) z nz))) (sym sentence-none))
+
+pub begin-free : (m : Memory) (id gateway : ℕ) → Sound (m .state) (m .tables) → CanBegin (m .state) id gateway → beginRefusal m id gateway ≡ 0
+unfolding beginRefusal
+begin-free m id gateway S c =
+    let s = m .state in
+    state-free m _ S
+    (free _ 7 _ (ap not (c .valid))
+    (free (idTaken s id) 8 _ (no-node-of (nodeCount s) (hasId s id) (λ y low high. ne-eqb (idOf s y) id (c .new y (record { low = low; high = high }))))
+    (free _ 9 _ (ap not (is-node-of s gateway (c .is-node)))
+    (free _ 11 _ (ne-eqb (nodeCount s) 64 (omega (arith, c .room))) (free _ 12 [] (ap not (c .in-system)) (sym sentence-none))))))
+
+pub withdraw-free : (m : Memory) → Sound (m .state) (m .tables) → isAttached (m .state) (nodeCount (m .state)) ≡ false
+    → withdrawRefusal m (nodeCount (m .state)) ≡ 0
+unfolding withdrawRefusal
+withdraw-free m S away =
+    let n = nodeCount (m .state) in
+    state-free m _ S
+    (free _ 9 _ (ap not (is-node-of (m .state) n (record { low = S .some; high = omega arith })))
+    (free _ 19 _ (ap not (eq-eqb n n refl)) (free _ 20 [] away (sym sentence-none))))

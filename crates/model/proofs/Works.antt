@@ -49,12 +49,12 @@ read-works s t im R = record {
       (λ T e. append-length (imDepth im) T (recLevel im r) (recDigit im r) (recNeighbor im r) ∙ e)));
 }
 
--- ---- beginning: a record and a table for node x, and word 3
+-- ---- beginning and withdrawing: a record and a table for node x, and the number of nodes
 
-pub begin-works : (x : ℕ) (r : Node) (T : List ℕ) → 1 ≤ x → x ≤ 64 → length T ≡ 512
-    → Works (λ s. withNode (set s 3 x) x r) (λ t. withTable t x T)
-begin-works x r T low high e = record {
-  state = within-then stateLength _ _ (within-set stateLength 3 x (omega arith)) (within-node x r high);
+pub node-works : (n x : ℕ) (r : Node) (T : List ℕ) → 1 ≤ x → x ≤ 64 → length T ≡ 512
+    → Works (λ s. withNode (set s 3 n) x r) (λ t. withTable t x T)
+node-works n x r T low high e = record {
+  state = within-then stateLength _ _ (within-set stateLength 3 n (omega arith)) (within-node x r high);
   tables = within-table x low high (λ U. T) (λ U q. e);
 }
 
@@ -64,7 +64,7 @@ module _ (s t : List ℕ) (S : Sound s t) (x y : ℕ) (c : CanDeliver s x y) whe
   abbrev d : Delivery
   d = delivery s t x y
 
-  tables-long : (length (delivery s t x y .senderTable) ≡ 512) × (length (delivery s t x y .receiverTable) ≡ 512)
+  pub tables-long : (length (delivery s t x y .senderTable) ≡ 512) × (length (delivery s t x y .receiverTable) ≡ 512)
   tables-long = go (delivery-did s t S x y c)
     where
       own : length (tableOf t x) ≡ 512

@@ -6,12 +6,12 @@ use mathlib.Core.List.{List, [], _∷_, _++_}
 use lib.ListN.{length, drop, replicate}
 use lib.Dec.{eqb}
 use Rattle.model.specs.Memory.{Memory, nodeCount, inSystem}
-use Rattle.model.specs.Join.{Delivery, founded, begun, delivery, delivered}
+use Rattle.model.specs.Join.{Delivery, founded, begun, withdrawn, delivery, delivered}
 use Rattle.model.specs.Lookup.{Lookup, lookup}
 use Rattle.model.specs.Survey.{surveyCounts}
 use Rattle.model.specs.Consistency.{Verdict, verdict}
 use Rattle.model.specs.Image.{imageOf, loaded}
-use Rattle.model.specs.Refusals.{foundRefusal, readRefusal, recordPlace, beginRefusal, deliverRefusal, lookupRefusal, verdictRefusal, writeRefusal, stateRefusal}
+use Rattle.model.specs.Refusals.{foundRefusal, readRefusal, recordPlace, beginRefusal, withdrawRefusal, deliverRefusal, lookupRefusal, verdictRefusal, writeRefusal, stateRefusal}
 
 -- what a call leaves: the memory, the memory for output (none but for writing), and the answer's fields, of which the refusal is the first
 pub record Outcome : Type 0 where
@@ -52,6 +52,11 @@ unfoldable pub beginCall : Memory → ℕ → ℕ → Outcome
 beginCall m id gateway =
     unlessRefused (beginRefusal m id gateway) (refused m [] 1)
     (taken (begun (m .state) (m .tables) id gateway) [] ((nodeCount (m .state) + 1) ∷ []))
+
+-- answer: the refusal
+unfoldable pub withdrawCall : Memory → ℕ → Outcome
+withdrawCall m x =
+    unlessRefused (withdrawRefusal m x) (refused m [] 0) (taken (withdrawn (m .state) (m .tables)) [] [])
 
 -- what a delivery that was taken answers: its kind, the level if it attached, and whether its sender settled
 abbrev pub deliveryFields : Delivery → List ℕ

@@ -1,8 +1,8 @@
--- Founding and joining: document 01, "The join, step by step"; what they count: document 02, ticket 3.
-use Prim.Native.Nat.{ℕ, suc, _+_}
+-- Founding and joining: document 01, "The join, step by step"; what they count: document 02, ticket 3; withdrawing: ticket 5.
+use Prim.Native.Nat.{ℕ, suc, _+_, _-_}
 use mathlib.Core.Bool.{Bool, cond, not, _&&_, _||_}
 use mathlib.Core.List.{List}
-use lib.ListN.{getD, set}
+use lib.ListN.{getD, set, replicate}
 use lib.Dec.{leb, ltb, eqb}
 use Rattle.model.specs.Loops.{allBelow, firstBelow, eachBelow}
 use Rattle.model.specs.Ids.{digitOf}
@@ -67,7 +67,11 @@ notifyingNode r level pending notified notices =
 unfoldable pub settle : Node → Node
 settle r = cond (eqb (r .status) notifying && eqb (r .pending) 0) (inSystemNode r) r
 
--- ---- founding and beginning
+-- the record of a number that is no node's
+abbrev pub noNode : Node
+noNode = record { id = 0; status = 0; level = 0; target = 0; pending = 0; notified = 0; requests = 0; notices = 0 }
+
+-- ---- founding, beginning and withdrawing
 
 -- the settings and the number of nodes, in words 0 to 3
 abbrev pub withSettings : List ℕ → ℕ → ℕ → ℕ → ℕ → List ℕ
@@ -90,6 +94,12 @@ begun s t id gateway =
       state = withNode (set s 3 x) x (joiningNode (newNode id) copying gateway);
       tables = withTable t x (ownTable (digits s) id x);
     }
+
+-- withdrawing the highest-numbered node: it is no node any more, its record and its table are zero, and nothing else is new
+unfoldable pub withdrawn : List ℕ → List ℕ → Memory
+withdrawn s t =
+    let x = nodeCount s in
+    record { state = withNode (set s 3 (x - 1)) x noNode; tables = withTable t x (replicate 512 0) }
 
 -- ---- requests: copy requests of copying nodes, wait requests of waiting ones, and those of notifying nodes
 

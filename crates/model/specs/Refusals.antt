@@ -1,4 +1,4 @@
--- The refusals: document 01, "What a call declines", and document 02, Ticket 2. Each call has its own sentences, in the papers' order.
+-- The refusals: document 01, "What a call declines", and document 02, Tickets 2 and 5. Each call has its own sentences, in the papers' order.
 use Prim.Native.Nat.{ℕ, _+_}
 use mathlib.Core.Bool.{Bool, cond, not, _&&_, _||_}
 use mathlib.Core.List.{List, [], _∷_, _++_}
@@ -6,7 +6,7 @@ use lib.ListN.{length}
 use lib.Dec.{ltb, eqb}
 use Rattle.model.specs.Loops.{allBelow, firstBelow, node}
 use Rattle.model.specs.Ids.{settingsInRange, validId}
-use Rattle.model.specs.Memory.{Memory, stateLength, tablesLength, base, digits, nodeCount, idOf, statusOf, waiting, isInSystem}
+use Rattle.model.specs.Memory.{Memory, stateLength, tablesLength, base, digits, nodeCount, idOf, statusOf, waiting, isInSystem, isAttached}
 use Rattle.model.specs.Nodes.{isNode, allNodes, anyNode}
 use Rattle.model.specs.Sound.{sound}
 use Rattle.model.specs.Join.{outstanding}
@@ -128,6 +128,14 @@ beginSentences s id gateway =
 
 unfoldable pub beginRefusal : Memory → ℕ → ℕ → ℕ
 beginRefusal m id gateway = firstTrue (stateSentences m ++ beginSentences (m .state) id gateway)
+
+-- 9, x is no node; 19, it is not the highest-numbered one; 20, it is in system or notifying
+abbrev pub withdrawSentences : List ℕ → ℕ → List Sentence
+withdrawSentences s x =
+    (not (isNode s x), 9) ∷ (not (eqb x (nodeCount s)), 19) ∷ (isAttached s x, 20) ∷ []
+
+unfoldable pub withdrawRefusal : Memory → ℕ → ℕ
+withdrawRefusal m x = firstTrue (stateSentences m ++ withdrawSentences (m .state) x)
 
 -- 9, one of the two is no node; 13, x has no request to y outstanding; 14
 abbrev pub deliverSentences : List ℕ → ℕ → ℕ → List Sentence

@@ -7,7 +7,7 @@ use lib.ListN.{getD}
 use lib.Dec.{eqb}
 use Rattle.model.specs.Memory.{Memory}
 use Rattle.model.specs.Join.{kindCopied, kindSentOn, kindNotified}
-use Rattle.model.specs.Calls.{Outcome, foundCall, readCall, beginCall, deliverCall, lookupCall, surveyCall, verdictCall, writeCall, soundCall}
+use Rattle.model.specs.Calls.{Outcome, foundCall, readCall, beginCall, withdrawCall, deliverCall, lookupCall, surveyCall, verdictCall, writeCall, soundCall}
 
 -- a call with its arguments
 pub data Call : Type 0 where
@@ -17,6 +17,8 @@ pub data Call : Type 0 where
   read : List ℕ → Call
   -- id, gateway
   begin : ℕ → ℕ → Call
+  -- the node
+  withdraw : ℕ → Call
   -- sender, receiver
   deliver : ℕ → ℕ → Call
   -- from, to
@@ -32,6 +34,7 @@ unfoldable pub step : Memory → Call → Outcome
 step m (found b d K id) = foundCall m b d K id
 step m (read im) = readCall m im
 step m (begin id gateway) = beginCall m id gateway
+step m (withdraw x) = withdrawCall m x
 step m (deliver x y) = deliverCall m x y
 step m (lookup u z) = lookupCall m u z
 step m survey = surveyCall m
@@ -66,6 +69,7 @@ abbrev pub isStart : Call → Bool
 isStart (found b d K id) = true
 isStart (read im) = true
 isStart (begin id gateway) = false
+isStart (withdraw x) = false
 isStart (deliver x y) = false
 isStart (lookup u z) = false
 isStart survey = false
@@ -88,45 +92,50 @@ isRun m c cs = starts m c && goesOn (after m c) cs
 
 -- ---- what a node has sent, and which of its notices were answered
 
+-- how a count of x goes on from n by a call that was taken, with this answer. A beginning of x sets it to `first`: counts are from the latest beginning of
+-- a number (document 02, ticket 5). A delivery of a request of x adds one if its kind is counted.
+abbrev pub tallied : ℕ → (ℕ → Bool) → ℕ → Call → List ℕ → ℕ → ℕ
+tallied first counts x (found b d K id) answer n = n
+tallied first counts x (read im) answer n = n
+tallied first counts x (begin id gateway) answer n = cond (eqb (getD answer 1 0) x) first n
+tallied first counts x (withdraw y) answer n = n
+tallied first counts x (deliver y z) answer n = cond (eqb y x && counts (getD answer 1 0)) (n + 1) n
+tallied first counts x (lookup u z) answer n = n
+tallied first counts x survey answer n = n
+tallied first counts x verdict answer n = n
+tallied first counts x (write out) answer n = n
+tallied first counts x sound answer n = n
+
+-- by an event; a refused call changes no count
+unfoldable pub tally : ℕ → (ℕ → Bool) → ℕ → Event → ℕ → ℕ
+tally first counts x e n = cond (isTaken (e .answer)) (tallied first counts x (e .call) (e .answer) n) n
+
+-- by a history
+unfoldable pub tallyFrom : ℕ → (ℕ → Bool) → ℕ → ℕ → List Event → ℕ
+tallyFrom first counts x n [] = n
+tallyFrom first counts x n (e ∷ es) = tallyFrom first counts x (tally first counts x e n) es
+
 -- the kinds of delivery that leave their sender copying or waiting
 abbrev pub keepsAsking : ℕ → Bool
 keepsAsking kind = eqb kind kindCopied || eqb kind kindSentOn
 
--- a test of the calls of a join: of the answer of a beginning, and of the sender and the answer of a delivery. It holds of no other call.
-abbrev pub ofJoins : (List ℕ → Bool) → (ℕ → List ℕ → Bool) → Call → List ℕ → Bool
-ofJoins began delivered (found b d K id) answer = false
-ofJoins began delivered (read im) answer = false
-ofJoins began delivered (begin id gateway) answer = began answer
-ofJoins began delivered (deliver x y) answer = delivered x answer
-ofJoins began delivered (lookup u z) answer = false
-ofJoins began delivered survey answer = false
-ofJoins began delivered verdict answer = false
-ofJoins began delivered (write out) answer = false
-ofJoins began delivered sound answer = false
+-- the kind of a delivery that answers a notice
+abbrev pub answersNotice : ℕ → Bool
+answersNotice kind = eqb kind kindNotified
 
--- asked of a call that was taken: it sent a copy or wait request of x. It began the join of x, or it delivered a request of x and left x copying or
--- waiting, as its kind tells.
-abbrev pub isSentBy : ℕ → Call → List ℕ → Bool
-isSentBy x =
-    ofJoins (λ (answer : List ℕ). eqb (getD answer 1 0) x) (λ (y : ℕ) (answer : List ℕ). eqb y x && keepsAsking (getD answer 1 0))
+-- the copy and wait requests that x has sent since its latest beginning, on top of n where the history has none: the first went to its gateway, and each
+-- delivery of a request of x that left it copying or waiting, as its kind tells, sent one more
+abbrev pub sentFrom : ℕ → ℕ → List Event → ℕ
+sentFrom n x es = tallyFrom 1 keepsAsking x n es
 
--- asked of a call that was taken: it answered a notice of x (document 02, ticket 3). It delivered a request of x while x notified, as its kind tells.
-abbrev pub isAnsweredTo : ℕ → Call → List ℕ → Bool
-isAnsweredTo x =
-    ofJoins (λ (answer : List ℕ). false) (λ (y : ℕ) (answer : List ℕ). eqb y x && eqb (getD answer 1 0) kindNotified)
-
--- a count after an event, where it was n before: one more if the call was taken and the test holds of it
-unfoldable pub tally : (Call → List ℕ → Bool) → Event → ℕ → ℕ
-tally f e n = cond (isTaken (e .answer) && f (e .call) (e .answer)) (n + 1) n
-
-unfoldable pub tallyFrom : (Call → List ℕ → Bool) → ℕ → List Event → ℕ
-tallyFrom f n [] = n
-tallyFrom f n (e ∷ es) = tallyFrom f (tally f e n) es
-
--- what x has sent in a run: how many copy and wait requests of x its history counts
+-- the same on top of nothing
 abbrev pub sent : ℕ → List Event → ℕ
-sent x es = tallyFrom (isSentBy x) 0 es
+sent x es = sentFrom 0 x es
 
--- how many notices of x were answered in it (document 02, ticket 3)
+-- the notices of x that were answered since then (document 02, ticket 3), likewise
+abbrev pub answeredFrom : ℕ → ℕ → List Event → ℕ
+answeredFrom n x es = tallyFrom 0 answersNotice x n es
+
+-- the same on top of nothing
 abbrev pub answered : ℕ → List Event → ℕ
-answered x es = tallyFrom (isAnsweredTo x) 0 es
+answered x es = answeredFrom 0 x es
