@@ -1,27 +1,30 @@
 -- Demand 1: a refused call changes nothing, and no call reads or changes what lies past the fixed lengths. Assumes nothing.
-use Prim.Native.Nat.{ℕ, zero, suc, _+_}
+use Prim.Native.Nat.{ℕ, zero, suc, _+_, _-_}
 use mathlib.Core.Path.{_≡_, refl, sym, ap, ap₂, subst, _∙_}
 use mathlib.Core.Logic.{_≢_}
 use mathlib.Core.Bool.{true, false, true≢false}
 use mathlib.Core.List.{List, [], _∷_, _++_}
 use native.Mathlib.Omega.{arith}
-use lib.ListN.{length, getD, set, drop, replicate}
+use lib.Dec.{eqb}
+use lib.ListN.{length, getD, set, drop, replicate, length-replicate}
+use borrow.Author.Tests.{ne-eqb}
 use Rattle.model.specs.Memory.{Memory, stateLength, tablesLength, digits, nodeCount, withNode, withTable, copying}
 use Rattle.model.specs.Tables.{ownTable}
-use Rattle.model.specs.Join.{Delivery, newNode, joiningNode, founded, begun, delivery, delivered}
+use Rattle.model.specs.Join.{Delivery, newNode, joiningNode, noNode, founded, begun, withdrawn, delivery, delivered}
 use Rattle.model.specs.Lookup as routing
 use Rattle.model.specs.Survey.{surveyCounts}
 use Rattle.model.specs.Consistency as consistency
 use Rattle.model.specs.Image.{imageOf, loaded}
-use Rattle.model.specs.Refusals.{foundRefusal, readRefusal, recordPlace, beginRefusal, deliverRefusal, lookupRefusal, verdictRefusal, writeRefusal, stateRefusal}
-use Rattle.model.specs.Calls.{Outcome, refusedAt, taken, unlessRefused, deliveryFields, lookupFields, verdictFields, foundCall, readCall, beginCall, deliverCall, lookupCall, surveyCall, verdictCall, writeCall, soundCall}
-use Rattle.model.specs.Run.{Call, found, read, begin, deliver, lookup, survey, verdict, write, sound, step, after, play, history, isTaken}
+use Rattle.model.specs.Refusals.{foundRefusal, readRefusal, recordPlace, beginRefusal, withdrawRefusal, deliverRefusal, lookupRefusal, verdictRefusal, writeRefusal, stateRefusal}
+use Rattle.model.specs.Calls.{Outcome, refusedAt, taken, unlessRefused, deliveryFields, lookupFields, verdictFields, foundCall, readCall, beginCall, withdrawCall, deliverCall, lookupCall, surveyCall, verdictCall, writeCall, soundCall}
+use Rattle.model.specs.Run.{Call, found, read, begin, withdraw, deliver, lookup, survey, verdict, write, sound, step, after, play, history, isTaken}
+use Rattle.model.proofs.Bools.{not-both}
 use Rattle.model.proofs.Sound.{Long}
-use Rattle.model.proofs.Taken.{state-taken, found-taken, read-taken, begin-taken, deliver-taken, lookup-taken, verdict-taken, write-taken, not-short}
+use Rattle.model.proofs.Taken.{state-taken, found-taken, read-taken, begin-taken, withdraw-taken, deliver-taken, lookup-taken, verdict-taken, write-taken, not-short}
 use Rattle.model.proofs.OwnTable.{own-long}
 use Rattle.model.proofs.Calls.{either-end}
 use Rattle.model.proofs.Within.{within-past, within-same}
-use Rattle.model.proofs.Works.{Works, found-works, read-works, begin-works, deliver-works}
+use Rattle.model.proofs.Works.{Works, found-works, read-works, node-works, deliver-works}
 use Rattle.model.proofs.Alike.{Alike, LongAlike, digits-same, count-same}
 use Rattle.model.proofs.AlikeDelivery.{delivery-same}
 use Rattle.model.proofs.AlikeLooking as looking
@@ -34,10 +37,11 @@ use Rattle.promise.specs.Demand1.{outputOf, carried, ChangesNothing, Sam
 -- ---- every call by its two ends
 
 -- the number of its refusal
-abbrev number : Memory → Call → ℕ
+abbrev pub number : Memory → Call → ℕ
 number m (found b d K id) = foundRefusal m b d K id
 number m (read im) = readRefusal m im
 number m (begin id gateway) = beginRefusal m id gateway
+number m (withdraw x) = withdrawRefusal m x
 number m (deliver x y) = deliverRefusal m x y
 number m (lookup u z) = lookupRefusal m u z
 number m survey = stateRefusal m
@@ -50,6 +54,7 @@ abbrev others : Call → ℕ → List ℕ
 others (found b d K id) n = []
 others (read im) n = recordPlace im n ∷ []
 others (begin id gateway) n = replicate 1 0
+others (withdraw x) n = []
 others (deliver x y) n = replicate 3 0
 others (lookup u z) n = replicate 3 0
 others survey n = replicate 9 0
@@ -68,6 +73,7 @@ work m (found b d K id) = record { memory = founded (m .state) (m .tables) b d K
 work m (read im) = record { memory = loaded (m .state) (m .tables) im; out = []; fields = 0 ∷ [] }
 work m (begin id gateway) =
     record { memory = begun (m .state) (m .tables) id gateway; out = []; fields = (nodeCount (m .state) + 1) ∷ [] }
+work m (withdraw x) = record { memory = withdrawn (m .state) (m .tables); out = []; fields = [] }
 work m (deliver x y) =
     let r = delivery (m .state) (m .tables) x y in
     record { memory = delivered (m .state) (m .tables) x y r; out = []; fields = deliveryFields r }
@@ -83,10 +89,11 @@ abbrev ended : Memory → Call → ℕ → Work → Outcome
 ended m c n w = unlessRefused n (refusedAt m (outputOf c) (others c n)) (taken (w .memory) (w .out) (w .fields))
 
 step-is : (m : Memory) (c : Call) → step m c ≡ ended m c (number m c) (work m c)
-unfolding step foundCall readCall beginCall deliverCall lookupCall surveyCall verdictCall writeCall soundCall
+unfolding step foundCall readCall beginCall withdrawCall deliverCall lookupCall surveyCall verdictCall writeCall soundCall
 step-is m (found b d K id) = refl
 step-is m (read im) = refl
 step-is m (begin id gateway) = refl
+step-is m (withdraw x) = refl
 step-is m (deliver x y) = refl
 step-is m (lookup u z) = refl
 step-is m survey = refl
@@ -101,6 +108,13 @@ by-ends : (P : Outcome → Type 0) (m : Memory) (c : Call)
 by-ends P m c f g =
     subst P (sym (step-is m c)) (either-end P (number m c) (refusedAt m (outputOf c) (others c (number m c))) _ f g)
 
+-- the number of a call that was taken is 0
+pub taken-number : (m : Memory) (c : Call) → isTaken (step m c .answer) ≡ true → number m c ≡ 0
+unfolding refusedAt
+taken-number m c =
+    by-ends (λ (o : Outcome). isTaken (o .answer) ≡ true → number m c ≡ 0) m c (λ nz e. absurd (not-both (eqb (number m c) 0) e (ne-eqb (number m c) 0 nz)))
+    (λ z e. z)
+
 -- ---- a refused call
 
 zeros : (k j : ℕ) → getD {A = ℕ} (replicate k 0) j 0 ≡ 0
@@ -113,6 +127,7 @@ others-carried : (c : Call) (n k : ℕ) → getD (others c n) k 0 ≡ getD (carr
 others-carried (found b d K id) n k = refl
 others-carried (read im) n k = refl
 others-carried (begin id gateway) n k = zeros 1 k
+others-carried (withdraw x) n k = refl
 others-carried (deliver x y) n k = zeros 3 k
 others-carried (lookup u z) n k = zeros 3 k
 others-carried survey n k = zeros 9 k
@@ -152,11 +167,20 @@ begins : (m : Memory) (id gateway : ℕ) → beginRefusal m id gateway ≡ 0
 begins m id gateway z =
     let k = begin-taken m id gateway z in
     let x : ℕ = nodeCount (m .state) + 1 in
-    begin-works x (joiningNode (newNode id) copying gateway) (ownTable (digits (m .state)) id x) (omega arith) (omega (arith, k .1 .room))
+    node-works x x (joiningNode (newNode id) copying gateway) (ownTable (digits (m .state)) id x) (omega arith) (omega (arith, k .1 .room))
     (own-long (digits (m .state)) id x (k .0 .settings .digits-most))
 
+-- and a taken withdrawal
+withdraws : (m : Memory) (x : ℕ) → withdrawRefusal m x ≡ 0
+    → (let n = nodeCount (m .state) in
+    Works (λ s. withNode (set s 3 (n - 1)) n noNode) (λ t. withTable t n (replicate 512 0)))
+withdraws m x z =
+    let S = withdraw-taken m x z .0 in
+    let n : ℕ = nodeCount (m .state) in
+    node-works (n - 1) n noNode (replicate 512 0) (S .some) (S .few) (length-replicate {A = ℕ} 512 0)
+
 work-past : (m : Memory) (c : Call) → number m c ≡ 0 → past (work m c .memory) ≡ past m
-unfolding founded loaded begun delivered
+unfolding founded loaded begun withdrawn delivered
 work-past m (found b d K id) z =
     let k = found-taken m b d K id z in
     works-past m _ _ (found-works (m .state) (m .tables) b d K id (k .range .digits-most)) (k .long)
@@ -164,6 +188,7 @@ work-past m (read im) z =
     let k = read-taken m im z in
     works-past m _ _ (read-works (m .state) (m .tables) im (k .1)) (k .0)
 work-past m (begin id gateway) z = works-past m _ _ (begins m id gateway z) (begin-taken m id gateway z .0 .long)
+work-past m (withdraw x) z = works-past m _ _ (withdraws m x z) (withdraw-taken m x z .0 .long)
 work-past m (deliver x y) z =
     let k = deliver-taken m x y z in
     works-past m _ _ (deliver-works (m .state) (m .tables) (k .0) x y (k .1)) (k .0 .long)
@@ -205,6 +230,7 @@ module _ (m m′ : Memory) (e : fixed m′ ≡ fixed m) where
   number-same (found b d K id) = alike.found-same m m′ a b d K id
   number-same (read im) = alike.read-same m m′ a im
   number-same (begin id gateway) = alike.begin-same m m′ a id gateway
+  number-same (withdraw x) = alike.withdraw-same m m′ a x
   number-same (deliver x y) = alike.deliver-same m m′ a x y
   number-same (lookup u z) = alike.lookup-same m m′ a u z
   number-same survey = alike.state-same m m′ a
@@ -228,7 +254,7 @@ module _ (m m′ : Memory) (e : fixed m′ ≡ fixed m) where
   looks fields fields′ q = record { fields = q; out = refl; memory = e }
 
   work-same : (c : Call) → number m c ≡ 0 → SameWork (work m c) (work m′ c)
-  unfolding founded loaded begun delivered
+  unfolding founded loaded begun withdrawn delivered
   work-same (found b d K id) z =
       let k = found-taken m b d K id z in
       record { fields = refl; out = refl; memory = works-front _ _ (found-works s t b d K id (k .range .digits-most)) (k .long) }
@@ -251,6 +277,15 @@ module _ (m m′ : Memory) (e : fixed m′ ≡ fixed m) where
             }))
             n (digits-same s s′ (a .state))
             ∙ works-front _ _ (begins m id gateway z) (k .0 .long);
+      }
+  work-same (withdraw x) z =
+      record {
+        fields = refl;
+        out = refl;
+        memory =
+            ap (λ (n : ℕ). fixed (record { state = withNode (set s′ 3 (n - 1)) n noNode; tables = withTable t′ n (replicate 512 0) }))
+            (count-same s s′ (a .state))
+            ∙ works-front _ _ (withdraws m x z) (withdraw-taken m x z .0 .long);
       }
   work-same (deliver x y) z =
       let k = deliver-taken m x y z in

@@ -7,14 +7,14 @@ use mathlib.Core.List.{List, [], _∷_, _++_}
 use native.Mathlib.Omega.{arith}
 use lib.ListN.{length, getD, take, drop}
 use lib.Seq.{length-take-le, take-at}
-use Rattle.model.specs.Memory.{Memory, stateLength, tablesLength}
+use Rattle.model.specs.Memory.{Memory, stateLength, tablesLength, isInSystem}
 use Rattle.model.specs.Consistency.{Verdict, firstShort, consistent}
 use Rattle.model.specs.Image.{imageOf, loaded, withoutCounts}
 use Rattle.model.specs.Refusals.{memoryShort, readRefusal, verdictRefusal, writeRefusal}
 use Rattle.model.specs.Calls.{Outcome, taken, verdictFields, readCall, verdictCall, writeCall}
 use Rattle.model.specs.Run.{isTaken}
 use Rattle.model.proofs.Bools.{true-or-false}
-use Rattle.model.proofs.Status.{is-node, is-node-of}
+use Rattle.model.proofs.Status.{IsNode, is-node, is-node-of}
 use Rattle.model.proofs.Sound.{Sound}
 use Rattle.model.proofs.Taken.{long-of, verdict-taken, write-taken}
 use Rattle.model.proofs.Calls.{taken-is, taken-zero}
@@ -40,6 +40,10 @@ module _ (m : Memory) (e : isTaken (verdictCall m .answer) ≡ true) where
 
   S : Sound s t
   S = verdict-taken m free .0
+
+  -- every node is in system
+  pub settled : (x : ℕ) → IsNode s x → isInSystem s x ≡ true
+  settled = verdict-taken m free .1
 
   -- what the verdict answers, by the book's test
   says : (b : Bool) → consistent s t ≡ b

@@ -1,38 +1,33 @@
 -- Demand 3: what holds of every run. Assumes nothing.
 use Prim.Native.Nat.{ℕ, _+_, _-_, _≤_}
 use mathlib.Core.Path.{_≡_, refl, sym, ap, subst, _∙_}
-use mathlib.Core.Logic.{_⊎_, inl, inr, ⊎-elim}
-use mathlib.Core.Bool.{Bool, true, false, cond, not, false≢true}
+use mathlib.Core.Bool.{true, false, not, false≢true}
 use mathlib.Core.List.{List, [], _∷_, _++_}
-use native.Mathlib.Nat.{add-zero}
 use native.Mathlib.Omega.{arith}
 use lib.ListN.{getD}
 use Rattle.model.specs.Memory.{Memory, digits, nodeOf}
-use Rattle.model.specs.Nodes.{isNode}
 use Rattle.model.specs.Lookup as book
 use Rattle.model.specs.Lookup.{Lookup, veryHops}
 use Rattle.model.specs.Consistency.{consistent}
 use Rattle.model.specs.Refusals.{foundRefusal, readRefusal, lookupRefusal}
 use Rattle.model.specs.Calls.{Outcome, refused, taken, lookupFields, foundCall, readCall, lookupCall}
-use Rattle.model.specs.Run.{Call, found, read, begin, deliver, lookup, survey, verdict, write, sound, step, after, play, history, isTaken, starts, goesOn, isRun, tallyFrom, sent}
-use Rattle.model.proofs.Bools.{and-left, and-right, and-intro, not-both, true-or-false}
-use Rattle.model.proofs.Status.{IsNode, is-node, is-node-of}
+use Rattle.model.specs.Run.{Call, found, read, begin, withdraw, deliver, lookup, survey, verdict, write, sound, step, after, play, history, isTaken, starts, goesOn, isRun, tallyFrom, sent}
+use Rattle.model.proofs.Bools.{and-left, and-right, and-intro}
+use Rattle.model.proofs.Status.{IsNode, is-node}
 use Rattle.model.proofs.NodeCounts.{Fresh}
 use Rattle.model.proofs.Sound.{Sound}
 use Rattle.model.proofs.FoundingIsSound.{founded-fresh, founded-ok}
 use Rattle.model.proofs.LoadingIsSound.{loaded-fresh, loaded-ok}
-use Rattle.model.proofs.RequestBound.{requests-most}
 use Rattle.model.proofs.Lookup.{hops-bound}
-use Rattle.model.proofs.HopsUnchanged.{same-lookup, same-hops}
-use Rattle.model.proofs.Later.{node-later}
+use Rattle.model.proofs.HopsUnchanged.{still-node, same-lookup, same-hops}
 use Rattle.model.proofs.TablesOnlyGrow.{Onward}
 use Rattle.model.proofs.Taken.{found-taken, read-taken, lookup-free}
 use Rattle.promise.specs.Promise.{alreadyMatched, Passes, NodeIn, Demand3}
 use Rattle.model.proofs.Calls.{taken-is, taken-zero}
 use Rattle.promise.proofs.Steps.{Idle, looks, quiet}
 use Rattle.promise.proofs.Run.{run-goes}
-use Rattle.promise.proofs.RunCounts.{Count, raises, Kept, Counted, requestCount, noticeCount, requests-kept, notices-kept, run-counted, tally-from}
-use Rattle.promise.proofs.Demand2.{says-yes}
+use Rattle.promise.proofs.RunCounts.{Count, Kept, requestCount, noticeCount, requests-kept, notices-kept, run-counted, few}
+use Rattle.promise.proofs.Demand2.{settled, says-yes}
 
 -- ---- the start
 
@@ -59,7 +54,7 @@ module _ (m : Memory) where
       record {
         sound = subst SoundAfter w S;
         fresh = subst FreshAfter w (founded-fresh (m .state) (m .tables) b d K id (k .long) (k .range) (k .valid));
-        idle = looks (λ p q a. refl);
+        idle = looks (λ p q x a n. refl);
       }
   started (read im) e =
       let z = taken-zero m (readRefusal m im) [] _ _ e in
@@ -69,9 +64,10 @@ module _ (m : Memory) where
       record {
         sound = subst SoundAfter w S;
         fresh = subst FreshAfter w (loaded-fresh (m .state) (m .tables) im (k .0) (k .1));
-        idle = looks (λ p q a. refl);
+        idle = looks (λ p q x a n. refl);
       }
   started (begin id g) e = absurd (false≢true e)
+  started (withdraw x) e = absurd (false≢true e)
   started (deliver x y) e = absurd (false≢true e)
   started (lookup u z) e = absurd (false≢true e)
   started survey e = absurd (false≢true e)
@@ -82,38 +78,21 @@ module _ (m : Memory) where
 -- ---- the counts of a run
 
 module _ (m : Memory) (c : Call) (start : starts m c ≡ true) (k : Count) (K : Kept k) where
-  -- what a record counted at the start
-  abbrev first : ℕ → ℕ
-  first x = cond (isNode (after m c .state) x) (k .of (nodeOf (after m c .state) x)) 0
-
-  start-counted : Counted k K first (after m c)
-  start-counted = record {
-    nodes = λ x n. sym (ap (λ (b : Bool). cond b (k .of (nodeOf (after m c .state) x)) 0) (is-node-of (after m c .state) x n));
-    others =
-        λ x f.
-        ap (λ (b : Bool). cond b (k .of (nodeOf (after m c .state) x)) 0)
-        (⊎-elim (λ e. absurd (f (is-node (after m c .state) x e))) (λ e. e) (true-or-false (isNode (after m c .state) x)));
-  }
-
   -- the start counts nothing itself, so what the run counts is what its other calls do
-  run-tally : (x : ℕ) (cs : List Call)
-      → tallyFrom (raises k x) (first x) (history (after m c) cs) ≡ first x + tallyFrom (raises k x) 0 (history m (c ∷ cs))
+  run-tally : (x n : ℕ) (cs : List Call)
+      → tallyFrom (k .first) (k .counts) x n (history (after m c) cs) ≡ tallyFrom (k .first) (k .counts) x n (history m (c ∷ cs))
   unfolding history tallyFrom
-  run-tally x cs =
-      ap (λ (n : ℕ). tallyFrom (raises k x) n (history (after m c) cs)) (sym (add-zero (first x)))
-      ∙ tally-from (raises k x) (history (after m c) cs) (first x) 0
-      ∙ ap (λ (n : ℕ). first x + tallyFrom (raises k x) n (history (after m c) cs)) (sym (quiet m c (k .began x) (k .delivered x) (started m c start .idle) 0))
+  run-tally x n cs =
+      ap (λ (n : ℕ). tallyFrom (k .first) (k .counts) x n (history (after m c) cs))
+      (sym (quiet m c (started m c start .idle) (k .first) (k .counts) x n))
 
-  module _ (cs : List Call) (on : goesOn (after m c) cs ≡ true) where
-    abbrev M : Memory
-    M = play (after m c) cs
+  -- what the record of x counted at the start
+  abbrev first : ℕ → ℕ
+  first x = k .of (nodeOf (after m c .state) x)
 
-    counted : (x : ℕ) → IsNode (play (after m c) cs .state) x
-        → k .of (nodeOf (play (after m c) cs .state) x) ≡ first x + tallyFrom (raises k x) 0 (history m (c ∷ cs))
-    counted x n = run-counted k K first (after m c) cs start-counted on .nodes x n ∙ run-tally x cs
-
-    none-counted : (x : ℕ) → (IsNode (play (after m c) cs .state) x → ⊥) → tallyFrom (raises k x) 0 (history m (c ∷ cs)) ≡ 0
-    none-counted x f = omega (arith, run-counted k K first (after m c) cs start-counted on .others x f, run-tally x cs)
+  counted : (cs : List Call) → goesOn (after m c) cs ≡ true → (x : ℕ) → IsNode (play (after m c) cs .state) x
+      → k .of (nodeOf (play (after m c) cs .state) x) ≡ tallyFrom (k .first) (k .counts) x (first x) (history m (c ∷ cs))
+  counted cs on x n = run-counted k K first (after m c) cs (λ x n. refl) on x n ∙ run-tally x (first x) cs
 
 -- ---- a verdict that says yes
 
@@ -141,24 +120,15 @@ on-late m (c ∷ early) late e = on-late (after m c) early late (and-right (not 
 
 -- ---- the three parts, of a list of calls from a sound state
 
--- what a node has sent is no more than its record counts, and any other number has sent nothing
-requests-bound : (m : Memory) (c : Call) → starts m c ≡ true → (cs : List Call) → goesOn (after m c) cs ≡ true
-    → Sound (play (after m c) cs .state) (play (after m c) cs .tables) → (x : ℕ)
+-- at the start nothing was sent
+requests-bound : (m : Memory) (c : Call) → starts m c ≡ true → (cs : List Call) → goesOn (after m c) cs ≡ true → (x : ℕ)
     → sent x (history m (c ∷ cs)) ≤ digits (play (after m c) cs .state) + 1
-requests-bound m c start cs on S x = go (true-or-false (isNode (M .state) x))
-  where
-    M : Memory
-    M = play (after m c) cs
-
-    go : (isNode (M .state) x ≡ true) ⊎ (isNode (M .state) x ≡ false) → sent x (history m (c ∷ cs)) ≤ digits (M .state) + 1
-    go (inl e) =
-        let n = is-node (M .state) x e in
-        omega (arith, counted m c start requestCount requests-kept cs on x n, requests-most (M .state) (M .tables) S x n)
-    go (inr e) =
-        omega (
-          arith,
-          none-counted m c start requestCount requests-kept cs on x (λ n. not-both (isNode (M .state) x) (is-node-of (M .state) x n) e),
-        )
+requests-bound m c start cs on x =
+    omega (
+      arith,
+      few (λ (x : ℕ). 0) (after m c) cs (λ x n. started m c start .fresh x n .0) (started m c start .sound) on (λ x. omega arith) x,
+      run-tally m c start requestCount requests-kept x 0 cs,
+    )
 
 module _ (m : Memory) (S : Sound (m .state) (m .tables)) (u z : ℕ) (nu : IsNode (m .state) u) (nz : IsNode (m .state) z) where
   lookup-answer : lookupCall m u z .answer ≡ 0 ∷ lookupFields (book.lookup (m .state) (m .tables) u z)
@@ -180,10 +150,12 @@ lookups-stay : (m m′ : Memory) → Sound (m .state) (m .tables) → Sound (m�
 lookups-stay m m′ S S′ on p u z a b =
     let nu = is-node (m .state) u a in
     let nz = is-node (m .state) z b in
+    let all = settled m (p .taken) in
     let whole = passes-whole m p in (
-      same-hops (m .state) (m .tables) (m′ .state) (m′ .tables) S S′ on whole z nz u nu,
-      lookup-answer m′ S′ u z (node-later (m .state) (m′ .state) (on .later) u nu) (node-later (m .state) (m′ .state) (on .later) z nz)
-          ∙ ap (λ (r : Lookup). 0 ∷ lookupFields r) (same-lookup (m .state) (m .tables) (m′ .state) (m′ .tables) S S′ on whole z nz u nu)
+      same-hops (m .state) (m .tables) (m′ .state) (m′ .tables) S S′ on all whole z nz u nu,
+      lookup-answer m′ S′ u z (still-node (m .state) (m .tables) (m′ .state) (m′ .tables) S S′ on all u nu)
+          (still-node (m .state) (m .tables) (m′ .state) (m′ .tables) S S′ on all z nz)
+          ∙ ap (λ (r : Lookup). 0 ∷ lookupFields r) (same-lookup (m .state) (m .tables) (m′ .state) (m′ .tables) S S′ on all whole z nz u nu)
           ∙ sym (lookup-answer m S u z nu nz),
     )
 
@@ -204,7 +176,7 @@ promise m c cs run =
     let G = run-goes (after m c) cs S on in
     let M : Memory = play (after m c) cs in
     record {
-      requests = requests-bound m c start cs on (G .sound);
+      requests = requests-bound m c start cs on;
       counted =
           λ x a.
           let n = is-node (M .state) x a in

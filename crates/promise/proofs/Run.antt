@@ -4,26 +4,27 @@ use mathlib.Core.Path.{_≡_, sym, ap, subst}
 use mathlib.Core.Bool.{true, false, not}
 use mathlib.Core.List.{List, [], _∷_}
 use borrow.Author.Tests.{not-true}
-use Rattle.model.specs.Memory.{Memory, nodeCount}
-use Rattle.model.specs.Join.{begun, delivery, delivered}
-use Rattle.model.specs.Refusals.{beginRefusal, deliverRefusal}
-use Rattle.model.specs.Calls.{Outcome, taken, deliveryFields, beginCall, deliverCall}
-use Rattle.model.specs.Run.{Call, begin, deliver, step, after, play, starts, goesOn}
+use Rattle.model.specs.Memory.{Memory, nodeCount, isAttached}
+use Rattle.model.specs.Join.{begun, withdrawn, delivery, delivered}
+use Rattle.model.specs.Refusals.{beginRefusal, withdrawRefusal, deliverRefusal}
+use Rattle.model.specs.Calls.{Outcome, taken, deliveryFields, beginCall, withdrawCall, deliverCall}
+use Rattle.model.specs.Run.{Call, begin, withdraw, deliver, step, after, play, starts, goesOn}
 use Rattle.model.proofs.Bools.{and-left, and-right}
 use Rattle.model.proofs.Sound.{Sound}
 use Rattle.model.proofs.BeginningKeepsSound.{begun-ok}
 use Rattle.model.proofs.DeliveryKeepsSound.{delivered-ok}
 use Rattle.model.proofs.TablesOnlyGrow.{Onward, onward-refl, onward-trans, begun-onward, delivered-onward}
-use Rattle.model.proofs.Taken.{begin-taken, deliver-taken}
+use Rattle.model.proofs.Withdrawing.{withdrawn-ok, withdrawn-onward}
+use Rattle.model.proofs.Taken.{begin-taken, withdraw-taken, deliver-taken}
 use Rattle.model.proofs.Calls.{taken-is}
-use Rattle.promise.proofs.Steps.{Effect, still, begins, delivers, effect}
+use Rattle.promise.proofs.Steps.{Effect, still, begins, withdraws, delivers, effect}
 
 -- one call on, or many
 pub record Goes (m m′ : Memory) : Type 0 where
   pub sound : Sound (m′ .state) (m′ .tables)
   pub onward : Onward (m .state) (m .tables) (m′ .state) (m′ .tables)
 
--- ---- what a taken beginning and a taken delivery leave and answer
+-- ---- what a taken beginning, withdrawal and delivery leave and answer
 
 module _ (m : Memory) (id gateway : ℕ) (e : beginRefusal m id gateway ≡ 0) where
   begin-outcome : step m (begin id gateway) ≡ taken (begun (m .state) (m .tables) id gateway) [] ((nodeCount (m .state) + 1) ∷ [])
@@ -37,6 +38,23 @@ module _ (m : Memory) (id gateway : ℕ) (e : beginRefusal m id gateway ≡ 0) w
   pub begin-answer : step m (begin id gateway) .answer ≡ 0 ∷ (nodeCount (m .state) + 1) ∷ []
   unfolding taken
   begin-answer = ap (λ (o : Outcome). o .answer) begin-outcome
+
+module _ (m : Memory) (x : ℕ) (e : withdrawRefusal m x ≡ 0) where
+  withdraw-outcome : step m (withdraw x) ≡ taken (withdrawn (m .state) (m .tables)) [] []
+  unfolding step withdrawCall
+  withdraw-outcome = taken-is _ _ _ e
+
+  pub withdraw-after : after m (withdraw x) ≡ withdrawn (m .state) (m .tables)
+  unfolding after taken
+  withdraw-after = ap (λ (o : Outcome). o .memory) withdraw-outcome
+
+  pub withdraw-answer : step m (withdraw x) .answer ≡ 0 ∷ []
+  unfolding taken
+  withdraw-answer = ap (λ (o : Outcome). o .answer) withdraw-outcome
+
+  -- the highest-numbered node, which copies or waits
+  pub withdraw-away : isAttached (m .state) (nodeCount (m .state)) ≡ false
+  withdraw-away = let k = withdraw-taken m x e in subst (λ (x : ℕ). isAttached (m .state) x ≡ false) (k .1) (k .2)
 
 module _ (m : Memory) (x y : ℕ) (e : deliverRefusal m x y ≡ 0) where
   deliver-outcome : step m (deliver x y)
@@ -66,6 +84,14 @@ step-goes m c S f = go (effect m c f)
         (record {
           sound = begun-ok (m .state) (m .tables) id gateway (k .0) (k .1);
           onward = begun-onward (m .state) (m .tables) id gateway (k .0) (k .1);
+        }))
+    go (withdraws x e r) =
+        let k = withdraw-taken m x r in
+        subst (λ (c : Call). Goes m (after m c)) (sym e)
+        (rw (withdraw-after m x r)
+        (record {
+          sound = withdrawn-ok (m .state) (m .tables) (k .0) (withdraw-away m x r);
+          onward = withdrawn-onward (m .state) (m .tables) (k .0) (withdraw-away m x r);
         }))
     go (delivers x y e r) =
         let k = deliver-taken m x y r in

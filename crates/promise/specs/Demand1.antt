@@ -7,7 +7,7 @@ use mathlib.Core.List.{List, [], _∷_}
 use lib.ListN.{getD}
 use Rattle.model.specs.Memory.{Memory}
 use Rattle.model.specs.Refusals.{recordPlace}
-use Rattle.model.specs.Run.{Call, found, read, begin, deliver, lookup, survey, verdict, write, sound, step, isTaken}
+use Rattle.model.specs.Run.{Call, found, read, begin, withdraw, deliver, lookup, survey, verdict, write, sound, step, isTaken}
 use Rattle.promise.specs.Fixed.{fixed, past}
 
 -- the memory for output that a call is lent: none but for writing
@@ -15,6 +15,7 @@ abbrev pub outputOf : Call → List ℕ
 outputOf (found b d K id) = []
 outputOf (read im) = []
 outputOf (begin id gateway) = []
+outputOf (withdraw x) = []
 outputOf (deliver x y) = []
 outputOf (lookup u z) = []
 outputOf survey = []
@@ -27,6 +28,7 @@ abbrev pub carried : Call → ℕ → List ℕ
 carried (found b d K id) number = []
 carried (read im) number = recordPlace im number ∷ []
 carried (begin id gateway) number = []
+carried (withdraw x) number = []
 carried (deliver x y) number = []
 carried (lookup u z) number = []
 carried survey number = []

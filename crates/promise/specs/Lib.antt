@@ -1,7 +1,9 @@
--- The three demands, the total of a survey, and what reading says of records, as statements about the book's calls. docs/SOURCES.md says what they are.
+-- The three demands, the total of a survey, what reading says of records, and what a withdrawal undoes and leaves alone, as statements about the book's
+-- calls. docs/SOURCES.md says what they are.
 pub mod Fixed
 pub mod Demand1
 pub mod Demand2
 pub mod Promise
 pub mod Survey
 pub mod Records
+pub mod Withdrawals

@@ -2,14 +2,14 @@
 -- then any calls, taken or refused, of which none starts a new run. The list is any list, so what holds at its end holds at every point of a run.
 use Prim.Native.Nat.{ℕ, _+_, _-_, _≤_}
 use mathlib.Core.Path.{_≡_}
-use mathlib.Core.Bool.{true, cond}
+use mathlib.Core.Bool.{true}
 use mathlib.Core.List.{List, _∷_, _++_}
 use lib.ListN.{getD}
 use Rattle.model.specs.Memory.{Memory, digits, requestsOf, noticesOf}
 use Rattle.model.specs.Nodes.{isNode, suffixOf}
 use Rattle.model.specs.Lookup.{veryHops}
 use Rattle.model.specs.Calls.{lookupCall, verdictCall}
-use Rattle.model.specs.Run.{Call, after, play, history, sent, answered, isTaken, isRun}
+use Rattle.model.specs.Run.{Call, after, play, history, sent, sentFrom, answeredFrom, isTaken, isRun}
 
 -- the digits already matched: the common suffix of u and z, where the lookup starts
 abbrev pub alreadyMatched : Memory → ℕ → ℕ → ℕ
@@ -24,19 +24,15 @@ pub record Passes (m : Memory) : Type 0 where
 abbrev pub NodeIn : Memory → ℕ → Type 0
 NodeIn m u = isNode (m .state) u ≡ true
 
--- what the record of x counted when the run started: nothing for a node that joined in it
-abbrev pub atStart : (List ℕ → ℕ → ℕ) → Memory → ℕ → ℕ
-atStart count m x = cond (isNode (m .state) x) (count (m .state) x) 0
-
 -- what holds of a run that started with memory m and call c, and went on with the calls cs
 pub record Promise (m : Memory) (c : Call) (cs : List Call) : Type 0 where
-  -- (a) no node has sent more than d + 1 copy and wait requests, counted from the history
+  -- (a) no node, withdrawn or not, has sent more than d + 1 copy and wait requests since the latest beginning of its number, counted from the history
   pub requests : (x : ℕ) → sent x (history m (c ∷ cs)) ≤ digits (play m (c ∷ cs) .state) + 1
-  -- the counts in a node's record (document 02, ticket 3) are those of the history, on top of what it started with: the copy and wait requests that
-  -- it sent, and its notices that were answered
+  -- the counts in a node's record (document 02, ticket 3) are those of the history: the copy and wait requests that it sent and its notices that were
+  -- answered, since its latest beginning or, for a node that did not begin in this run, on top of what its record had at the start
   pub counted : (x : ℕ) → NodeIn (play m (c ∷ cs)) x
-      → (requestsOf (play m (c ∷ cs) .state) x ≡ atStart requestsOf (after m c) x + sent x (history m (c ∷ cs)))
-      × (noticesOf (play m (c ∷ cs) .state) x ≡ atStart noticesOf (after m c) x + answered x (history m (c ∷ cs)))
+      → (requestsOf (play m (c ∷ cs) .state) x ≡ sentFrom (requestsOf (after m c .state) x) x (history m (c ∷ cs)))
+      × (noticesOf (play m (c ∷ cs) .state) x ≡ answeredFrom (noticesOf (after m c .state) x) x (history m (c ∷ cs)))
   -- and at the start they are zero
   pub fresh : (x : ℕ) → NodeIn (after m c) x → (requestsOf (after m c .state) x ≡ 0) × (noticesOf (after m c .state) x ≡ 0)
   -- (b) a lookup from any node to any node is not refused and takes at most d hops less the digits already matched

@@ -1,10 +1,10 @@
--- Two runs of small networks, as lists about the book's definitions. So demand 3 speaks of runs that there are.
+-- Three runs of small networks, as lists about the book's definitions. So demand 3 speaks of runs that there are.
 use Prim.Native.Nat.{ℕ}
 use mathlib.Core.Path.{_≡_}
 use mathlib.Core.Bool.{true}
 use mathlib.Core.List.{List, [], _∷_}
 use Rattle.model.specs.Memory.{statusOf, requestsOf, noticesOf, inSystem}
-use Rattle.model.specs.Run.{Call, found, begin, deliver, verdict, play, Event, history, isRun, sent, answered}
+use Rattle.model.specs.Run.{Call, found, begin, withdraw, deliver, verdict, play, Event, history, isRun, sent, answered}
 use Rattle.worked.specs.Examples.{dirty}
 
 -- ---- the smallest network in which a node joins: founding (b 2, d 2, K 1, id 0), beginning (id 1 at node 1), two deliveries from node 2 to node 1, a
@@ -60,3 +60,27 @@ pub record WorkedCounts : Type 0 where
   -- so many has the history
   pub sent : sent 3 (history dirty (wider ∷ twoJoins)) ≡ 2
   pub answered : answered 3 (history dirty (wider ∷ twoJoins)) ≡ 1
+
+-- ---- a join that is withdrawn (b 2, d 2, K 1): node 2 is copied, and begins again after its withdrawal
+
+unfoldable pub typedWrong : List Call
+typedWrong = begin 1 1 ∷ deliver 2 1 ∷ withdraw 3 ∷ withdraw 1 ∷ withdraw 2 ∷ withdraw 1 ∷ begin 1 1 ∷ []
+
+unfoldable pub withdrawing : List Event
+withdrawing = history dirty (start ∷ typedWrong)
+
+pub record WorkedWithdrawal : Type 0 where
+  pub run : isRun dirty start typedWrong ≡ true
+  -- 3 is no node, 1 not the highest-numbered; 2 is withdrawn; then 1 is the highest-numbered, and in system; number 2 is given again
+  pub said : answers withdrawing
+      ≡ (0 ∷ [])
+      ∷ (0 ∷ 2 ∷ [])
+      ∷ (0 ∷ 1 ∷ 0 ∷ 0 ∷ [])
+      ∷ (9 ∷ [])
+      ∷ (19 ∷ [])
+      ∷ (0 ∷ [])
+      ∷ (20 ∷ [])
+      ∷ (0 ∷ 2 ∷ [])
+      ∷ []
+  -- of the three requests that node 2 sent, one is of its latest beginning
+  pub requests : sent 2 withdrawing ≡ 1
