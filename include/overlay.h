@@ -33,7 +33,7 @@ extern "C" {
 /* ---- version: of this header and of the archive that comes with it; CHANGES.md has a section for each */
 
 #define OVERLAY_VERSION_MAJOR 1
-#define OVERLAY_VERSION_MINOR 4
+#define OVERLAY_VERSION_MINOR 5
 
 /* ---- lengths */
 
@@ -67,6 +67,8 @@ extern "C" {
 #define OVERLAY_SHORT_OUTPUT 16          /* the memory for the image is too short */
 #define OVERLAY_RECORD_NEIGHBOR 17       /* a record's neighbour isn't qualified for its entry, is in it already, or finds it full */
 #define OVERLAY_OWN_ENTRY 18             /* an own entry has no record, or doesn't start with its owner */
+#define OVERLAY_NOT_HIGHEST 19           /* the node isn't the highest-numbered one */
+#define OVERLAY_HAS_ATTACHED 20          /* the node is in system or notifying */
 
 /* ---- calls */
 
@@ -83,6 +85,10 @@ uint64_t overlay_read(uint64_t *state, size_t state_len, uint8_t *tables, size_t
  * by overlay_new_node. Refusals 1, 2, 7, 8, 9, 11, 12. */
 uint64_t overlay_begin(uint64_t *state, size_t state_len, uint8_t *tables, size_t tables_len,
                        uint32_t id, uint64_t gateway);
+
+/* Withdraws the join of the highest-numbered node while it copies or waits: it is no node any more, its record and its table are zero, and
+ * no other record or table changes. The next node to begin gets its number. Answers the refusal alone. Refusals 1, 2, 9, 19, 20. */
+uint64_t overlay_withdraw(uint64_t *state, size_t state_len, uint8_t *tables, size_t tables_len, uint64_t node);
 
 /* Delivers the sender's outstanding request to the receiver, with the receiver's answer. Answers its kind, by overlay_kind,
  * overlay_attach_level and overlay_settled. Refusals 1, 2, 9, 13, 14. */
@@ -165,8 +171,9 @@ static inline unsigned overlay_short_digit(uint64_t answer) { return (unsigned)(
 /* Of write, bits 8 to 39: the length of the image in bytes. */
 static inline uint32_t overlay_image_length(uint64_t answer) { return (uint32_t)(answer >> 8 & 0xffffffff); }
 
-/* ---- the counts of a node, read off a sound state: what its join cost. They stay when the node is in system; found and read set them to zero. A number that
- * no node has gives 0, however large it is. These two do not judge the state, as the calls do: of one that is not sound they give the words that stand there. */
+/* ---- the counts of a node, read off a sound state: what its join cost. They stay when the node is in system; found and read set them to
+ * zero, and a join that is withdrawn and begun again counts anew. A number that no node has gives 0, however large it is. These two do not
+ * judge the state, as the calls do: of one that is not sound they give the words that stand there. */
 
 /* The copy and wait requests that the node has sent: at most one more than an id has digits. */
 static inline uint64_t overlay_requests(const uint64_t *state, uint64_t node)

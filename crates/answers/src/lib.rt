@@ -1,4 +1,4 @@
-// What the calls answer, and the refusals by name. Founding and `sound` answer the refusal alone, 0 for none. In the others it is the first
+// What the calls answer, and the refusals by name. Founding, withdrawing and `sound` answer the refusal alone, 0 for none. In the others it is the first
 // field, or of a delivery a kind of its own, and on a refusal every other field is zero or false, but for the place that reading gives.
 pub mod refusal;
 

@@ -1,4 +1,4 @@
-// The refusals by name: document 01, "What a call declines", and document 02, Ticket 2. include/overlay.h has the same names behind OVERLAY_.
+// The refusals by name: document 01, "What a call declines", and document 02, Tickets 2 and 5. include/overlay.h has the same names behind OVERLAY_.
 pub struct Refusal {
     pub number: u64,
 }
@@ -57,4 +57,10 @@ impl Refusal {
 
     // an own entry has no record, or does not start with its owner
     pub const OWN_ENTRY: u64 = 18;
+
+    // the node is not the highest-numbered one
+    pub const NOT_HIGHEST: u64 = 19;
+
+    // the node is in system or notifying
+    pub const HAS_ATTACHED: u64 = 20;
 }

@@ -9,13 +9,13 @@ use Rattle.model.specs.Lookup.{Lookup}
 use Rattle.model.specs.Consistency.{Verdict}
 use Rattle.model.specs.Calls.{Outcome, refusedAt, refused, taken, lookupFields, verdictFields, readCall, soundCall}
 use Rattle.model.specs.Image.{byteAt, imageOf, loaded}
-use Rattle.model.specs.Refusals.{foundRefusal, readRefusal, recordPlace, beginRefusal, deliverRefusal, lookupRefusal, verdictRefusal, writeRefusal, stateRefusal}
+use Rattle.model.specs.Refusals.{foundRefusal, readRefusal, recordPlace, beginRefusal, withdrawRefusal, deliverRefusal, lookupRefusal, verdictRefusal, writeRefusal, stateRefusal}
 use Rattle.model.proofs.Calls.{either-end, refused-end, taken-end, work-left}
 use Rattle.model.proofs.Refusals.{numbered, testOf, passed}
 use Rattle.model.proofs.Sound.{Sound}
 use Rattle.model.proofs.Status.{IsNode}
 use Rattle.model.proofs.Sender.{CanDeliver}
-use Rattle.model.proofs.Taken.{state-taken, found-taken, read-taken, begin-taken, deliver-taken, lookup-taken, verdict-taken, write-taken}
+use Rattle.model.proofs.Taken.{state-taken, found-taken, read-taken, begin-taken, withdraw-taken, deliver-taken, lookup-taken, verdict-taken, write-taken}
 use Rattle.answers.specs.declared.ReadAnswer.{ReadAnswer}
 use Rattle.image_judging.specs.Judged.{answerOf}
 use Rattle.image_judging.proofs.Sentences.{counted-of}
@@ -81,6 +81,9 @@ module _ (m : Memory) (r : ℕ) where
   begins id g e z =
       let k = begin-taken m id g (sym e ∙ z) in
       record { state = k .0 .long .state; tables = k .0 .long .tables; digits = k .0 .settings .digits-most; room = k .1 .room }
+
+  pub withdraws : (x : ℕ) → r ≡ withdrawRefusal m x → r ≡ 0 → Sound s t
+  withdraws x e z = withdraw-taken m x (sym e ∙ z) .0
 
   pub delivers : (x y : ℕ) → r ≡ deliverRefusal m x y → r ≡ 0 → Sound s t × CanDeliver s x y
   delivers x y e z = deliver-taken m x y (sym e ∙ z)

@@ -8,4 +8,5 @@ pub mod reading;
 pub mod sound;
 pub mod survey;
 pub mod verdict;
+pub mod withdrawing;
 pub mod writing;

@@ -1,12 +1,12 @@
--- What the stores of founding and beginning make of the memory, as the book has it. Assumes nothing.
-use Prim.Native.Nat.{ℕ, _+_, _≤_}
+-- What the stores of founding, beginning and withdrawing make of the memory, as the book has it. Assumes nothing.
+use Prim.Native.Nat.{ℕ, _+_, _-_, _≤_}
 use mathlib.Core.Path.{_≡_, ap, ap₂, _∙_}
 use mathlib.Core.List.{List}
 use native.Mathlib.Omega.{arith}
-use lib.ListN.{set}
+use lib.ListN.{set, replicate}
 use Rattle.model.specs.Memory.{Node as Record, digits, nodeCount, copying, zeroed, withNode, withTable, stateLength, tablesLength}
 use Rattle.model.specs.Tables.{ownTable}
-use Rattle.model.specs.Join.{withSettings, newNode, joiningNode, founded, begun}
+use Rattle.model.specs.Join.{withSettings, newNode, joiningNode, noNode, founded, begun, withdrawn}
 use Rattle.model.proofs.Memory.{same-requests}
 use Rattle.state.specs.declared.record.Node.{Node}
 use Rattle.state.specs.Lent.{memory}
@@ -33,3 +33,8 @@ begun-is s t s₁ s₂ t₁ n d id gateway a r en ed e₁ ea er e₂ f =
     ∙ ap₂ (λ (s : List ℕ) (r : Record). withNode s (n + 1) r) e₁ (er ∙ ap (λ (a : Record). joiningNode a copying gateway) ea)
     ∙ ap (λ (n : ℕ). withNode (set s 3 (n + 1)) (n + 1) (joiningNode (newNode id) copying gateway)) en)
     (f ∙ ap₂ (λ (n d : ℕ). withTable t (n + 1) (ownTable d id (n + 1))) en ed)
+
+pub withdrawn-is : (s t s₁ s₂ t₁ : List ℕ) (n : ℕ) (r : Record) → n ≡ nodeCount s → s₁ ≡ set s 3 (n - 1) → r ≡ noNode → s₂ ≡ withNode s₁ n r
+    → t₁ ≡ withTable t n (replicate 512 0) → memory s₂ t₁ ≡ withdrawn s t
+unfolding withdrawn
+withdrawn-is s t s₁ s₂ t₁ n r en e₁ er e₂ f = cc

@@ -1,2 +1,2 @@
--- The laws by which the code of founding and beginning meets the book.
+-- The laws by which the code of founding, beginning and withdrawing meets the book.
 pub mod Laws

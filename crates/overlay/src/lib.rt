@@ -2,7 +2,7 @@
 // bits; bits 0 to 7 are the refusal. The counts of a survey go to words that the caller lends.
 ghost use mathlib.Core.Path.{_≡_};
 ghost use mathlib.Core.List.{[], _∷_};
-ghost use Rattle.model.specs.Calls.{foundCall, readCall, beginCall, deliverCall, lookupCall, surveyCall, verdictCall, writeCall, soundCall};
+ghost use Rattle.model.specs.Calls.{foundCall, readCall, beginCall, withdrawCall, deliverCall, lookupCall, surveyCall, verdictCall, writeCall, soundCall};
 ghost use Rattle.state.specs.Lent.{memory};
 ghost use Rattle.engine.specs.Outcomes.{leaves};
 ghost use Rattle.overlay.specs.Packed.{gives, fills, packing, surveying};
@@ -42,6 +42,14 @@ pub extern "C" fn overlay_begin(state: &mut [u64], tables: &mut [u8], id: u32, g
 {
     let begun = engine::beginning::begin(state, tables, id, gateway);
     pack(begun.refusal, begun.node, 0, 0, 0)
+}
+
+// Withdrawing a join: the highest-numbered node, while it copies or waits. Answers the refusal.
+#[no_mangle]
+pub extern "C" fn overlay_withdraw(state: &mut [u64], tables: &mut [u8], node: u64) -> u64
+    ensures { λ r. ⌜ leaves (memory (now (state .exit)) (now (tables .exit))) (r ∷ []) ≡ withdrawCall (memory (now (state .entry)) (now (tables .entry))) node ⌝ }
+{
+    engine::withdrawing::withdraw(state, tables, node)
 }
 
 // Delivering the request of one node to another. Answers what it was, the attach level if it attached, and whether the sender settled.

@@ -1,13 +1,14 @@
 -- Sentences 1 and 2 in code, and what a state that they pass is. Assumes nothing.
 use Prim.Native.Nat.{ℕ, _≤_}
 use mathlib.Core.Path.{_≡_, refl, sym, ap, ap₂, _∙_}
-use mathlib.Core.Bool.{Bool, true, false, not, _&&_}
+use mathlib.Core.Bool.{Bool, true, false, not, _&&_, _||_}
 use mathlib.Core.List.{List, _∷_}
+use lib.Dec.{eqb}
 use lib.ListN.{length}
 use native.Mathlib.Nat.{le-trans}
 use borrow.Author.Tests.{not-false}
 use Rattle.model.specs.Ids.{validId}
-use Rattle.model.specs.Memory.{Memory, stateLength, base, digits}
+use Rattle.model.specs.Memory.{Memory, stateLength, base, digits, statusOf, inSystem, notifying, isAttached}
 use Rattle.model.specs.Nodes.{isNode}
 use Rattle.model.specs.Sound.{sound}
 use Rattle.model.specs.Refusals.{Sentence, firstTrue, memoryShort, unsound, stateSentences, stateRefusal}
@@ -47,6 +48,10 @@ node-placed s t x q S e h =
 -- the validity of an id by the settings that were loaded
 pub valid-by : (s : List ℕ) (id b d : ℕ) (v : Bool) → v ≡ validId b d id → b ≡ base s → d ≡ digits s → v ≡ validId (base s) (digits s) id
 valid-by s id b d v e f g = e ∙ ap₂ (λ (b d : ℕ). validId b d id) f g
+
+-- whether a node has attached, by the status that was read
+pub attached-read : (s : List ℕ) (x v : ℕ) (r : Bool) → r ≡ (eqb v inSystem || eqb v notifying) → v ≡ statusOf s x → r ≡ isAttached s x
+attached-read s x v r e f = cc
 
 -- ---- a call on a state: r is what the code found of 1 and 2
 

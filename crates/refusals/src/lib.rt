@@ -6,4 +6,5 @@ pub mod lookup;
 pub mod reading;
 pub mod sentences;
 pub mod verdict;
+pub mod withdrawing;
 pub mod writing;

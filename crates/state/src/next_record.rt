@@ -24,6 +24,22 @@ pub fn new_node(id: u32) -> Node
     }
 }
 
+// The record of a number that is no node's.
+pub fn no_node() -> Node
+    ensures { λ n. ⌜ bookNode n ≡ join.noNode ⌝ }
+{
+    Node {
+        id: 0,
+        status: 0,
+        level: 0,
+        target: 0,
+        pending: 0,
+        notified: 0,
+        requests: 0,
+        notices: 0,
+    }
+}
+
 // One in system; its counts stay.
 fn in_system_node(r: Node) -> Node
     ensures { λ n. ⌜ bookNode n ≡ join.inSystemNode (bookNode r) ⌝ }
