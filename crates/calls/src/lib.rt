@@ -6,6 +6,8 @@ pub enum Call {
     Read,
     // id, gateway
     Begin(u32, u64),
+    // the node
+    Withdraw(u64),
     // sender, receiver
     Deliver(u64, u64),
     // from, to

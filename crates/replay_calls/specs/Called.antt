@@ -5,13 +5,14 @@ use Rattle.model.specs.Memory.{Memory}
 use Rattle.model.specs.Calls.{writeCall}
 use Rattle.model.specs.Run as book
 use Rattle.calls.specs.declared.Call.{Call}
-use Rattle.calls.specs.declared.Call.the-variants.{Found, Read, Begin, Deliver, Lookup, Survey, Verdict, Write, Sound}
+use Rattle.calls.specs.declared.Call.the-variants.{Found, Read, Begin, Withdraw, Deliver, Lookup, Survey, Verdict, Write, Sound}
 
 -- the book's call, with the image that is lent for reading and the memory that is lent for output
 abbrev pub called : List ℕ → List ℕ → Call → book.Call
 called image out (Found b d K id) = book.found b d K id
 called image out Read = book.read image
 called image out (Begin id gateway) = book.begin id gateway
+called image out (Withdraw x) = book.withdraw x
 called image out (Deliver x y) = book.deliver x y
 called image out (Lookup u z) = book.lookup u z
 called image out Survey = book.survey
@@ -24,6 +25,7 @@ abbrev pub outAfter : Memory → List ℕ → Call → List ℕ
 outAfter m out (Found b d K id) = out
 outAfter m out Read = out
 outAfter m out (Begin id gateway) = out
+outAfter m out (Withdraw x) = out
 outAfter m out (Deliver x y) = out
 outAfter m out (Lookup u z) = out
 outAfter m out Survey = out

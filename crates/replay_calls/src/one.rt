@@ -1,7 +1,7 @@
 // One call, played by the public call of its kind.
 ghost use mathlib.Core.Path.{_≡_};
 ghost use mathlib.Core.List.{[], _∷_};
-ghost use Rattle.model.specs.Calls.{foundCall, readCall, beginCall, deliverCall, lookupCall, surveyCall, verdictCall, writeCall, soundCall};
+ghost use Rattle.model.specs.Calls.{foundCall, readCall, beginCall, withdrawCall, deliverCall, lookupCall, surveyCall, verdictCall, writeCall, soundCall};
 ghost use Rattle.model.specs.Run.{step};
 ghost use Rattle.state.specs.Lent.{memory};
 ghost use Rattle.replay_calls.specs.Called.{called, outAfter};
@@ -12,6 +12,7 @@ use engine::beginning;
 use engine::delivering;
 use engine::founding;
 use engine::reading;
+use engine::withdrawing;
 use engine::writing;
 use packing::delivered::as_numbers;
 use packing::pack::bit;
@@ -43,6 +44,12 @@ fn begin(state: &mut [u64], tables: &mut [u8], id: u32, gateway: u64) -> Words
 {
     let r = beginning::begin(state, tables, id, gateway);
     first_fields(r.refusal, r.node, 0, 0, 0)
+}
+
+fn withdraw(state: &mut [u64], tables: &mut [u8], node: u64) -> Words
+    ensures { λ r. ⌜ shown (memory (now (state .exit)) (now (tables .exit))) r ≡ playing (withdrawCall (memory (now (state .entry)) (now (tables .entry))) node) ⌝ }
+{
+    first_fields(withdrawing::withdraw(state, tables, node), 0, 0, 0, 0)
 }
 
 fn deliver(state: &mut [u64], tables: &mut [u8], sender: u64, receiver: u64) -> Words
@@ -109,6 +116,7 @@ pub fn play(state: &mut [u64], tables: &mut [u8], image: &[u8], out: &mut [u8], 
         }
         Call::Read => return read(state, tables, image),
         Call::Begin(id, gateway) => return begin(state, tables, id, gateway),
+        Call::Withdraw(node) => return withdraw(state, tables, node),
         Call::Deliver(sender, receiver) => return deliver(state, tables, sender, receiver),
         Call::Lookup(from, to) => return lookup(state, tables, from, to),
         Call::Survey => return survey(state, tables),

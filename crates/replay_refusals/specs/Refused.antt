@@ -35,7 +35,9 @@ ownEntry place = cond (eqb place 0) (ascii "an own entry has no record") (ascii 
 unfoldable pub sentenceFrom17 : ℕ → ℕ → List ℕ
 sentenceFrom17 n place =
     cond (eqb n 17) (ascii "the neighbour is not qualified, is in its entry already, or finds it full")
-    (cond (eqb n 18) (ownEntry place) [])
+    (cond (eqb n 18) (ownEntry place)
+    (cond (eqb n 19) (ascii "the node is not the highest-numbered one")
+    (cond (eqb n 20) (ascii "the node is settled or notifying") [])))
 
 -- a number that no sentence has is left without words
 unfoldable pub sentence : ℕ → ℕ → List ℕ

@@ -6,7 +6,7 @@ use lib.Dec.{eqb}
 use lib.ListN.{getD, drop}
 use Rattle.model.specs.Join.{kindCopied, kindSentOn, kindAttached}
 use Rattle.calls.specs.declared.Call.{Call}
-use Rattle.calls.specs.declared.Call.the-variants.{Found, Read, Begin, Deliver, Lookup, Survey, Verdict, Write, Sound}
+use Rattle.calls.specs.declared.Call.the-variants.{Found, Read, Begin, Withdraw, Deliver, Lookup, Survey, Verdict, Write, Sound}
 use Rattle.text.specs.Ascii.{ascii}
 use Rattle.text.specs.Numbers.{hexadecimal}
 use Rattle.text.specs.Lines.{labelled, line}
@@ -55,6 +55,7 @@ unfoldable pub takenText : ℕ → ℕ → Call → List ℕ → List ℕ
 takenText d n (Found b digits K id) w = ascii "found: node 1\n"
 takenText d n Read w = bytesText (ascii "load: ") n
 takenText d n (Begin id gateway) w = line (ascii "begin: node ") (getD w 1 0)
+takenText d n (Withdraw x) w = line (ascii "withdraw: node ") x
 takenText d n (Deliver x y) w = deliverText w
 takenText d n (Lookup u z) w = lookupText w
 takenText d n Survey w = surveySaid d (drop 1 w)

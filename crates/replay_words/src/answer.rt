@@ -120,6 +120,7 @@ fn taken(out: &mut [u8], digits: usize, n: u64, call: Call, w: Words) -> usize
         Call::Found(_, _, _, _) => return piece(out, 0, b"found: node 1\n"),
         Call::Read => return bytes(out, b"load: ", n),
         Call::Begin(_, _) => return text::line(out, 0, b"begin: node ", w.fields[0]),
+        Call::Withdraw(node) => return text::line(out, 0, b"withdraw: node ", node),
         Call::Deliver(_, _) => return delivered(out, w),
         Call::Lookup(_, _) => return looked_up(out, w),
         Call::Survey => return replay_survey::put(out, digits, w.fields),

@@ -4,16 +4,20 @@ use Rattle.calls.specs.declared.Call.the-variants as call
 use Rattle.text.specs.Ascii.{ascii}
 use Rattle.script.specs.Words.{isBlank, isSolid, isHash, until, beforeComment, fromWord, toBlank, fromBlank, wordIn, word, isEmpty, ends, sameText, named}
 use Rattle.script.specs.Numbers.{digit, areDigits, valueFrom, isNumber, valueOf, numberOf, decimalOf, hexadecimalOf}
-use Rattle.script.specs.Commands.{endsWith, ofFile, found, begin, deliver, lookup, table, fileOrShown, commandOf}
+use Rattle.script.specs.Commands.{endsWith, ofNode, ofFile, found, begin, deliver, lookup, fileOrShown, commandOf}
 use Rattle.script.specs.declared.command.Command.the-variants.{Nothing, Unknown, Call, Save, Panel, Table}
 
 unfoldable computing : Unit {0}
-unfolding isBlank isSolid isHash until beforeComment fromWord toBlank fromBlank wordIn word isEmpty ends sameText named digit areDigits valueFrom isNumber valueOf numberOf decimalOf hexadecimalOf endsWith ofFile found begin deliver lookup table fileOrShown commandOf
+unfolding isBlank isSolid isHash until beforeComment fromWord toBlank fromBlank wordIn word isEmpty ends sameText named digit areDigits valueFrom isNumber valueOf numberOf decimalOf hexadecimalOf endsWith ofNode ofFile found begin deliver lookup fileOrShown commandOf
 computing = tt
 
 pub founding : commandOf (ascii "found 16 8 4 0fFfffffF") ≡ Call (call.Found 16 8 4 4294967295)
 unfolding computing
 founding = refl
+
+pub withdrawing : commandOf (ascii "withdraw 3") ≡ Call (call.Withdraw 3)
+unfolding computing
+withdrawing = refl
 
 pub commented : commandOf (ascii "  deliver\t2 1# and so on\r") ≡ Call (call.Deliver 2 1)
 unfolding computing

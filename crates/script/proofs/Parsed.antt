@@ -7,13 +7,13 @@ use Rattle.calls.specs.declared.Call.the-variants as call
 use Rattle.text.specs.Ascii.{ascii}
 use Rattle.script.specs.Words.{word, ends, named}
 use Rattle.script.specs.Numbers.{decimalOf, hexadecimalOf}
-use Rattle.script.specs.Commands.{endsWith, ofFile, found, begin, deliver, lookup, table, fileOrShown, commandOf}
+use Rattle.script.specs.Commands.{endsWith, ofNode, ofFile, found, begin, withdraw, deliver, lookup, table, fileOrShown, commandOf}
 use Rattle.script.specs.declared.numbers.Number.{Number}
 use Rattle.script.specs.declared.numbers.Number.the-variants as number
 use Rattle.script.specs.declared.numbers.Id.{Id}
 use Rattle.script.specs.declared.numbers.Id.the-variants as ident
 use Rattle.script.specs.declared.command.Command.{Command}
-use Rattle.script.specs.declared.command.Command.the-variants.{Nothing, Unknown, Call, Save, Load, Panel, Table}
+use Rattle.script.specs.declared.command.Command.the-variants.{Nothing, Unknown, Call, Save, Load, Panel}
 
 -- ---- how a line ends
 
@@ -38,9 +38,9 @@ module _ (line : List ℕ) (c : Command) (r : Bool) (e : r ≡ ends 1 line) wher
 -- ---- the arguments of a command
 
 module _ (line : List ℕ) (a : Number) (p : a ≡ decimalOf (word 1 line)) where
-  pub table-none : a ≡ number.Not → Unknown ≡ table line
-  unfolding table
-  table-none h = rw (sym p ∙ h)
+  pub node-none : (make : ℕ → Command) → a ≡ number.Not → Unknown ≡ ofNode line make
+  unfolding ofNode
+  node-none make h = rw (sym p ∙ h)
 
   pub deliver-first : a ≡ number.Not → Unknown ≡ deliver line
   unfolding deliver
@@ -55,9 +55,9 @@ module _ (line : List ℕ) (a : Number) (p : a ≡ decimalOf (word 1 line)) wher
   found-first h = rw (sym p ∙ h)
 
   module _ (n : ℕ) (q : a ≡ number.Is n) where
-    pub table-is : (x : Command) → x ≡ endsWith 2 line (Table n) → x ≡ table line
-    unfolding table
-    table-is x e = rw (sym p ∙ q) e
+    pub node-is : (make : ℕ → Command) (x : Command) → x ≡ endsWith 2 line (make n) → x ≡ ofNode line make
+    unfolding ofNode
+    node-is make x e = rw (sym p ∙ q) e
 
     module _ (b : Number) (p₂ : b ≡ decimalOf (word 2 line)) where
       pub deliver-second : b ≡ number.Not → Unknown ≡ deliver line
@@ -151,33 +151,38 @@ module _ (line : List ℕ) where
         unfolding commandOf
         begin-named x h e = rw (sym e₀ ∙ q₀, sym p ∙ q, sym p₂ ∙ h) e
 
-        module _ (q₂ : b ≡ false) (c : Bool) (p₃ : c ≡ named line (ascii "deliver")) where
-          pub deliver-named : (x : Command) → c ≡ true → x ≡ deliver line → x ≡ commandOf line
+        module _ (q₂ : b ≡ false) (w : Bool) (p₃ : w ≡ named line (ascii "withdraw")) where
+          pub withdraw-named : (x : Command) → w ≡ true → x ≡ withdraw line → x ≡ commandOf line
           unfolding commandOf
-          deliver-named x h e = rw (sym e₀ ∙ q₀, sym p ∙ q, sym p₂ ∙ q₂, sym p₃ ∙ h) e
+          withdraw-named x h e = rw (sym e₀ ∙ q₀, sym p ∙ q, sym p₂ ∙ q₂, sym p₃ ∙ h) e
 
-          module _ (q₃ : c ≡ false) (d : Bool) (p₄ : d ≡ named line (ascii "lookup")) where
-            pub lookup-named : (x : Command) → d ≡ true → x ≡ lookup line → x ≡ commandOf line
+          module _ (q₃ : w ≡ false) (c : Bool) (p₄ : c ≡ named line (ascii "deliver")) where
+            pub deliver-named : (x : Command) → c ≡ true → x ≡ deliver line → x ≡ commandOf line
             unfolding commandOf
-            lookup-named x h e = rw (sym e₀ ∙ q₀, sym p ∙ q, sym p₂ ∙ q₂, sym p₃ ∙ q₃, sym p₄ ∙ h) e
+            deliver-named x h e = rw (sym e₀ ∙ q₀, sym p ∙ q, sym p₂ ∙ q₂, sym p₃ ∙ q₃, sym p₄ ∙ h) e
 
-            module _ (q₄ : d ≡ false) (s : Bool) (p₅ : s ≡ named line (ascii "survey")) where
-              pub survey-named : (x : Command) → s ≡ true → x ≡ endsWith 1 line (Call call.Survey) → x ≡ commandOf line
+            module _ (q₄ : c ≡ false) (d : Bool) (p₅ : d ≡ named line (ascii "lookup")) where
+              pub lookup-named : (x : Command) → d ≡ true → x ≡ lookup line → x ≡ commandOf line
               unfolding commandOf
-              survey-named x h e = rw (sym e₀ ∙ q₀, sym p ∙ q, sym p₂ ∙ q₂, sym p₃ ∙ q₃, sym p₄ ∙ q₄, sym p₅ ∙ h) e
+              lookup-named x h e = rw (sym e₀ ∙ q₀, sym p ∙ q, sym p₂ ∙ q₂, sym p₃ ∙ q₃, sym p₄ ∙ q₄, sym p₅ ∙ h) e
 
-              module _ (q₅ : s ≡ false) (v : Bool) (p₆ : v ≡ named line (ascii "verdict")) where
-                pub verdict-named : (x : Command) → v ≡ true → x ≡ endsWith 1 line (Call call.Verdict) → x ≡ commandOf line
+              module _ (q₅ : d ≡ false) (s : Bool) (p₆ : s ≡ named line (ascii "survey")) where
+                pub survey-named : (x : Command) → s ≡ true → x ≡ endsWith 1 line (Call call.Survey) → x ≡ commandOf line
                 unfolding commandOf
-                verdict-named x h e = rw (sym e₀ ∙ q₀, sym p ∙ q, sym p₂ ∙ q₂, sym p₃ ∙ q₃, sym p₄ ∙ q₄, sym p₅ ∙ q₅, sym p₆ ∙ h) e
+                survey-named x h e = rw (sym e₀ ∙ q₀, sym p ∙ q, sym p₂ ∙ q₂, sym p₃ ∙ q₃, sym p₄ ∙ q₄, sym p₅ ∙ q₅, sym p₆ ∙ h) e
 
-                module _ (q₆ : v ≡ false) (o : Bool) (p₇ : o ≡ named line (ascii "sound")) where
-                  pub sound-named : (x : Command) → o ≡ true → x ≡ endsWith 1 line (Call call.Sound) → x ≡ commandOf line
+                module _ (q₆ : s ≡ false) (v : Bool) (p₇ : v ≡ named line (ascii "verdict")) where
+                  pub verdict-named : (x : Command) → v ≡ true → x ≡ endsWith 1 line (Call call.Verdict) → x ≡ commandOf line
                   unfolding commandOf
-                  sound-named x h e =
-                      rw (sym e₀ ∙ q₀, sym p ∙ q, sym p₂ ∙ q₂, sym p₃ ∙ q₃, sym p₄ ∙ q₄, sym p₅ ∙ q₅, sym p₆ ∙ q₆, sym p₇ ∙ h) e
+                  verdict-named x h e = rw (sym e₀ ∙ q₀, sym p ∙ q, sym p₂ ∙ q₂, sym p₃ ∙ q₃, sym p₄ ∙ q₄, sym p₅ ∙ q₅, sym p₆ ∙ q₆, sym p₇ ∙ h) e
 
-                  pub file-or-shown : (x : Command) → o ≡ false → x ≡ fileOrShown line → x ≡ commandOf line
-                  unfolding commandOf
-                  file-or-shown x h e =
-                      rw (sym e₀ ∙ q₀, sym p ∙ q, sym p₂ ∙ q₂, sym p₃ ∙ q₃, sym p₄ ∙ q₄, sym p₅ ∙ q₅, sym p₆ ∙ q₆, sym p₇ ∙ h) e
+                  module _ (q₇ : v ≡ false) (o : Bool) (p₈ : o ≡ named line (ascii "sound")) where
+                    pub sound-named : (x : Command) → o ≡ true → x ≡ endsWith 1 line (Call call.Sound) → x ≡ commandOf line
+                    unfolding commandOf
+                    sound-named x h e =
+                        rw (sym e₀ ∙ q₀, sym p ∙ q, sym p₂ ∙ q₂, sym p₃ ∙ q₃, sym p₄ ∙ q₄, sym p₅ ∙ q₅, sym p₆ ∙ q₆, sym p₇ ∙ q₇, sym p₈ ∙ h) e
+
+                    pub file-or-shown : (x : Command) → o ≡ false → x ≡ fileOrShown line → x ≡ commandOf line
+                    unfolding commandOf
+                    file-or-shown x h e =
+                        rw (sym e₀ ∙ q₀, sym p ∙ q, sym p₂ ∙ q₂, sym p₃ ∙ q₃, sym p₄ ∙ q₄, sym p₅ ∙ q₅, sym p₆ ∙ q₆, sym p₇ ∙ q₇, sym p₈ ∙ h) e

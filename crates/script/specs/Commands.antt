@@ -35,6 +35,10 @@ withId k line make = ofId (hexadecimalOf (word k line)) make
 unfoldable pub endsWith : ℕ → List ℕ → Command → Command
 endsWith k line c = cond (ends k line) c Unknown
 
+-- a command made of a node's number, which is word 1 and ends the line
+unfoldable pub ofNode : List ℕ → (ℕ → Command) → Command
+ofNode line make = withNumber 1 line (λ x. endsWith 2 line (make x))
+
 unfoldable pub found : List ℕ → Command
 found line =
     withNumber 1 line (λ base. withNumber 2 line (λ digits. withNumber 3 line (λ depth. withId 4 line (λ id.
@@ -43,14 +47,17 @@ found line =
 unfoldable pub begin : List ℕ → Command
 begin line = withId 1 line (λ id. withNumber 2 line (λ gateway. endsWith 3 line (Call (call.Begin id gateway))))
 
+abbrev pub withdraw : List ℕ → Command
+withdraw line = ofNode line (λ x. Call (call.Withdraw x))
+
 unfoldable pub deliver : List ℕ → Command
 deliver line = withNumber 1 line (λ sender. withNumber 2 line (λ receiver. endsWith 3 line (Call (call.Deliver sender receiver))))
 
 unfoldable pub lookup : List ℕ → Command
 lookup line = withNumber 1 line (λ from. withNumber 2 line (λ to. endsWith 3 line (Call (call.Lookup from to))))
 
-unfoldable pub table : List ℕ → Command
-table line = withNumber 1 line (λ x. endsWith 2 line (Table x))
+abbrev pub table : List ℕ → Command
+table line = ofNode line Table
 
 -- a command whose word 1 names a file, which ends the line
 unfoldable pub ofFile : List ℕ → Command → Command
@@ -70,9 +77,10 @@ commandOf line =
     cond (ends 0 line) Nothing
     (cond (named line (ascii "found")) (found line)
     (cond (named line (ascii "begin")) (begin line)
+    (cond (named line (ascii "withdraw")) (withdraw line)
     (cond (named line (ascii "deliver")) (deliver line)
     (cond (named line (ascii "lookup")) (lookup line)
     (cond (named line (ascii "survey")) (endsWith 1 line (Call call.Survey))
     (cond (named line (ascii "verdict")) (endsWith 1 line (Call call.Verdict))
     (cond (named line (ascii "sound")) (endsWith 1 line (Call call.Sound))
-    (fileOrShown line))))))))
+    (fileOrShown line)))))))))

@@ -1,6 +1,6 @@
 // A line of the script as a command.
 ghost use mathlib.Core.Path.{_≡_};
-ghost use Rattle.script.specs.Commands.{endsWith, ofFile, found, begin, deliver, lookup, table, fileOrShown, commandOf};
+ghost use Rattle.script.specs.Commands.{endsWith, ofFile, found, begin, withdraw, deliver, lookup, table, fileOrShown, commandOf};
 use crate::numbers::Id;
 use crate::numbers::Number;
 use crate::numbers::decimal;
@@ -60,6 +60,15 @@ fn begin(line: &[u8]) -> Command
         return Command::Unknown;
     };
     ends_with(line, 3, Command::Call(Call::Begin(id, gateway)))
+}
+
+fn withdraw(line: &[u8]) -> Command
+    ensures { λ r. ⌜ r ≡ withdraw (now (line .entry)) ⌝ }
+{
+    let Number::Is(x) = decimal(line, 1) else {
+        return Command::Unknown;
+    };
+    ends_with(line, 2, Command::Call(Call::Withdraw(x)))
 }
 
 fn deliver(line: &[u8]) -> Command
@@ -136,6 +145,9 @@ pub fn parsed(line: &[u8]) -> Command
     }
     if named(line, b"begin") {
         return begin(line);
+    }
+    if named(line, b"withdraw") {
+        return withdraw(line);
     }
     if named(line, b"deliver") {
         return deliver(line);

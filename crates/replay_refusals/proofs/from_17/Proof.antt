@@ -32,11 +32,41 @@ unfolding sentenceFrom17
 returns-2 c =
     (by-number _ _ 18 (c .before .before .before .before .match .keys2) _ _ _ _ (c .before .before .own-entry .ensures .0), omega arith)
 
+slice-aggregate-piece-2 : tie.Need-slice-aggregate-piece-2
+slice-aggregate-piece-2 c = search needs
+
+piece-requires-2 : tie.Need-piece-requires-2
+piece-requires-2 c κs = search needs
+
+same-length-3 : tie.Need-same-length-3
+same-length-3 c = search needs
+
 returns-3 : tie.Need-returns-3
 unfolding sentenceFrom17
 returns-3 c =
+    let P = c .before .before .piece2 .ensures in
+    (by-number _ _ 19 (c .before .before .before .before .before .match .keys3) _ _ _ _ P, omega (arith, P .ends))
+
+slice-aggregate-piece-3 : tie.Need-slice-aggregate-piece-3
+slice-aggregate-piece-3 c = search needs
+
+piece-requires-3 : tie.Need-piece-requires-3
+piece-requires-3 c κs = search needs
+
+same-length-4 : tie.Need-same-length-4
+same-length-4 c = search needs
+
+returns-4 : tie.Need-returns-4
+unfolding sentenceFrom17
+returns-4 c =
+    let P = c .before .before .piece3 .ensures in
+    (by-number _ _ 20 (c .before .before .before .before .before .match .keys4) _ _ _ _ P, omega (arith, P .ends))
+
+returns-5 : tie.Need-returns-5
+unfolding sentenceFrom17
+returns-5 c =
     let n = c .match .rest in
-    (no-sentence-from-17 _ _ _ (omega arith) _ (n .0 .1) (n .1), omega arith)
+    (no-sentence-from-17 _ _ _ (omega arith) _ (n .0 .0 .0 .1) (n .0 .0 .1) (n .0 .1) (n .1), omega arith)
 
 pub from-17-spec : {M : Type 1} → statement M
 from-17-spec =
@@ -49,4 +79,12 @@ from-17-spec =
     own-entry-requires
     same-length-2
     returns-2
-    returns-3)
+    slice-aggregate-piece-2
+    piece-requires-2
+    same-length-3
+    returns-3
+    slice-aggregate-piece-3
+    piece-requires-3
+    same-length-4
+    returns-4
+    returns-5)

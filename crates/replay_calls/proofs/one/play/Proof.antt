@@ -56,8 +56,8 @@ returns-3 c = (search plays, search output)
 enum-known-call-3 : tie.Need-enum-known-call-3
 enum-known-call-3 c = search needs
 
-deliver-requires : tie.Need-deliver-requires
-deliver-requires c κs = search needs
+withdraw-requires : tie.Need-withdraw-requires
+withdraw-requires c κs = search needs
 
 same-length-7 : tie.Need-same-length-7
 same-length-7 c = search needs
@@ -72,8 +72,8 @@ returns-4 c = (search plays, search output)
 enum-known-call-4 : tie.Need-enum-known-call-4
 enum-known-call-4 c = search needs
 
-lookup-requires : tie.Need-lookup-requires
-lookup-requires c κs = search needs
+deliver-requires : tie.Need-deliver-requires
+deliver-requires c κs = search needs
 
 same-length-9 : tie.Need-same-length-9
 same-length-9 c = search needs
@@ -85,11 +85,11 @@ returns-5 : tie.Need-returns-5
 unfolding step
 returns-5 c = (search plays, search output)
 
-enum-told-2 : tie.Need-enum-told-2
-enum-told-2 c = search needs
+enum-known-call-5 : tie.Need-enum-known-call-5
+enum-known-call-5 c = search needs
 
-survey-requires : tie.Need-survey-requires
-survey-requires c κs = search needs
+lookup-requires : tie.Need-lookup-requires
+lookup-requires c κs = search needs
 
 same-length-11 : tie.Need-same-length-11
 same-length-11 c = search needs
@@ -101,11 +101,11 @@ returns-6 : tie.Need-returns-6
 unfolding step
 returns-6 c = (search plays, search output)
 
-enum-told-3 : tie.Need-enum-told-3
-enum-told-3 c = search needs
+enum-told-2 : tie.Need-enum-told-2
+enum-told-2 c = search needs
 
-verdict-requires : tie.Need-verdict-requires
-verdict-requires c κs = search needs
+survey-requires : tie.Need-survey-requires
+survey-requires c κs = search needs
 
 same-length-13 : tie.Need-same-length-13
 same-length-13 c = search needs
@@ -117,11 +117,11 @@ returns-7 : tie.Need-returns-7
 unfolding step
 returns-7 c = (search plays, search output)
 
-enum-told-4 : tie.Need-enum-told-4
-enum-told-4 c = search needs
+enum-told-3 : tie.Need-enum-told-3
+enum-told-3 c = search needs
 
-write-requires : tie.Need-write-requires
-write-requires c κs = search needs
+verdict-requires : tie.Need-verdict-requires
+verdict-requires c κs = search needs
 
 same-length-15 : tie.Need-same-length-15
 same-length-15 c = search needs
@@ -129,18 +129,18 @@ same-length-15 c = search needs
 same-length-16 : tie.Need-same-length-16
 same-length-16 c = search needs
 
-same-length-17 : tie.Need-same-length-17
-same-length-17 c = search needs
-
 returns-8 : tie.Need-returns-8
 unfolding step
 returns-8 c = (search plays, search output)
 
-enum-told-5 : tie.Need-enum-told-5
-enum-told-5 c = search needs
+enum-told-4 : tie.Need-enum-told-4
+enum-told-4 c = search needs
 
-sound-requires : tie.Need-sound-requires
-sound-requires c κs = search needs
+write-requires : tie.Need-write-requires
+write-requires c κs = search needs
+
+same-length-17 : tie.Need-same-length-17
+same-length-17 c = search needs
 
 same-length-18 : tie.Need-same-length-18
 same-length-18 c = search needs
@@ -151,6 +151,22 @@ same-length-19 c = search needs
 returns-9 : tie.Need-returns-9
 unfolding step
 returns-9 c = (search plays, search output)
+
+enum-told-5 : tie.Need-enum-told-5
+enum-told-5 c = search needs
+
+sound-requires : tie.Need-sound-requires
+sound-requires c κs = search needs
+
+same-length-20 : tie.Need-same-length-20
+same-length-20 c = search needs
+
+same-length-21 : tie.Need-same-length-21
+same-length-21 c = search needs
+
+returns-10 : tie.Need-returns-10
+unfolding step
+returns-10 c = (search plays, search output)
 
 pub play-spec : {M : Type 1} → statement M
 play-spec =
@@ -172,33 +188,38 @@ play-spec =
     same-length-6
     returns-3
     enum-known-call-3
-    deliver-requires
+    withdraw-requires
     same-length-7
     same-length-8
     returns-4
     enum-known-call-4
-    lookup-requires
+    deliver-requires
     same-length-9
     same-length-10
     returns-5
-    enum-told-2
-    survey-requires
+    enum-known-call-5
+    lookup-requires
     same-length-11
     same-length-12
     returns-6
-    enum-told-3
-    verdict-requires
+    enum-told-2
+    survey-requires
     same-length-13
     same-length-14
     returns-7
-    enum-told-4
-    write-requires
+    enum-told-3
+    verdict-requires
     same-length-15
     same-length-16
-    same-length-17
     returns-8
-    enum-told-5
-    sound-requires
+    enum-told-4
+    write-requires
+    same-length-17
     same-length-18
     same-length-19
-    returns-9)
+    returns-9
+    enum-told-5
+    sound-requires
+    same-length-20
+    same-length-21
+    returns-10)

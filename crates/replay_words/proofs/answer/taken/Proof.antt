@@ -57,11 +57,14 @@ returns-3 : tie.Need-returns-3
 unfolding takenText
 returns-3 c = (search by-call, omega arith)
 
-enum-told-4 : tie.Need-enum-told-4
-enum-told-4 c = search needs
+enum-known-call : tie.Need-enum-known-call
+enum-known-call c = search needs
 
-delivered-requires : tie.Need-delivered-requires
-delivered-requires c κs = search needs
+slice-aggregate-line-2 : tie.Need-slice-aggregate-line-2
+slice-aggregate-line-2 c = search needs
+
+line-requires-2 : tie.Need-line-requires-2
+line-requires-2 c κs = search needs
 
 same-length-4 : tie.Need-same-length-4
 same-length-4 c = search needs
@@ -70,11 +73,11 @@ returns-4 : tie.Need-returns-4
 unfolding takenText
 returns-4 c = (search by-call, omega arith)
 
-enum-told-5 : tie.Need-enum-told-5
-enum-told-5 c = search needs
+enum-told-4 : tie.Need-enum-told-4
+enum-told-4 c = search needs
 
-looked-up-requires : tie.Need-looked-up-requires
-looked-up-requires c κs = search needs
+delivered-requires : tie.Need-delivered-requires
+delivered-requires c κs = search needs
 
 same-length-5 : tie.Need-same-length-5
 same-length-5 c = search needs
@@ -83,11 +86,11 @@ returns-5 : tie.Need-returns-5
 unfolding takenText
 returns-5 c = (search by-call, omega arith)
 
-enum-told-6 : tie.Need-enum-told-6
-enum-told-6 c = search needs
+enum-told-5 : tie.Need-enum-told-5
+enum-told-5 c = search needs
 
-put-requires : tie.Need-put-requires
-put-requires c κs = (search survey-fits, omega arith)
+looked-up-requires : tie.Need-looked-up-requires
+looked-up-requires c κs = search needs
 
 same-length-6 : tie.Need-same-length-6
 same-length-6 c = search needs
@@ -96,11 +99,11 @@ returns-6 : tie.Need-returns-6
 unfolding takenText
 returns-6 c = (search by-call, omega arith)
 
-enum-told-7 : tie.Need-enum-told-7
-enum-told-7 c = search needs
+enum-told-6 : tie.Need-enum-told-6
+enum-told-6 c = search needs
 
-judged-requires : tie.Need-judged-requires
-judged-requires c κs = search needs
+put-requires : tie.Need-put-requires
+put-requires c κs = (search survey-fits, omega arith)
 
 same-length-7 : tie.Need-same-length-7
 same-length-7 c = search needs
@@ -108,6 +111,19 @@ same-length-7 c = search needs
 returns-7 : tie.Need-returns-7
 unfolding takenText
 returns-7 c = (search by-call, omega arith)
+
+enum-told-7 : tie.Need-enum-told-7
+enum-told-7 c = search needs
+
+judged-requires : tie.Need-judged-requires
+judged-requires c κs = search needs
+
+same-length-8 : tie.Need-same-length-8
+same-length-8 c = search needs
+
+returns-8 : tie.Need-returns-8
+unfolding takenText
+returns-8 c = (search by-call, omega arith)
 
 enum-told-8 : tie.Need-enum-told-8
 enum-told-8 c = search needs
@@ -121,12 +137,12 @@ element-copy-out-bytes c = search needs
 bytes-requires-2 : tie.Need-bytes-requires-2
 bytes-requires-2 c κs = search needs
 
-same-length-8 : tie.Need-same-length-8
-same-length-8 c = search needs
+same-length-9 : tie.Need-same-length-9
+same-length-9 c = search needs
 
-returns-8 : tie.Need-returns-8
+returns-9 : tie.Need-returns-9
 unfolding takenText
-returns-8 c = (search by-call, omega arith)
+returns-9 c = (search by-call, omega arith)
 
 enum-told-9 : tie.Need-enum-told-9
 enum-told-9 c = search needs
@@ -137,12 +153,12 @@ slice-aggregate-piece-2 c = search needs
 piece-requires-2 : tie.Need-piece-requires-2
 piece-requires-2 c κs = search needs
 
-same-length-9 : tie.Need-same-length-9
-same-length-9 c = search needs
+same-length-10 : tie.Need-same-length-10
+same-length-10 c = search needs
 
-returns-9 : tie.Need-returns-9
+returns-10 : tie.Need-returns-10
 unfolding takenText
-returns-9 c = (search by-call, omega arith)
+returns-10 c = (search by-call, omega arith)
 
 pub taken-spec : {M : Type 1} → statement M
 taken-spec =
@@ -164,30 +180,35 @@ taken-spec =
     line-requires
     same-length-3
     returns-3
-    enum-told-4
-    delivered-requires
+    enum-known-call
+    slice-aggregate-line-2
+    line-requires-2
     same-length-4
     returns-4
-    enum-told-5
-    looked-up-requires
+    enum-told-4
+    delivered-requires
     same-length-5
     returns-5
-    enum-told-6
-    put-requires
+    enum-told-5
+    looked-up-requires
     same-length-6
     returns-6
-    enum-told-7
-    judged-requires
+    enum-told-6
+    put-requires
     same-length-7
     returns-7
+    enum-told-7
+    judged-requires
+    same-length-8
+    returns-8
     enum-told-8
     slice-aggregate-bytes-2
     element-copy-out-bytes
     bytes-requires-2
-    same-length-8
-    returns-8
+    same-length-9
+    returns-9
     enum-told-9
     slice-aggregate-piece-2
     piece-requires-2
-    same-length-9
-    returns-9)
+    same-length-10
+    returns-10)

@@ -1,5 +1,5 @@
 -- `table`: its word. Assumes nothing.
-use Rattle.script.proofs.Parsed.{table-none, table-is}
+use Rattle.script.proofs.Parsed.{node-none, node-is}
 use borrow.Author.Needs.{needs}
 use Rattle.script.proofs.command.table.Statement.{statement}
 use Rattle.script.proofs.command.table.Tie as tie
@@ -14,13 +14,13 @@ enum-told : tie.Need-enum-told
 enum-told c = search needs
 
 returns : tie.Need-returns
-returns c = search table-none
+returns c = search node-none
 
 ends-with-requires : tie.Need-ends-with-requires
 ends-with-requires c κs = search needs
 
 returns-2 : tie.Need-returns-2
-returns-2 c = search table-is
+returns-2 c = search node-is
 
 pub table-spec : {M : Type 1} → statement M
 table-spec =
