@@ -1,6 +1,7 @@
-/* A small rig: founds a network, lets seven nodes join it at the same time, delivers until all are in system, says what each join cost, looks nodes up, asks
- * for the verdict and the hop survey, saves the network as an image and reads it into other memory, after a look whether that holds a network already.
- * README.md has the line that builds it; examples/rig.out is what it prints. */
+/* A small rig: founds a network, lets seven nodes join it at the same time, delivers until all are in system, withdraws the join of one more that began by
+ * the wrong gateway and begins it again, says what each join cost, looks nodes up, asks for the verdict and the hop survey, saves the network as an image
+ * and reads it into other memory, after a look whether that holds a network already. README.md has the line that builds it; examples/rig.out is what it
+ * prints. */
 #include <stdio.h>
 #include <stdlib.h>
 #include <string.h>
@@ -39,6 +40,8 @@ static const char *const refusals[] = {
     [OVERLAY_SHORT_OUTPUT] = "the memory for the image is too short",
     [OVERLAY_RECORD_NEIGHBOR] = "a record's neighbour may not stand there",
     [OVERLAY_OWN_ENTRY] = "an own entry is absent or another's",
+    [OVERLAY_NOT_HIGHEST] = "the node is not the highest-numbered",
+    [OVERLAY_HAS_ATTACHED] = "the node has attached",
 };
 
 /* The refusal of an answer in words; a later version may have more. */
@@ -132,17 +135,36 @@ static void print_costs(const struct network *network, unsigned nodes)
                (unsigned)overlay_notices(network->state, node));
 }
 
+/* Begins the join of a node with this id by the gateway. Answers its number. */
+static unsigned begin_join(struct network *network, uint32_t id, unsigned gateway)
+{
+    unsigned node = overlay_new_node(taken("begin", overlay_begin(LENT(network), id, gateway)));
+    printf("node %u begins to join with id %04x by node %u\n", node, (unsigned)id, gateway);
+    return node;
+}
+
 /* Founds with one node and begins the joins of the others, all by node 1. */
 static void begin_joins(struct network *network, const uint32_t *ids, unsigned nodes)
 {
     taken("found", overlay_found(LENT(network), 4, 4, 2, ids[0]));
     printf("node 1 founds with id %04x\n", (unsigned)ids[0]);
-    for (unsigned i = 1; i < nodes; i++) {
-        uint64_t answer = taken("begin", overlay_begin(LENT(network), ids[i], 1));
-        printf("node %u begins to join with id %04x\n", overlay_new_node(answer), (unsigned)ids[i]);
-    }
+    for (unsigned i = 1; i < nodes; i++)
+        begin_join(network, ids[i], 1);
     print_refusal("its id once more", overlay_begin(LENT(network), ids[nodes - 1], 1));
     print_refusal("a verdict now", overlay_verdict(LENT(network)));
+}
+
+/* Begins a join by the wrong gateway, withdraws it after its first delivery, and joins the node by the right one, under the same number. */
+static void join_again(struct network *network, uint32_t id, unsigned wrong, unsigned right)
+{
+    unsigned node = begin_join(network, id, wrong);
+    print_delivery(node, wrong, taken("deliver", overlay_deliver(LENT(network), node, wrong)));
+    taken("withdraw", overlay_withdraw(LENT(network), node));
+    printf("node %u is withdrawn\n", node);
+    begin_join(network, id, right);
+    printf("%u deliveries\n", settle(network, node));
+    print_refusal("its withdrawal now", overlay_withdraw(LENT(network), node));
+    print_refusal("that of node 1", overlay_withdraw(LENT(network), 1));
 }
 
 /* Exchanges a record of an image with the next. */
@@ -181,11 +203,12 @@ static void save_and_read(const struct network *from, struct network *to, unsign
 
 int main(void)
 {
-    static const uint32_t ids[] = {0x0123, 0x0321, 0x1321, 0x3210, 0x0021, 0x2311, 0x3333, 0x2321};
+    static const uint32_t ids[] = {0x0123, 0x0321, 0x1321, 0x3210, 0x0021, 0x2311, 0x3333, 0x2321, 0x2323};
     const unsigned nodes = sizeof ids / sizeof ids[0];
 
-    begin_joins(&first, ids, nodes);
-    printf("%u deliveries\n", settle(&first, nodes));
+    begin_joins(&first, ids, nodes - 1);
+    printf("%u deliveries\n", settle(&first, nodes - 1));
+    join_again(&first, ids[nodes - 1], 4, 1);
     print_costs(&first, nodes);
     print_verdict(&first);
     for (unsigned to = 1; to <= nodes; to++)
