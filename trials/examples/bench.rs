@@ -1,8 +1,8 @@
 //! Times the proved engine beside the second one on the same calls, in one run: `cargo run --release --example bench`.
 //!
-//! A network grows to its size with joins in flight; then nodes are looked up in it, and it is judged, surveyed and written, with the counts of its
-//! joins, and read back last, as reading sets these to zero. The two engines play this in turn for many rounds; a call counts with its shortest time
-//! over the rounds. The share of `sound` in a call is told by further rounds.
+//! A network grows to its size with joins in flight, each of them begun, withdrawn and begun again; then nodes are looked up in it, and it is judged,
+//! surveyed and written, with the counts of its joins, and read back last, as reading sets these to zero. The two engines play this in turn for many
+//! rounds; a call counts with its shortest time over the rounds. The share of `sound` in a call is told by further rounds.
 
 use std::hint::black_box;
 use std::time::Instant;
@@ -20,9 +20,11 @@ const ROUNDS: usize = 150;
 const IN_FLIGHT: usize = 4;
 
 /// Calls that judge the state first.
-const JUDGING: [&str; 6] = ["begin", "deliver", "lookup", "verdict", "survey", "write"];
+const JUDGING: [&str; 7] = [
+    "begin", "withdraw", "deliver", "lookup", "verdict", "survey", "write",
+];
 
-/// A founding, then beginnings and deliveries in any order until all nodes are in system.
+/// A founding, then beginnings, each withdrawn and made again, and deliveries in any order until all nodes are in system.
 fn growth(settings: [u64; 3], nodes: usize, rng: &mut Rng) -> Vec<Call> {
     let mut memory = Lent::noise();
     let mut calls = vec![Call::Found { settings, id: 0 }];
@@ -31,18 +33,22 @@ fn growth(settings: [u64; 3], nodes: usize, rng: &mut Rng) -> Vec<Call> {
         let network = Network::decode(memory.used_state());
         let outstanding = network.outstanding();
         let joining = network.iter().filter(|(_, node)| !node.in_system()).count();
-        let call = if network.count() < nodes && joining < IN_FLIGHT {
+        let next = if network.count() < nodes && joining < IN_FLIGHT {
             let id = fresh_id(rng, &network).expect("there are more ids than nodes");
-            Call::Begin { id, gateway: 1 }
+            let begin = Call::Begin { id, gateway: 1 };
+            let node = network.count() as u64 + 1;
+            vec![begin.clone(), Call::Withdraw { node }, begin]
         } else if outstanding.is_empty() {
             return calls;
         } else {
             let (sender, receiver) = rng.pick(&outstanding);
             let (sender, receiver) = (sender as u64, receiver as u64);
-            Call::Deliver { sender, receiver }
+            vec![Call::Deliver { sender, receiver }]
         };
-        memory.call(&Second, &call);
-        calls.push(call);
+        for call in &next {
+            memory.call(&Second, call);
+        }
+        calls.extend(next);
     }
 }
 

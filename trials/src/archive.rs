@@ -35,6 +35,14 @@ pub mod interface {
             gateway: u64,
         ) -> u64;
 
+        pub fn overlay_withdraw(
+            state: *mut u64,
+            state_len: usize,
+            tables: *mut u8,
+            tables_len: usize,
+            node: u64,
+        ) -> u64;
+
         pub fn overlay_deliver(
             state: *mut u64,
             state_len: usize,
@@ -119,6 +127,12 @@ impl Engine for Archive {
         let (words, bytes) = (state.len(), tables.len());
         let (state, tables) = (state.as_mut_ptr(), tables.as_mut_ptr());
         unsafe { interface::overlay_begin(state, words, tables, bytes, id, gateway) }
+    }
+
+    fn withdraw(&self, state: &mut [u64], tables: &mut [u8], node: u64) -> u64 {
+        let (words, bytes) = (state.len(), tables.len());
+        let (state, tables) = (state.as_mut_ptr(), tables.as_mut_ptr());
+        unsafe { interface::overlay_withdraw(state, words, tables, bytes, node) }
     }
 
     fn deliver(&self, state: &mut [u64], tables: &mut [u8], sender: u64, receiver: u64) -> u64 {

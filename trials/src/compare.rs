@@ -1,16 +1,18 @@
 //! One script on two engines: every answer, every byte of memory, output and counts after every call, what any
-//! engine must leave alone, what a refusal may have beside its number, that a survey adds up, and that each node's
-//! two counts are those of the history.
+//! engine must leave alone, what a refusal may have beside its number, that a survey adds up, that a withdrawn node is
+//! gone, and that each node's two counts are those of the history.
 
 use std::fmt::{self, Display, Formatter};
+use std::ops::Range;
 
 use crate::engine::Engine;
 use crate::lent::Lent;
 use crate::panel::History;
 use crate::script::{Call, Line, Script};
-use crate::second::memory::{STATE_WORDS, TABLE_BYTES};
+use crate::second::memory::{COUNT, MOST_NODES, STATE_WORDS, TABLE_BYTES};
 use crate::second::LOST;
 use crate::surveys::adds_up;
+use crate::withdrawals::is_gone;
 
 /// Where the first difference was, and what it was.
 #[derive(Debug)]
@@ -67,8 +69,14 @@ impl<'a> Pair<'a> {
         self.differ(answer, other)?;
         let after = &self.memories[0];
         left_alone(line, answer, &self.before, after)?;
-        if *line == Line::Call(Call::Survey) && answer == 0 {
-            adds_up(after.used_state(), after.used_counts())?;
+        match line {
+            Line::Call(Call::Survey) if answer == 0 => {
+                adds_up(after.used_state(), after.used_counts())?;
+            }
+            Line::Call(Call::Withdraw { node }) if answer & 0xff == 0 => {
+                is_gone(*node, answer, &self.before, after)?;
+            }
+            _ => {}
         }
         self.history.note(line, answer, after.used_state());
         self.history.stands_in(after.used_state())?;
@@ -86,12 +94,12 @@ impl<'a> Pair<'a> {
 
     fn differ(&self, answer: u64, other: u64) -> Result<(), String> {
         let [a, b] = &self.memories;
-        let names = || format!("{} and {}", self.engines[0].name(), self.engines[1].name());
+        let names = self.engines.map(Engine::name);
         if answer != other {
-            return Err(format!("{} answer {answer:#x} and {other:#x}", names()));
+            let [one, two] = names;
+            return Err(format!("{one} and {two} answer {answer:#x} and {other:#x}"));
         }
-        same(names, "state word", &a.state, &b.state)?;
-        same(names, "table byte", &a.tables, &b.tables)?;
+        same_network(names, a, b)?;
         same(names, "output byte", &a.out, &b.out)?;
         same(names, "count", &a.counts, &b.counts)
     }
@@ -106,16 +114,61 @@ pub fn compare(a: &dyn Engine, b: &dyn Engine, script: &Script) -> Result<(), Di
     Ok(())
 }
 
-/// How much of state, tables, output and counts a call may write.
-fn may_write(call: &Call, answer: u64) -> (usize, usize, usize, usize) {
+/// Every word of state and byte of tables, lent or not, is the same in two memories.
+pub fn same_network(names: [&str; 2], a: &Lent, b: &Lent) -> Result<(), String> {
+    same(names, "state word", &a.state, &b.state)?;
+    same(names, "table byte", &a.tables, &b.tables)
+}
+
+/// The parts of each memory that a call may write, rising.
+struct Parts {
+    state: [Range<usize>; 2],
+    tables: Range<usize>,
+    out: Range<usize>,
+    counts: Range<usize>,
+}
+
+const NOTHING: Parts = Parts {
+    state: [0..0, 0..0],
+    tables: 0..0,
+    out: 0..0,
+    counts: 0..0,
+};
+
+fn may_write(call: &Call, answer: u64) -> Parts {
     match call {
-        _ if answer & 0xff != 0 => (0, 0, 0, 0),
+        _ if answer & 0xff != 0 => NOTHING,
         Call::Found { .. } | Call::Read { .. } | Call::Begin { .. } | Call::Deliver { .. } => {
-            (STATE_WORDS, TABLE_BYTES, 0, 0)
+            Parts {
+                state: [0..0, 0..STATE_WORDS],
+                tables: 0..TABLE_BYTES,
+                ..NOTHING
+            }
         }
-        Call::Lookup { .. } | Call::Verdict | Call::Sound => (0, 0, 0, 0),
-        Call::Write => (0, 0, (answer >> 8) as usize, 0),
-        Call::Survey => (0, 0, 0, LOST + 1),
+        Call::Withdraw { node } => of_node(*node),
+        Call::Lookup { .. } | Call::Verdict | Call::Sound => NOTHING,
+        Call::Write => Parts {
+            out: 0..(answer >> 8) as usize,
+            ..NOTHING
+        },
+        Call::Survey => Parts {
+            counts: 0..LOST + 1,
+            ..NOTHING
+        },
+    }
+}
+
+/// The number of nodes, and a node's record and table; nothing for a number that no node can have.
+fn of_node(node: u64) -> Parts {
+    let numbers = 1..=MOST_NODES as u64;
+    if !numbers.contains(&node) {
+        return NOTHING;
+    }
+    let node = node as usize;
+    Parts {
+        state: [COUNT..COUNT + 1, 8 * node..8 * node + 8],
+        tables: 512 * (node - 1)..512 * node,
+        ..NOTHING
     }
 }
 
@@ -128,27 +181,33 @@ fn left_alone(line: &Line, answer: u64, before: &Lent, after: &Lent) -> Result<(
     if refused && !may_be_refused(call, answer) {
         return Err(format!("a refusal with other fields: {answer:#x}"));
     }
-    let (words, bytes, out, counts) = may_write(call, answer);
-    let names = || "before and after".to_string();
-    same(
-        names,
-        "state word",
-        &before.state[words..],
-        &after.state[words..],
-    )?;
-    same(
-        names,
-        "table byte",
-        &before.tables[bytes..],
-        &after.tables[bytes..],
-    )?;
-    same(names, "output byte", &before.out[out..], &after.out[out..])?;
-    same(
-        names,
-        "count",
-        &before.counts[counts..],
-        &after.counts[counts..],
-    )
+    let Parts {
+        state,
+        tables,
+        out,
+        counts,
+    } = may_write(call, answer);
+    same_outside(&state, "state word", &before.state, &after.state)?;
+    same_outside(&[tables], "table byte", &before.tables, &after.tables)?;
+    same_outside(&[out], "output byte", &before.out, &after.out)?;
+    same_outside(&[counts], "count", &before.counts, &after.counts)
+}
+
+/// The same before and after but in these parts, which rise.
+fn same_outside<T: PartialEq + Display>(
+    parts: &[Range<usize>],
+    what: &str,
+    before: &[T],
+    after: &[T],
+) -> Result<(), String> {
+    let end = before.len()..before.len();
+    let mut from = 0;
+    for part in parts.iter().chain([&end]) {
+        let (old, new) = (&before[from..part.start], &after[from..part.start]);
+        same(["before", "after"], what, old, new).map_err(|what| format!("from {from}, {what}"))?;
+        from = part.end;
+    }
+    Ok(())
 }
 
 /// A refusal has no other field, but that of a record has its place in the image; 18 may have none.
@@ -167,7 +226,7 @@ fn record_count(image: &[u8]) -> u64 {
 }
 
 fn same<T: PartialEq + Display>(
-    names: impl Fn() -> String,
+    names: [&str; 2],
     what: &str,
     a: &[T],
     b: &[T],
@@ -179,9 +238,8 @@ fn same<T: PartialEq + Display>(
     let (place, (one, other)) = pairs
         .find(|(_, (one, other))| one != other)
         .expect("of one length");
-    let length = a.len();
+    let ([first, second], length) = (names, a.len());
     Err(format!(
-        "{}: {what} {place} of {length} is {one} and {other}",
-        names()
+        "{first} and {second}: {what} {place} of {length} is {one} and {other}"
     ))
 }

@@ -2,7 +2,7 @@
 
 use crate::second::{self, Answer, Counts};
 
-/// The nine calls. Memory is lent for writing even where a call must not write, so that a trial sees it if one does.
+/// The ten calls. Memory is lent for writing even where a call must not write, so that a trial sees it if one does.
 pub trait Engine {
     fn name(&self) -> &str;
 
@@ -13,6 +13,8 @@ pub trait Engine {
     fn read(&self, state: &mut [u64], tables: &mut [u8], image: &[u8]) -> u64;
 
     fn begin(&self, state: &mut [u64], tables: &mut [u8], id: u32, gateway: u64) -> u64;
+
+    fn withdraw(&self, state: &mut [u64], tables: &mut [u8], node: u64) -> u64;
 
     fn deliver(&self, state: &mut [u64], tables: &mut [u8], sender: u64, receiver: u64) -> u64;
 
@@ -56,6 +58,10 @@ impl Engine for Second {
 
     fn begin(&self, state: &mut [u64], tables: &mut [u8], id: u32, gateway: u64) -> u64 {
         second::begin(state, tables, id, gateway).pack()
+    }
+
+    fn withdraw(&self, state: &mut [u64], tables: &mut [u8], node: u64) -> u64 {
+        second::withdraw(state, tables, node).pack()
     }
 
     fn deliver(&self, state: &mut [u64], tables: &mut [u8], sender: u64, receiver: u64) -> u64 {

@@ -182,6 +182,12 @@ impl Engine for FencedArchive {
         })
     }
 
+    fn withdraw(&self, state: &mut [u64], tables: &mut [u8], node: u64) -> u64 {
+        self.changing(state, tables, &|words, n, bytes, m| unsafe {
+            interface::overlay_withdraw(words, n, bytes, m, node)
+        })
+    }
+
     fn deliver(&self, state: &mut [u64], tables: &mut [u8], sender: u64, receiver: u64) -> u64 {
         self.changing(state, tables, &|words, n, bytes, m| unsafe {
             interface::overlay_deliver(words, n, bytes, m, sender, receiver)

@@ -13,6 +13,13 @@ pub const ALL: Lend = Lend {
     out: LONGEST_IMAGE + 128,
 };
 
+/// Just what a call uses of state and tables.
+pub const EXACT: Lend = Lend {
+    state: STATE_WORDS,
+    tables: TABLE_BYTES,
+    ..ALL
+};
+
 #[derive(Debug, PartialEq, Eq)]
 pub struct Lent {
     pub state: Vec<u64>,
@@ -62,6 +69,7 @@ impl Lent {
             Call::Found { settings, id } => engine.found(state, tables, *settings, *id),
             Call::Read { image } => engine.read(state, tables, image),
             Call::Begin { id, gateway } => engine.begin(state, tables, *id, *gateway),
+            Call::Withdraw { node } => engine.withdraw(state, tables, *node),
             Call::Deliver { sender, receiver } => engine.deliver(state, tables, *sender, *receiver),
             Call::Lookup { from, to } => engine.lookup(state, tables, *from, *to),
             Call::Verdict => engine.verdict(state, tables),

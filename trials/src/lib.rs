@@ -8,6 +8,7 @@
 //! - `lent`: the memory that a caller lends, with guard space around what is lent.
 //! - `compare`: runs one script on two engines and finds the first difference.
 //! - `surveys`: what holds of every survey.
+//! - `withdrawals`: what holds of every withdrawal, and trials of it.
 //! - `panel`: what holds of each node's two counts.
 //! - `paper`: the images of document 01.
 //! - `by_hand`: other images, some with the counts of their survey.
@@ -29,3 +30,4 @@ pub mod records;
 pub mod script;
 pub mod second;
 pub mod surveys;
+pub mod withdrawals;

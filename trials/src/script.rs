@@ -4,6 +4,7 @@
 //! found 2 2 1 0            base, digits, depth; id in hexadecimal
 //! read 0401020201..        an image in hexadecimal, nothing for an empty one
 //! begin 1 1                id in hexadecimal; gateway
+//! withdraw 2               node
 //! deliver 2 1              sender, receiver
 //! lookup 1 2               from, to
 //! verdict
@@ -24,6 +25,7 @@ pub enum Call {
     Found { settings: [u64; 3], id: u32 },
     Read { image: Vec<u8> },
     Begin { id: u32, gateway: u64 },
+    Withdraw { node: u64 },
     Deliver { sender: u64, receiver: u64 },
     Lookup { from: u64, to: u64 },
     Verdict,
@@ -71,6 +73,7 @@ impl Display for Call {
                 image.iter().try_for_each(|byte| write!(out, "{byte:02x}"))
             }
             Call::Begin { id, gateway } => write!(out, "begin {id:x} {gateway}"),
+            Call::Withdraw { node } => write!(out, "withdraw {node}"),
             Call::Deliver { sender, receiver } => write!(out, "deliver {sender} {receiver}"),
             Call::Lookup { from, to } => write!(out, "lookup {from} {to}"),
             Call::Verdict => out.write_str("verdict"),
@@ -135,6 +138,9 @@ fn parse_line(words: &[&str]) -> Result<Option<Line>, ParseIntError> {
         ["begin", number, gateway] => Call::Begin {
             id: id(number)?,
             gateway: gateway.parse()?,
+        },
+        ["withdraw", node] => Call::Withdraw {
+            node: node.parse()?,
         },
         ["deliver", sender, receiver] => Call::Deliver {
             sender: sender.parse()?,

@@ -24,5 +24,7 @@ mod runs;
 mod support;
 #[path = "archive/survey.rs"]
 mod survey;
+#[path = "archive/withdrawing.rs"]
+mod withdrawing;
 #[path = "archive/writing.rs"]
 mod writing;

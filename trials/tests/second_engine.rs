@@ -30,7 +30,11 @@ mod spoiled;
 mod support;
 #[path = "second_engine/survey.rs"]
 mod survey;
+#[path = "second_engine/withdrawing.rs"]
+mod withdrawing;
 #[path = "second_engine/wrong_counts.rs"]
 mod wrong_counts;
 #[path = "second_engine/wrong_turns.rs"]
 mod wrong_turns;
+#[path = "second_engine/wrong_withdrawals.rs"]
+mod wrong_withdrawals;

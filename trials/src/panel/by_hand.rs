@@ -19,7 +19,7 @@ pub struct Step {
 }
 
 /// Each line is followed by the nodes' requests and notices, node 1's first.
-const JOINS: [(&str, &str); 6] = [
+const JOINS: [(&str, &str); 7] = [
     // The smallest join of document 01, which makes E1, and calls that count nothing.
     (
         "E1",
@@ -99,6 +99,28 @@ const JOINS: [(&str, &str); 6] = [
          deliver 2 1    | 0/0 2/0 2/0
          deliver 3 1    | 0/0 2/0 3/0
          deliver 3 2    | 0/0 2/0 3/0",
+    ),
+    // As before, but node 3 is then withdrawn, and its number given to another id, and to its own again: it has its counts from its last beginning.
+    (
+        "withdrawn",
+        "found 2 2 1 00 | 0/0
+         begin 01 1     | 0/0 1/0
+         begin 11 1     | 0/0 1/0 1/0
+         deliver 2 1    | 0/0 2/0 1/0
+         deliver 3 1    | 0/0 2/0 2/0
+         withdraw 2     | 0/0 2/0 2/0
+         deliver 2 1    | 0/0 2/0 2/0
+         deliver 3 1    | 0/0 2/0 3/0
+         withdraw 3     | 0/0 2/0
+         withdraw 2     | 0/0 2/0
+         begin 10 2     | 0/0 2/0 1/0
+         deliver 3 2    | 0/0 2/0 2/0
+         withdraw 3     | 0/0 2/0
+         begin 11 1     | 0/0 2/0 1/0
+         deliver 3 1    | 0/0 2/0 2/0
+         deliver 3 2    | 0/0 2/0 3/0
+         deliver 3 2    | 0/0 2/0 3/0
+         withdraw 3     | 0/0 2/0 3/0",
     ),
     // The image of the smallest join is read in its place: the nodes that it has start with nothing.
     (

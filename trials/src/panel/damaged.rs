@@ -40,7 +40,7 @@ pub const SETTINGS: [[u64; 3]; 8] = [
 
 /// One node of each kind that the joins by hand and a run in each of the settings meet.
 pub fn reached() -> Vec<Reached> {
-    let runs = SETTINGS.into_iter().zip(0..).map(|(settings, seed)| {
+    let runs = SETTINGS.into_iter().zip(20..).map(|(settings, seed)| {
         let [base, digits, depth] = settings;
         let settings = Settings::new(base, digits, depth).expect("in range");
         run_in(&mut Rng::new(seed), settings, 800).0

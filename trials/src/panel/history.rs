@@ -5,18 +5,31 @@ use crate::script::{Call, Line};
 use crate::second::memory::{State, MOST_NODES};
 use crate::second::network::Panel;
 
-/// The counts by the calls of a run and their answers; the memory is looked at only where a hand has changed it.
+/// The counts by the calls of a run and their answers, each number's from its latest beginning on; the memory is looked at only where a hand has
+/// changed it.
 #[derive(Clone, Debug, PartialEq, Eq, Hash)]
 pub struct History {
-    /// Node n's at n − 1.
+    /// Number n's at n − 1. A withdrawn number keeps its own until it is given again.
     panels: [Panel; MOST_NODES],
+    /// Which numbers are withdrawn and not given again; n's at n − 1.
+    withdrawn: [bool; MOST_NODES],
 }
 
 impl History {
     /// From a memory as it stands, before any call: each node starts with what it has there.
     pub fn from_here(state: &State) -> History {
-        let panels = panels(state);
-        History { panels }
+        History {
+            panels: panels(state),
+            withdrawn: [false; MOST_NODES],
+        }
+    }
+
+    /// Before any call of a run: nobody has sent anything.
+    fn new() -> History {
+        History {
+            panels: [Panel::default(); MOST_NODES],
+            withdrawn: [false; MOST_NODES],
+        }
     }
 
     /// Notes what a line did: a call by its answer, a change of a word by the memory after it.
@@ -28,12 +41,13 @@ impl History {
         }
     }
 
-    /// A founding or a reading starts a new run, in which nobody has sent anything. A beginning sends its new node's request, and a delivery that
-    /// was copied or sent on its sender's next one; one that was notified answers its sender's notice.
+    /// A founding or a reading starts a new run, in which nobody has sent anything. A beginning sends its new node's first request, and a delivery
+    /// that was copied or sent on its sender's next one; one that was notified answers its sender's notice. A withdrawal sends nothing.
     fn taken(&mut self, call: &Call, answered: u64) {
         match call {
-            Call::Found { .. } | Call::Read { .. } => self.panels.fill(Panel::default()),
-            Call::Begin { .. } => self.add(answered, 1, 0),
+            Call::Found { .. } | Call::Read { .. } => *self = History::new(),
+            Call::Begin { .. } => self.begin(answered),
+            Call::Withdraw { node } => self.withdraw(*node),
             Call::Deliver { sender, .. } => match answered & 0xff {
                 1 | 2 => self.add(*sender, 1, 0),
                 4 => self.add(*sender, 0, 1),
@@ -43,15 +57,30 @@ impl History {
         }
     }
 
-    fn add(&mut self, node: u64, requests: u64, notices: u64) {
-        // An engine that answers or takes a number that no node can have is caught elsewhere.
-        if let Some(panel) = self.panels.get_mut((node as usize).wrapping_sub(1)) {
-            panel.requests += requests;
-            panel.notices += notices;
+    fn begin(&mut self, node: u64) {
+        if let Some(place) = place(node) {
+            self.panels[place] = Panel {
+                requests: 1,
+                notices: 0,
+            };
+            self.withdrawn[place] = false;
         }
     }
 
-    /// How many copy and wait requests each number has sent; number n at n − 1.
+    fn withdraw(&mut self, node: u64) {
+        if let Some(place) = place(node) {
+            self.withdrawn[place] = true;
+        }
+    }
+
+    fn add(&mut self, node: u64, requests: u64, notices: u64) {
+        if let Some(place) = place(node) {
+            self.panels[place].requests += requests;
+            self.panels[place].notices += notices;
+        }
+    }
+
+    /// How many copy and wait requests each number has sent since its latest beginning, withdrawn or not; number n at n − 1.
     pub fn requests(&self) -> impl Iterator<Item = u64> + '_ {
         self.panels.iter().map(|panel| panel.requests)
     }
@@ -59,12 +88,24 @@ impl History {
     /// The state has these counts, and none for a number that no node has.
     pub fn stands_in(&self, state: &State) -> Result<(), String> {
         let found = panels(state);
-        let pairs = self.panels.iter().zip(&found);
-        match (1..).zip(pairs).find(|(_, (told, found))| told != found) {
+        let told = |place: usize| match self.withdrawn[place] {
+            true => Panel::default(),
+            false => self.panels[place],
+        };
+        match (0..MOST_NODES).find(|&place| told(place) != found[place]) {
             None => Ok(()),
-            Some((node, (told, found))) => Err(format!(
-                "by the history node {node} has {told:?}, by the state {found:?}"
+            Some(place) => Err(format!(
+                "by the history node {} has {:?}, by the state {:?}",
+                place + 1,
+                told(place),
+                found[place]
             )),
         }
     }
+}
+
+/// Where a number's counts are. An engine that answers or takes a number that no node can have is caught elsewhere.
+fn place(node: u64) -> Option<usize> {
+    let place = (node as usize).wrapping_sub(1);
+    (place < MOST_NODES).then_some(place)
 }

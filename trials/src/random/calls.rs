@@ -4,8 +4,8 @@ use super::{bad_number, fresh_id, Rng};
 use crate::script::Call;
 use crate::second::network::Network;
 
-/// Arguments mostly good, now and then a bad number.
-pub fn judging_calls(rng: &mut Rng, network: &Network) -> [Call; 7] {
+/// Arguments mostly good, now and then a bad number. The withdrawal is often of the node that the beginning before it has made.
+pub fn judging_calls(rng: &mut Rng, network: &Network) -> [Call; 8] {
     let count = network.count();
     let node = |rng: &mut Rng| match rng.below(8) {
         0 => bad_number(rng, count),
@@ -19,6 +19,8 @@ pub fn judging_calls(rng: &mut Rng, network: &Network) -> [Call; 7] {
             (sender as u64, receiver as u64)
         }
     };
+    let highest = count as u64;
+    let withdrawn = [highest, highest, highest + 1, highest + 1, node(rng)];
     [
         Call::Sound,
         Call::Survey,
@@ -32,6 +34,9 @@ pub fn judging_calls(rng: &mut Rng, network: &Network) -> [Call; 7] {
         Call::Begin {
             id: fresh_id(rng, network).unwrap_or(0),
             gateway: node(rng),
+        },
+        Call::Withdraw {
+            node: rng.pick(&withdrawn),
         },
     ]
 }

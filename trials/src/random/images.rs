@@ -19,7 +19,8 @@ pub fn image(rng: &mut Rng) -> Vec<u8> {
         }
         let (sender, receiver) = rng.pick(&outstanding);
         let (sender, receiver) = (sender as u64, receiver as u64);
-        memory.call(&Second, &Call::Deliver { sender, receiver });
+        let answer = memory.call(&Second, &Call::Deliver { sender, receiver });
+        assert_ne!(answer, 2, "a run leaves a sound state");
     }
     let length = (memory.call(&Second, &Call::Write) >> 8) as usize;
     memory.out[..length].to_vec()

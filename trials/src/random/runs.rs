@@ -103,6 +103,7 @@ impl<'a> Maker<'a> {
             5..=8 => self.lookup(),
             9 => self.look(Call::Sound),
             10 => self.look(Call::Survey),
+            11 | 12 => self.withdraw(),
             _ => self.deliver(),
         }
     }
@@ -121,6 +122,22 @@ impl<'a> Maker<'a> {
             self.call(Call::Begin { id, gateway });
         } else {
             self.deliver();
+        }
+    }
+
+    /// Withdraws the newest join, and at times those before it too, as long as they copy or wait.
+    fn withdraw(&mut self) {
+        let network = self.network();
+        let newest_first = (1..=network.count()).rev();
+        let joining = newest_first.take_while(|&number| network.node(number).joining());
+        let joining: Vec<usize> = joining.collect();
+        if joining.is_empty() {
+            return self.deliver();
+        }
+        let most = self.rng.pick(&[1, 1, 1, 2, 3, 64]);
+        for number in joining.into_iter().take(most) {
+            let node = number as u64;
+            self.call(Call::Withdraw { node });
         }
     }
 
@@ -158,13 +175,14 @@ impl<'a> Maker<'a> {
     }
 
     fn bad_call(&mut self) {
-        match self.rng.below(12) {
+        match self.rng.below(14) {
             0 => self.bad_founding(),
             1 => self.bad_reading(),
             2..=4 => self.bad_beginning(),
             5..=7 => self.bad_delivery(),
             8 => self.bad_lookup(),
             9 => self.short_output(),
+            10 | 11 => self.bad_withdrawal(),
             _ => self.short_memory(),
         }
     }
@@ -207,6 +225,16 @@ impl<'a> Maker<'a> {
         let pairs = [(any, bad), (bad, any), (bad, bad), (any, any), (any, other)];
         let (sender, receiver) = self.rng.pick(&pairs);
         self.call(Call::Deliver { sender, receiver });
+    }
+
+    fn bad_withdrawal(&mut self) {
+        let network = self.network();
+        let (any, bad) = (self.any(), bad_number(self.rng, network.count()));
+        let attached = network.iter().filter(|(_, node)| !node.joining());
+        let attached: Vec<usize> = attached.map(|(number, _)| number).collect();
+        let newest_attached = attached[attached.len() - 1] as u64;
+        let node = self.rng.pick(&[any, bad, newest_attached]);
+        self.call(Call::Withdraw { node });
     }
 
     fn bad_lookup(&mut self) {

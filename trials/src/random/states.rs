@@ -67,7 +67,7 @@ pub fn set_up_built(rng: &mut Rng) -> Vec<Line> {
 fn built_network(rng: &mut Rng) -> Network {
     let settings = settings(rng);
     let mut network = Network::settled(settings, &[id(rng, settings)]);
-    let count = rng.pick(&[1, 2, 3, 5, 10, 64]);
+    let count = rng.pick(&[1, 2, 3, 5, 10, 63, 64]);
     while network.count() < count {
         let Some(id) = fresh_id(rng, &network) else {
             break;

@@ -43,6 +43,12 @@ pub struct BeginAnswer {
     pub node: u64,
 }
 
+/// Withdrawing a join.
+#[derive(Clone, Copy, Debug, Default, PartialEq, Eq)]
+pub struct WithdrawAnswer {
+    pub refusal: u8,
+}
+
 /// A delivery: 1 copied, 2 sent on, 3 attached with its level, 4 notified; and whether the sender settled.
 #[derive(Clone, Copy, Debug, Default, PartialEq, Eq)]
 pub struct DeliverAnswer {
@@ -125,6 +131,18 @@ impl Answer for BeginAnswer {
 
     fn pack(&self) -> u64 {
         packed(self.refusal, &[self.node])
+    }
+}
+
+impl Answer for WithdrawAnswer {
+    fn refused(refusal: Refusal) -> WithdrawAnswer {
+        WithdrawAnswer {
+            refusal: refusal as u8,
+        }
+    }
+
+    fn pack(&self) -> u64 {
+        packed(self.refusal, &[])
     }
 }
 

@@ -19,11 +19,12 @@ mod settings;
 mod soundness;
 mod survey;
 pub mod table;
+mod withdrawing;
 mod writing;
 
 pub use answers::{
     Answer, BeginAnswer, Counts, DeliverAnswer, FoundAnswer, LookupAnswer, ReadAnswer,
-    SurveyAnswer, VerdictAnswer, WriteAnswer, LOST,
+    SurveyAnswer, VerdictAnswer, WithdrawAnswer, WriteAnswer, LOST,
 };
 pub use beginning::begin;
 pub use consistency::verdict;
@@ -36,4 +37,5 @@ pub use refusal::Refusal;
 pub use settings::{digit, Settings};
 pub use soundness::{lent_and_sound, sound};
 pub use survey::survey;
+pub use withdrawing::withdraw;
 pub use writing::{write, LONGEST_IMAGE};

@@ -180,6 +180,11 @@ impl Network {
         self.nodes.len()
     }
 
+    /// Removes the highest-numbered node.
+    pub fn remove_last(&mut self) {
+        self.nodes.pop();
+    }
+
     /// A number that a caller passed, if a node has it.
     pub fn number(&self, passed: u64) -> Result<usize, Refusal> {
         Refusal::NoSuchNode.when(passed == 0 || passed > self.count() as u64)?;

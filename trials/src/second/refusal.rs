@@ -20,11 +20,13 @@ pub enum Refusal {
     ShortOutput = 16,
     RecordNeighbor = 17,
     OwnEntry = 18,
+    NotHighest = 19,
+    HasAttached = 20,
 }
 
 impl Refusal {
     /// Every refusal, in the order of the numbers.
-    pub const ALL: [Refusal; 18] = [
+    pub const ALL: [Refusal; 20] = [
         Refusal::ShortMemory,
         Refusal::Unsound,
         Refusal::NotAnImage,
@@ -43,6 +45,8 @@ impl Refusal {
         Refusal::ShortOutput,
         Refusal::RecordNeighbor,
         Refusal::OwnEntry,
+        Refusal::NotHighest,
+        Refusal::HasAttached,
     ];
 
     /// How many numbers an answer may have: 0, and that of each refusal.

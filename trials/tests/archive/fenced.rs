@@ -6,7 +6,7 @@ use std::ffi::c_int;
 use trials::compare::{Difference, Pair};
 use trials::engine::Second;
 use trials::fenced::{Fenced, FencedArchive, Place};
-use trials::lent::ALL;
+use trials::lent::{ALL, EXACT};
 use trials::paper::E1;
 use trials::random::{cuts, image, image_damages, run, run_from_built, seeds, Rng};
 use trials::records::{by_hand, long, Judged};
@@ -14,12 +14,6 @@ use trials::script::{Call, Lend, Line, Script};
 use trials::second::memory::{STATE_WORDS, TABLE_BYTES};
 
 use crate::support::{full_image, lent_lengths};
-
-const EXACT: Lend = Lend {
-    state: STATE_WORDS,
-    tables: TABLE_BYTES,
-    ..ALL
-};
 
 /// Plays the script at each place beside the second engine; the answers, which are the same at each.
 fn agree(seed: u64, script: &Script) -> Vec<u64> {
@@ -59,7 +53,7 @@ fn runs_agree_on_exact_memory() {
 }
 
 /// One call of each kind.
-fn each_call() -> [Call; 9] {
+fn each_call() -> [Call; 10] {
     let image = E1.to_vec();
     let settings = [2, 2, 1];
     let (sender, receiver) = (2, 1);
@@ -67,6 +61,7 @@ fn each_call() -> [Call; 9] {
         Call::Found { settings, id: 1 },
         Call::Read { image },
         Call::Begin { id: 2, gateway: 1 },
+        Call::Withdraw { node: 2 },
         Call::Deliver { sender, receiver },
         Call::Lookup { from: 1, to: 2 },
         Call::Verdict,
@@ -92,7 +87,7 @@ fn around(fixed: usize) -> [usize; 6] {
 
 #[test]
 fn each_call_agrees_at_every_length() {
-    let mut taken = [0; 9];
+    let mut taken = [0; 10];
     for network in networks() {
         for state in around(STATE_WORDS) {
             for tables in around(TABLE_BYTES) {

@@ -1,6 +1,7 @@
-//! Every order of beginnings and deliveries in networks of up to four nodes, from each founder.
+//! Every order of beginnings and deliveries in networks of up to four nodes, from each founder; and every withdrawal there, which leads to a point that
+//! these reach as well.
 
-use std::collections::HashSet;
+use std::collections::{HashMap, HashSet};
 
 use trials::archive::Archive;
 use trials::compare::{Difference, Pair};
@@ -35,6 +36,9 @@ struct Walk {
     steps: Vec<Step>,
     open: Vec<(usize, Point)>,
     ends: usize,
+    /// Withdrawals, and where they led that was not reached by then: from which point.
+    withdrawals: usize,
+    withdrawn: HashMap<Point, usize>,
 }
 
 impl Walk {
@@ -52,6 +56,8 @@ impl Walk {
             steps: vec![],
             open: vec![],
             ends: 0,
+            withdrawals: 0,
+            withdrawn: HashMap::new(),
         };
         walk.pair.obey(&Line::Call(call.clone())).unwrap();
         walk.note(0, call);
@@ -65,12 +71,17 @@ impl Walk {
         answer.unwrap_or_else(|what| panic!("{}", self.report(place, format!("{call}: {what}"))))
     }
 
-    /// The memory now, if new, is a point to go on from.
-    fn note(&mut self, from: usize, call: Call) {
-        let point = Point {
+    /// The memory now.
+    fn point(&self) -> Point {
+        Point {
             words: *self.pair.memory().state.first_chunk().unwrap(),
             bytes: *self.pair.memory().tables.first_chunk().unwrap(),
-        };
+        }
+    }
+
+    /// The memory now, if new, is a point to go on from.
+    fn note(&mut self, from: usize, call: Call) {
+        let point = self.point();
         if self.seen.insert(point.clone()) {
             self.open.push((self.steps.len(), point));
             self.steps.push(Step { from, call });
@@ -88,6 +99,7 @@ impl Walk {
             let judged = self.judge(&network, [verdict, written & 0xff]);
             judged.unwrap_or_else(|what| panic!("{}", self.report(place, what)));
             self.begin_each(place, &point, &network);
+            self.withdraw(place, &point, &network);
             let outstanding = network.outstanding();
             let taken = outstanding
                 .iter()
@@ -101,6 +113,11 @@ impl Walk {
                     self.report(place, "every request is held".to_string())
                 );
             }
+        }
+        let elsewhere = |(point, _): &(&Point, &usize)| !self.seen.contains(point);
+        if let Some((_, &place)) = self.withdrawn.iter().find(elsewhere) {
+            let what = "a withdrawal leads elsewhere".to_string();
+            panic!("{}", self.report(place, what));
         }
         self.steps.len()
     }
@@ -153,6 +170,24 @@ impl Walk {
         }
     }
 
+    /// Withdraws the highest-numbered node if it copies or waits.
+    fn withdraw(&mut self, place: usize, point: &Point, network: &Network) {
+        let highest = network.count();
+        if !network.node(highest).joining() {
+            return;
+        }
+        let call = Call::Withdraw {
+            node: highest as u64,
+        };
+        let answer = self.call(place, point, &call);
+        assert_eq!(answer, 0, "{}", self.report(place, call.to_string()));
+        self.withdrawals += 1;
+        let point = self.point();
+        if !self.seen.contains(&point) {
+            self.withdrawn.insert(point, place);
+        }
+    }
+
     fn deliver(&mut self, place: usize, point: &Point, (sender, receiver): (usize, usize)) -> bool {
         let call = Call::Deliver {
             sender: sender as u64,
@@ -185,10 +220,10 @@ fn explore(settings: [u64; 3], ids: &[u32]) {
     for &founder in ids {
         let mut walk = Walk::new(settings, founder, ids);
         let points = walk.explore();
+        let (ends, withdrawals) = (walk.ends, walk.withdrawals);
         assert!(
-            points > 900 && walk.ends > 60,
-            "{points} points, {} ends",
-            walk.ends
+            points > 900 && ends > 60 && withdrawals > 300,
+            "{points} points, {ends} ends, {withdrawals} withdrawals"
         );
     }
 }

@@ -178,6 +178,55 @@ fn panels_before_founding_and_while_nodes_join() {
     assert_eq!(printed(script), PANELS);
 }
 
+/// Node 4 is withdrawn from one gateway and begins by another; then it is withdrawn while it copies, and node 3 while it waits. At the end node 3
+/// notifies, and settles.
+const WITHDRAWALS: &str = "\
+refused 2: the state is not sound
+found: node 1
+refused 20: the node is settled or notifying
+begin: node 2
+deliver: copied
+deliver: attached at level 2, settled
+begin: node 3
+deliver: copied
+begin: node 4
+withdraw: node 4
+begin: node 4
+refused 9: a node number is 0 or above the number of nodes
+refused 9: a node number is 0 or above the number of nodes
+refused 9: a node number is 0 or above the number of nodes
+refused 19: the node is not the highest-numbered one
+refused 19: the node is not the highest-numbered one
+line 17: not understood
+line 18: not understood
+line 19: not understood
+line 20: not understood
+line 21: not understood
+line 22: not understood
+withdraw: node 4
+withdraw: node 3
+node 1: id 000, settled, requests 0, notices 0
+node 2: id 100, settled, requests 2, notices 0
+refused 20: the node is settled or notifying
+begin: node 3
+node 1: id 000, settled, requests 0, notices 0
+node 2: id 100, settled, requests 2, notices 0
+node 3: id 010, copying, requests 1, notices 0
+deliver: copied
+deliver: attached at level 1
+refused 20: the node is settled or notifying
+refused 19: the node is not the highest-numbered one
+deliver: notified, settled
+refused 20: the node is settled or notifying
+sound: the state is sound
+";
+
+#[test]
+fn withdrawals_before_founding_and_while_nodes_join() {
+    let script = b"withdraw 1\nfound 2 3 1 0\nwithdraw 1\nbegin 100 1\ndeliver 2 1\ndeliver 2 1\nbegin 10 1\ndeliver 3 1\nbegin 110 2\n\twithdraw 4 # by the wrong gateway\nbegin 110 1\nwithdraw 0\nwithdraw 5\nwithdraw 18446744073709551615\nwithdraw 1\nwithdraw 3\nwithdraw\nwithdraw 4 4\nwithdraw 4a\nwithdraw -4\nwithdraw 18446744073709551616\nWithdraw 4\nwithdraw 004\nwithdraw 3\npanel\nwithdraw 2\nbegin 10 1\npanel\ndeliver 3 1\ndeliver 3 1\nwithdraw 3\nwithdraw 2\ndeliver 3 2\nwithdraw 3\nsound";
+    assert_eq!(printed(script), WITHDRAWALS);
+}
+
 #[test]
 fn surveys_before_founding_and_while_a_node_joins() {
     let script = b"survey\nfound 2 2 1 0\nsurvey\nbegin 1 1\nsurvey\ndeliver 2 1\nsurvey\nsurvey 1\ndeliver 2 1\nsurvey";
@@ -361,6 +410,7 @@ fn name(line: &Line) -> &'static str {
         Line::Command(command) => match command {
             Command::Found { .. } => "found",
             Command::Begin { .. } => "begin",
+            Command::Withdraw { .. } => "withdraw",
             Command::Deliver { .. } => "deliver",
             Command::Lookup { .. } => "lookup",
             Command::Verdict => "verdict",
@@ -396,6 +446,7 @@ fn the_script_of_the_docs_has_every_command_and_prints_what_stands_beside_it() {
         "survey",
         "table",
         "verdict",
+        "withdraw",
     ];
     assert_eq!(names, all);
     for byte in b"\t\r#" {

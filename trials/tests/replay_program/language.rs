@@ -4,6 +4,7 @@
 pub enum Command {
     Found { settings: [u64; 3], id: u32 },
     Begin { id: u32, gateway: u64 },
+    Withdraw { node: u64 },
     Deliver { sender: u64, receiver: u64 },
     Lookup { from: u64, to: u64 },
     Verdict,
@@ -50,6 +51,9 @@ fn command(words: &[&[u8]]) -> Option<Command> {
         [b"begin", name, gateway] => Command::Begin {
             id: id(name)?,
             gateway: number(gateway)?,
+        },
+        [b"withdraw", node] => Command::Withdraw {
+            node: number(node)?,
         },
         [b"deliver", sender, receiver] => Command::Deliver {
             sender: number(sender)?,

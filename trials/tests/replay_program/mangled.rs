@@ -16,9 +16,10 @@ const SPECIAL: [u8; 16] = [
 ];
 
 /// The commands, each with how many words stand behind it.
-const COMMANDS: [(&str, usize); 11] = [
+const COMMANDS: [(&str, usize); 12] = [
     ("found", 4),
     ("begin", 2),
+    ("withdraw", 1),
     ("deliver", 2),
     ("lookup", 2),
     ("verdict", 0),
@@ -34,7 +35,8 @@ const COMMANDS: [(&str, usize); 11] = [
 const SMALL: &str = "0 1 1 1 1 2 2 2 3 4 5 8 10 11 16 64 a saved0 image0";
 
 /// What may stand there too, and what mostly may not.
-const ODD: &str = "foun founds Found tabl surveys pane panels Panel write verdict sound panel 17 65 257 f FF g 0x1 -1 +1 1.0 1, . .. ffffffff 100000000 \
+const ODD: &str = "foun founds Found tabl surveys pane panels Panel withdra withdraws Withdraw withdrawal write verdict sound panel 17 65 257 f FF \
+    g 0x1 -1 +1 1.0 1, . .. ffffffff 100000000 \
     1ffffffff 9223372036854775808 18446744073709551615 18446744073709551616 18446744073709551617 \
     99999999999999999999 00000000000000000000000000000001 0000000000000000ffffffff";
 
@@ -64,8 +66,8 @@ fn tally(counts: &mut BTreeMap<String, usize>, printed: &str) {
 /// Without one of these the trial would be one of too little.
 fn all_kinds(counts: &BTreeMap<String, usize>) -> bool {
     let kinds = [
-        "found", "begin", "deliver", "lookup", "verdict", "survey", "sound", "save", "load",
-        "table", "node", "refused", "line",
+        "found", "begin", "withdraw", "deliver", "lookup", "verdict", "survey", "sound", "save",
+        "load", "table", "node", "refused", "line",
     ];
     kinds.iter().all(|&kind| counts.contains_key(kind))
 }

@@ -85,6 +85,10 @@ impl<'a> Player<'a> {
                 let answer = Second.begin(state, tables, *id, *gateway);
                 said(answer, |answer| format!("begin: node {}", field(answer, 1)))
             }
+            Command::Withdraw { node } => {
+                let answer = Second.withdraw(state, tables, *node);
+                said(answer, |_| format!("withdraw: node {node}"))
+            }
             Command::Deliver { sender, receiver } => {
                 said(Second.deliver(state, tables, *sender, *receiver), delivered)
             }

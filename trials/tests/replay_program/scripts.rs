@@ -57,6 +57,9 @@ fn grown_script(rng: &mut Rng, folder: &Folder) -> Made {
         if maker.rng.once_in(8) {
             maker.look();
         }
+        if maker.rng.once_in(16) {
+            maker.withdraw();
+        }
     }
     let patience = maker.rng.pick(&[200, 5_000]);
     while !maker.rng.once_in(patience) && maker.deliver() {}
@@ -123,6 +126,7 @@ impl Maker<'_> {
                 Command::Lookup { from, to },
                 Command::Deliver { sender, receiver },
                 Command::Begin { id: 0, gateway: 1 },
+                Command::Withdraw { node: one },
                 Command::Save { file },
             ];
             let command = commands[self.rng.below(commands.len())].clone();
@@ -143,6 +147,12 @@ impl Maker<'_> {
         self.player.count() > network.count()
     }
 
+    /// The newest node, which may have attached.
+    fn withdraw(&mut self) {
+        let node = self.player.count() as u64;
+        self.command(Command::Withdraw { node });
+    }
+
     /// Delivers an outstanding request, if there is one.
     fn deliver(&mut self) -> bool {
         let outstanding = self.player.network().outstanding();
@@ -159,6 +169,7 @@ impl Maker<'_> {
         let command = match call {
             Call::Found { settings, id } => Command::Found { settings, id },
             Call::Begin { id, gateway } => Command::Begin { id, gateway },
+            Call::Withdraw { node } => Command::Withdraw { node },
             Call::Deliver { sender, receiver } => Command::Deliver { sender, receiver },
             Call::Lookup { from, to } => Command::Lookup { from, to },
             Call::Verdict => Command::Verdict,
@@ -252,6 +263,7 @@ fn command_words(rng: &mut Rng, command: &Command) -> Vec<Vec<u8>> {
             let gateway = number(*gateway);
             vec!["begin".into(), hexadecimal(rng, *id), gateway]
         }
+        Command::Withdraw { node } => vec!["withdraw".into(), number(*node)],
         Command::Deliver { sender, receiver } => {
             vec!["deliver".into(), number(*sender), number(*receiver)]
         }
@@ -296,15 +308,23 @@ fn agree(made: Made, ours: &Folder, seed: u64, looks: &mut BTreeMap<String, usiz
 #[test]
 fn random_scripts_print_what_the_second_engine_answers() {
     let mut looks = BTreeMap::new();
-    let mut at_record = 0;
+    let mut printed = [
+        " at record ",
+        "withdraw: node ",
+        "refused 19: ",
+        "refused 20: ",
+    ]
+    .map(|words| (words, 0));
     for seed in seeds(0, 150) {
         let ours = Folder::new();
         let made = script(&mut Rng::new(seed), 200, &ours);
-        at_record += made.printed.matches(" at record ").count();
+        for (words, times) in &mut printed {
+            *times += made.printed.matches(*words).count();
+        }
         agree(made, &ours, seed, &mut looks);
     }
-    println!("{at_record} at a record, {looks:?}");
-    assert!(at_record > 0);
+    println!("{printed:?}, {looks:?}");
+    assert!(printed.iter().all(|&(_, times)| times > 0));
     let wanted = [
         "table refused 2",
         "table refused 9",
@@ -328,16 +348,17 @@ fn random_scripts_print_what_the_second_engine_answers() {
 #[test]
 fn networks_of_64_nodes_print_what_the_second_engine_answers() {
     let mut looks = BTreeMap::new();
-    let (mut full, mut kept) = (0, 0);
+    let (mut full, mut kept, mut withdrawn) = (0, 0, 0);
     for seed in seeds(1_000, 40) {
         let ours = Folder::new();
         let made = grown_script(&mut Rng::new(seed), &ours);
         full += made.printed.matches("refused 11: ").count();
         kept += made.printed.matches("save: ").count();
+        withdrawn += made.printed.matches("withdraw: ").count();
         agree(made, &ours, seed, &mut looks);
     }
-    println!("{full} full, {kept} kept, {looks:?}");
-    assert!(full > 0 && kept > 0);
+    println!("{full} full, {kept} kept, {withdrawn} withdrawn, {looks:?}");
+    assert!(full > 0 && kept > 0 && withdrawn > 0);
 }
 
 /// A look by what it was answered: its refusal, or the node's status, or the word that ends the line.

@@ -5,7 +5,7 @@ use trials::second::network::{Network, Node, Panel, Status};
 use trials::second::table::Table;
 use trials::second::{lent_and_sound, Counts, Refusal, LOST};
 
-const SENTENCES: [&str; 19] = [
+const SENTENCES: [&str; 21] = [
     "",
     "the lent memory is too short",
     "the state is not sound",
@@ -25,6 +25,8 @@ const SENTENCES: [&str; 19] = [
     "the memory for the image is too short",
     "the neighbour is not qualified, is in its entry already, or finds it full",
     "an own entry does not start with its owner",
+    "the node is not the highest-numbered one",
+    "the node is settled or notifying",
 ];
 
 /// Of 18 without a place.

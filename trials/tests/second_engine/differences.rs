@@ -3,14 +3,16 @@
 use trials::compare::compare;
 use trials::engine::{Engine, Second};
 use trials::script::Script;
+use trials::second::memory::COUNT;
 use trials::second::LOST;
 
-use crate::spoiled::{SpoilSurvey, Spoiled, UNSPOILED};
+use crate::spoiled::{SpoilSurvey, SpoilWithdrawal, Spoiled, UNSPOILED};
 
 const SCRIPT: &str = "found 2 2 1 0\nwrite\nlookup 1 1\nbegin 1 1\nbegin 1 1\nverdict\nsound\n\
                       read 04\nread 0401020201010000000002000100000101010001\nverdict\n\
                       begin 1 1\nsurvey\nlend 519 32768 0\nsurvey\nlend 520 32768 0\n\
-                      read 0401020201010000000002000101000101000001\nread 040102020101000000000000\n";
+                      read 0401020201010000000002000101000101000001\nread 040102020101000000000000\n\
+                      lend 536 32896 0\nwithdraw 3\nwithdraw 1\nwithdraw 2\nwithdraw 1\n";
 
 /// The line of the first difference between two engines.
 fn first_difference(a: &dyn Engine, b: &dyn Engine) -> Option<usize> {
@@ -167,6 +169,74 @@ fn two_engines_with_the_same_fault_in_a_survey_are_seen() {
     for (number, (survey, line)) in faults.into_iter().enumerate() {
         let fault = || Spoiled {
             survey,
+            ..UNSPOILED
+        };
+        let found = first_difference(&fault(), &fault());
+        assert_eq!(found, Some(line), "{number}");
+    }
+}
+
+/// Line 19 is refused 9, line 20 is refused 19, line 21 withdraws the second of two nodes, line 22 is refused 20.
+const WRONG_WITHDRAWALS: [(SpoilWithdrawal, usize); 13] = [
+    (|after| after.answer |= 0x100, 19),
+    (|after| after.state[519] ^= after.answer, 19),
+    (
+        |after| after.tables[32_767] ^= u8::from(after.answer == 19),
+        20,
+    ),
+    (
+        |after| after.answer |= 0x200 * u64::from(after.answer == 0),
+        21,
+    ),
+    (
+        |after| after.state[COUNT] += u64::from(after.answer == 0),
+        21,
+    ),
+    (|after| after.state[22] |= u64::from(after.answer == 0), 21),
+    (
+        |after| after.tables[1_023] |= u8::from(after.answer == 0),
+        21,
+    ),
+    (|after| after.state[8] ^= u64::from(after.answer == 0), 21),
+    (|after| after.state[24] ^= u64::from(after.answer == 0), 21),
+    (|after| after.tables[511] ^= u8::from(after.answer == 0), 21),
+    (
+        |after| after.tables[1_024] ^= u8::from(after.answer == 0),
+        21,
+    ),
+    (|after| after.state[520] ^= u64::from(after.answer == 0), 21),
+    (|after| after.state[9] ^= u64::from(after.answer == 20), 22),
+];
+
+#[test]
+fn every_difference_of_a_withdrawal_is_seen() {
+    let numbers: [(SpoilWithdrawal, usize); 4] = [
+        (
+            |after| after.answer += 10 * u64::from(after.answer == 9),
+            19,
+        ),
+        (|after| after.answer += u64::from(after.answer == 19), 20),
+        (
+            |after| after.answer += 20 * u64::from(after.answer == 0),
+            21,
+        ),
+        (|after| after.answer -= u64::from(after.answer == 20), 22),
+    ];
+    for (withdraw, line) in WRONG_WITHDRAWALS.into_iter().chain(numbers) {
+        let engine = Spoiled {
+            withdraw,
+            ..UNSPOILED
+        };
+        assert_eq!(first_difference(&engine, &Second), Some(line));
+        assert_eq!(first_difference(&Second, &engine), Some(line));
+    }
+}
+
+#[test]
+fn two_engines_with_the_same_fault_in_a_withdrawal_are_seen() {
+    for (number, (withdraw, line)) in WRONG_WITHDRAWALS.into_iter().enumerate() {
+        let fault = || Spoiled {
+            withdraw,
             ..UNSPOILED
         };
         let found = first_difference(&fault(), &fault());

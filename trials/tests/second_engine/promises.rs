@@ -1,5 +1,5 @@
-//! Demand 3 on the second engine's histories: how many requests a node sends, how long lookups are, that what a yes verdict
-//! found stays, that surveys add up, and that each node's counts are those of the history.
+//! Demand 3 on the second engine's histories: how many requests a node sends from its latest beginning on, how long lookups
+//! are, that what a yes verdict found stays, that surveys add up, and that each node's counts are those of the history.
 
 use trials::compare::{compare, Difference};
 use trials::engine::Second;
@@ -17,6 +17,9 @@ struct Watch {
     history: History,
     /// The very hops between every two nodes of the last point that passed the verdict.
     kept: Vec<Vec<usize>>,
+    /// Withdrawals after such a point, and numbers withdrawn and begun again.
+    withdrawn: usize,
+    begun_again: usize,
 }
 
 impl Watch {
@@ -24,6 +27,8 @@ impl Watch {
         Watch {
             history: History::from_here(memory.used_state()),
             kept: vec![],
+            withdrawn: 0,
+            begun_again: 0,
         }
     }
 
@@ -35,11 +40,20 @@ impl Watch {
         memory: &Lent,
         rng: &mut Rng,
     ) -> Result<(), String> {
+        let withdrawn = matches!(line, Line::Call(Call::Withdraw { .. })) && answer == 0;
+        if matches!(line, Line::Call(Call::Begin { .. })) && answer & 0xff == 0 {
+            let sent = self.history.requests().nth((answer >> 8) as usize - 1);
+            self.begun_again += usize::from(sent > Some(0));
+        }
         self.history.note(line, answer, memory.used_state());
         match line {
             Line::Call(Call::Found { .. } | Call::Read { .. }) if answer == 0 => self.kept.clear(),
             Line::Call(_) => {}
             _ => return Ok(()),
+        }
+        if withdrawn && !self.kept.is_empty() {
+            self.withdrawn += 1;
+            self.hops_are_kept(memory, &Network::decode(memory.used_state()))?;
         }
         self.point_keeps(memory, rng)
     }
@@ -69,7 +83,8 @@ impl Watch {
         Ok(())
     }
 
-    /// (a) how many copy and wait requests each node has sent, counted from the history: at most d + 1.
+    /// (a) how many copy and wait requests each number has sent since its latest beginning, counted from the history: at most d + 1, also where it is
+    /// withdrawn.
     fn few_requests(&self, network: &Network) -> Result<(), String> {
         let most = network.settings.digits() as u64 + 1;
         match (1..)
@@ -144,7 +159,7 @@ fn survey_fits(memory: &Lent, passes: bool) -> Result<(), String> {
 }
 
 /// A script whose every point keeps the promises.
-fn watch(seed: u64, script: &Script, rng: &mut Rng) {
+fn watch(seed: u64, script: &Script, rng: &mut Rng) -> Watch {
     let mut memory = Lent::noise();
     let mut watch = Watch::new(&memory);
     for (line, said) in script.lines.iter().enumerate() {
@@ -152,16 +167,23 @@ fn watch(seed: u64, script: &Script, rng: &mut Rng) {
         let kept = watch.after(said, answer, &memory, rng);
         kept.unwrap_or_else(|what| panic!("{}", Difference { line, what }.report(seed, script)));
     }
+    watch
 }
 
+/// There are many withdrawals where hops are kept, and many numbers are given again.
 #[test]
 fn runs_keep_their_promises() {
+    let (mut withdrawn, mut begun_again) = (0, 0);
     for seed in seeds(0, 250) {
         let mut rng = Rng::new(seed);
         let calls = rng.pick(&[50, 200, 1_000]);
         let (script, _) = run(&mut rng, calls);
-        watch(seed, &script, &mut rng);
+        let watched = watch(seed, &script, &mut rng);
+        withdrawn += watched.withdrawn;
+        begun_again += watched.begun_again;
     }
+    println!("{withdrawn} withdrawn, {begun_again} begun again");
+    assert!(withdrawn > 500 && begun_again > 500);
 }
 
 #[test]

@@ -112,6 +112,30 @@ fn beginning_judges_in_order() {
 }
 
 #[test]
+fn withdrawing_judges_in_order() {
+    let mut trial = two_joins();
+    let before = trial.memory.clone();
+    for node in [0, 5, 65, 4 + (1 << 8), 4 + (1 << 32), 1 << 63, u64::MAX] {
+        assert_eq!(trial.withdraw(node).refusal, 9, "{node}");
+    }
+    for node in [1, 2, 3] {
+        assert_eq!(trial.withdraw(node).refusal, 19, "{node}");
+    }
+    assert_eq!(trial.memory, before);
+    assert_eq!(trial.withdraw(4).refusal, 0);
+    assert_eq!(trial.withdraw(4).refusal, 9);
+    assert_eq!(trial.withdraw(3).refusal, 0);
+    let before = trial.memory.clone();
+    assert_eq!(trial.withdraw(1).refusal, 19);
+    assert_eq!(trial.withdraw(2).refusal, 20);
+    assert_eq!(trial.memory, before);
+    let mut trial = full();
+    assert_eq!(trial.withdraw(63).refusal, 19);
+    assert_eq!(trial.withdraw(64).refusal, 20);
+    assert_eq!(trial.withdraw(65).refusal, 9);
+}
+
+#[test]
 fn delivering_judges_in_order() {
     let mut trial = two_joins();
     for (sender, receiver) in [(0, 1), (1, 0), (5, 1), (1, 5), (3 + (1 << 8), 1)] {
@@ -186,6 +210,7 @@ fn memory_too_short_comes_first_and_unsound_next() {
     ] {
         let (state, tables) = (&mut state[..words], &mut tables[..bytes]);
         assert_eq!(second::begin(state, tables, 0, 0).refusal, refusal);
+        assert_eq!(second::withdraw(state, tables, 0).refusal, refusal);
         assert_eq!(second::deliver(state, tables, 0, 0).refusal, refusal);
         assert_eq!(second::lookup(state, tables, 0, 0).refusal, refusal);
         assert_eq!(second::survey(state, tables).refusal, refusal);

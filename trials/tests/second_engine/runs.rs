@@ -7,6 +7,7 @@ use trials::engine::Second;
 use trials::lent::Lent;
 use trials::random::{damage, run, seeds, Rng};
 use trials::script::{Call, Line};
+use trials::second::memory::COUNT;
 use trials::second::network::Network;
 
 #[test]
@@ -27,6 +28,8 @@ fn calls_on_damaged_states_leave_alone_what_they_must() {
         script.lines.push(damage(&mut rng, &memory));
         script.call(Call::Sound);
         script.call(Call::Survey);
+        let node = memory.state[COUNT];
+        script.call(Call::Withdraw { node });
         let (other, _) = run(&mut rng, 20);
         script.lines.extend_from_slice(&other.lines[1..]);
         if let Err(difference) = compare(&Second, &Second, &script) {
@@ -45,10 +48,11 @@ fn name(line: &Line) -> String {
 }
 
 /// What the calls of runs are refused by, 0 for a taken one.
-const MET: [(&str, &[u64]); 8] = [
+const MET: [(&str, &[u64]); 9] = [
     ("found", &[0, 1, 5, 7]),
     ("read", &[0, 1, 3, 4, 5, 6, 7, 8, 9, 10, 17, 18]),
     ("begin", &[0, 1, 7, 8, 9, 11, 12]),
+    ("withdraw", &[0, 1, 9, 19, 20]),
     ("deliver", &[0, 1, 9, 13, 14]),
     ("lookup", &[0, 1, 9]),
     ("verdict", &[0, 1, 15]),

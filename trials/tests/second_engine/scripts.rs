@@ -14,10 +14,10 @@ fn printed_scripts_are_parsed_back() {
 #[test]
 fn every_line_has_its_text() {
     let text =
-        "found 2 2 1 a0\nbegin ff 18446744073709551615\ndeliver 2 1\nlookup 1 2\nverdict\nwrite\n\
+        "found 2 2 1 a0\nbegin ff 18446744073709551615\nwithdraw 18446744073709551615\ndeliver 2 1\nlookup 1 2\nverdict\nwrite\n\
                 read 0401ff\nsound\nsurvey\nlend 520 32768 40\nword 12 ffffffffffffffff\nbyte 300 7\n";
     let script: Script = text.parse().unwrap();
-    assert_eq!(script.lines.len(), 12);
+    assert_eq!(script.lines.len(), 13);
     assert_eq!(script.to_string(), text);
 }
 
@@ -30,6 +30,10 @@ fn other_lines_are_errors() {
         "read 0g",
         "begin 1 -1",
         "begin 1 1 1",
+        "withdraw",
+        "withdraw 1 1",
+        "withdraw -1",
+        "withdraw a",
         "byte 3 100",
         "survey 1",
     ] {

@@ -4,13 +4,14 @@ use trials::engine::{Engine, Second};
 use trials::second::memory::{record, record_mut, Record, State, COUNT, MOST_NODES};
 use trials::second::Counts;
 
-/// The second engine, but spoiled in what it judges sound, or in what a founding, a reading, a beginning, a delivery, a lookup, a verdict, a writing or
-/// a survey does.
+/// The second engine, but spoiled in what it judges sound, or in what a founding, a reading, a beginning, a withdrawal, a delivery, a lookup, a verdict,
+/// a writing or a survey does.
 pub struct Spoiled {
     pub judge: SpoilJudge,
     pub found: fn(&mut [u64]),
     pub read: fn(&mut [u64], &mut [u8], u64) -> u64,
     pub begin: fn(&mut [u64], &mut [u8], u64) -> u64,
+    pub withdraw: SpoilWithdrawal,
     pub deliver: SpoilDelivery,
     pub lookup: fn(&mut [u64], &mut [u8]),
     pub verdict: fn(u64) -> u64,
@@ -20,6 +21,17 @@ pub struct Spoiled {
 
 /// What is judged in place of a node's record.
 pub type SpoilJudge = fn(&State, usize, &mut Record);
+
+pub type SpoilWithdrawal = fn(&mut AfterWithdrawal);
+
+/// Its memory before and after it, the number that was passed, and its answer.
+pub struct AfterWithdrawal<'a> {
+    pub before: (Vec<u64>, Vec<u8>),
+    pub state: &'a mut [u64],
+    pub tables: &'a mut [u8],
+    pub node: u64,
+    pub answer: u64,
+}
 
 pub type SpoilDelivery = fn(AfterDelivery);
 
@@ -48,6 +60,7 @@ pub const UNSPOILED: Spoiled = Spoiled {
     found: |_| {},
     read: |_, _, answer| answer,
     begin: |_, _, answer| answer,
+    withdraw: |_| {},
     deliver: |_| {},
     lookup: |_, _| {},
     verdict: |answer| answer,
@@ -92,6 +105,20 @@ impl Engine for Spoiled {
     fn begin(&self, state: &mut [u64], tables: &mut [u8], id: u32, gateway: u64) -> u64 {
         let answer = Second.begin(state, tables, id, gateway);
         (self.begin)(state, tables, answer)
+    }
+
+    fn withdraw(&self, state: &mut [u64], tables: &mut [u8], node: u64) -> u64 {
+        let before = (state.to_vec(), tables.to_vec());
+        let answer = Second.withdraw(state, tables, node);
+        let mut after = AfterWithdrawal {
+            before,
+            state,
+            tables,
+            node,
+            answer,
+        };
+        (self.withdraw)(&mut after);
+        after.answer
     }
 
     fn deliver(&self, state: &mut [u64], tables: &mut [u8], sender: u64, receiver: u64) -> u64 {

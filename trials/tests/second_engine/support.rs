@@ -4,7 +4,7 @@ use trials::lent::Lent;
 use trials::second::network::Network;
 use trials::second::{
     self, BeginAnswer, DeliverAnswer, FoundAnswer, LookupAnswer, ReadAnswer, SurveyAnswer,
-    VerdictAnswer, WriteAnswer,
+    VerdictAnswer, WithdrawAnswer, WriteAnswer,
 };
 
 pub struct Trial {
@@ -44,6 +44,11 @@ impl Trial {
     pub fn begin(&mut self, id: u32, gateway: u64) -> BeginAnswer {
         let Lent { state, tables, .. } = &mut self.memory;
         second::begin(state, tables, id, gateway)
+    }
+
+    pub fn withdraw(&mut self, node: u64) -> WithdrawAnswer {
+        let Lent { state, tables, .. } = &mut self.memory;
+        second::withdraw(state, tables, node)
     }
 
     pub fn deliver(&mut self, sender: u64, receiver: u64) -> DeliverAnswer {
