@@ -51,7 +51,8 @@ module _ (s t : List ℕ) (S : Sound s t) (x y : ℕ) (c : CanDeliver s x y) whe
         (delivered-id s t S x y c) l
         (own-later s s₁ l x (learnTable s x (tableOf t y) (tableOf t x)) (c .sender) (on x (c .sender))
         (learned-table s t S s (later-refl s) refl x (c .sender) y (to-receiver s t S x y c .attached) (tableOf t y) (own s t S y (c .receiver))))
-        (own-later s s₁ l y (tableOf t y) (c .receiver) (on y (c .receiver)) (own s t S y (c .receiver))) (subst (RecordOk s x) (sym (w .sender)) (rules (w .how)))
+        (own-later s s₁ l y (tableOf t y) (c .receiver) (on y (c .receiver)) (own s t S y (c .receiver)))
+        (subst (RecordOk s x) (sym (w .sender)) (rules (w .how)))
         (subst (CountsOk s x) (sym (w .sender)) (asking-counts s t S x y c w)))
 
   pub delivered-ok : Sound (delivered s t x y (delivery s t x y) .state) (delivered s t x y (delivery s t x y) .tables)

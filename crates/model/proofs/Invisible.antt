@@ -2,19 +2,18 @@
 use Prim.Native.Nat.{ℕ, _+_, _*_, _≤_, _<_}
 use mathlib.Core.Path.{_≡_, sym, ap, ap₂, subst, _∙_}
 use mathlib.Core.Logic.{_≢_, inl, inr, ⊎-elim}
-use mathlib.Core.Bool.{true, false, _&&_, _||_}
+use mathlib.Core.Bool.{true, false, _&&_}
 use mathlib.Core.List.{List}
 use native.Mathlib.Omega.{arith}
-use lib.Dec.{eqb}
 use lib.ListN.{length, getD}
-use Rattle.model.specs.Memory.{nodeCount, nodeOf, inSystem, notifying, isInSystem, isAttached, withNode, tableStart, tableOf, withTable}
+use Rattle.model.specs.Memory.{nodeCount, nodeOf, isInSystem, isAttached, withNode, tableStart, tableOf, withTable}
 use Rattle.model.specs.Nodes.{isNode}
 use Rattle.model.specs.Join.{Delivery, delivery, delivered}
 use Rattle.model.specs.Refusals.{areNodes, deliverRefusal}
 use Rattle.model.proofs.Bools.{same-test, and-left, and-right}
 use Rattle.model.proofs.Memory.{node-same, node-outside, node-length, stored-length, node-both, table-both}
 use Rattle.model.proofs.Splice.{part-same}
-use Rattle.model.proofs.Status.{IsNode, node-among, is-node, is-node-of, in-system-same}
+use Rattle.model.proofs.Status.{IsNode, node-among, is-node, is-node-of, attached-same, in-system-same}
 use Rattle.model.proofs.Sound.{Sound, node-fits, table-fits}
 use Rattle.model.proofs.Sender.{CanDeliver}
 use Rattle.model.proofs.Taken.{state-skipped}
@@ -109,7 +108,8 @@ module _ (s t s′ t′ : List ℕ) (S : Sound s t) (S′ : Sound s′ t′) (b 
     -- and the one that they do not see goes on asking
     away : (x : ℕ) → x ≡ nodeCount s + 1 → isAttached (withNode s′ y (d .sender)) x ≡ false
     away x e =
-        ap (λ (v : ℕ). eqb v inSystem || eqb v notifying) (node-outside s′ y (d .sender) fits′ (8 * x + 1) (inr (omega (arith, ny .high))))
+        attached-same s′ (withNode s′ y (d .sender)) x
+        (node-same s′ (withNode s′ y (d .sender)) x (λ k h. node-outside s′ y (d .sender) fits′ (8 * x + k) (inr (omega (arith, ny .high)))))
         ∙ subst (λ (x : ℕ). isAttached s′ x ≡ false) (sym e) (b .away)
 
     -- the table of z, and then that of y, stored in both

@@ -157,8 +157,12 @@ module _ (s s′ : List ℕ) (l : Later s s′) where
 
       go : RecordOk s x r → limitOf (digits s) (r .status) (suffixOf s′ x (r .target)) ≡ limitOf (digits s) (r .status) (suffixOf s x (r .target))
       go (is-in-system e o) = at inSystem e refl
-      go (is-copying e o) = at copying e (ap (limitOf (digits s) copying) (suffix-later x (r .target) n n′ (o .is-node) (in-system-stays (r .target) (o .is-node) (o .in-system))))
-      go (is-waiting e o) = at waiting e (ap (limitOf (digits s) waiting) (suffix-later x (r .target) n n′ (o .is-node) (l .stays (r .target) (o .is-node) (o .attached))))
+      go (is-copying e o) =
+          at copying e
+          (ap (limitOf (digits s) copying) (suffix-later x (r .target) n n′ (o .is-node) (in-system-stays (r .target) (o .is-node) (o .in-system))))
+      go (is-waiting e o) =
+          at waiting e
+          (ap (limitOf (digits s) waiting) (suffix-later x (r .target) n n′ (o .is-node) (l .stays (r .target) (o .is-node) (o .attached))))
       go (is-notifying e o) = at notifying e refl
 
   pub counts-later : (x : ℕ) → IsNode s x → IsNode s′ x → {r : Node} → nodeOf s′ x ≡ r → RecordOk s x r → CountsOk s x r → CountsOk s′ x (nodeOf s′ x)

@@ -2,18 +2,17 @@
 use Prim.Native.Nat.{ℕ, _+_, _*_, _≤_, _<_}
 use mathlib.Core.Path.{_≡_, sym, ap, subst, _∙_}
 use mathlib.Core.Logic.{_≢_, _⊎_, inl, inr, ⊎-elim}
-use mathlib.Core.Bool.{false, _||_}
+use mathlib.Core.Bool.{false}
 use mathlib.Core.List.{List}
 use native.Mathlib.Decide.{ℕ-discrete, decLt}
 use native.Mathlib.Omega.{arith}
 use lib.ListN.{length, getD}
 use lib.Seq.{ext-getD}
-use lib.Dec.{eqb}
-use Rattle.model.specs.Memory.{nodeCount, isAttached, inSystem, notifying, tableStart, tableOf, withNode, withTable}
+use Rattle.model.specs.Memory.{nodeCount, statusOf, isAttached, tableStart, tableOf, withNode, withTable}
 use Rattle.model.specs.Join.{Delivery, kindAttached, begun, withdrawn, delivery, delivered}
 use Rattle.model.proofs.Bools.{not-both}
 use Rattle.model.proofs.Memory.{same-status, node-length, node-outside, node-stored, table-length, stored-length, stored-outside, table-back}
-use Rattle.model.proofs.Status.{attached-by, attached-notifying, copying-away}
+use Rattle.model.proofs.Status.{attached-notifying, copying-away, waiting-away}
 use Rattle.model.proofs.Sound.{Sound, node-fits, table-fits}
 use Rattle.model.proofs.Learning.{learn-table-grows}
 use Rattle.model.proofs.BeginningKeepsSound.{CanBegin, begun-count, begun-new, begun-word, begun-byte, begun-long}
@@ -76,13 +75,13 @@ module _ (s t s′ t′ : List ℕ) (b : Beside s t s′ t′) (S : Sound s′ t
     size : length (d .senderTable) ≡ 512
     size = ap length (w .own) ∙ learn-table-grows s′ x (tableOf t′ y) (tableOf t′ x) .long ∙ table-length t′ x fits-table
 
+    stored : statusOf (withNode s′ x (d .sender)) x ≡ w .status
+    stored = same-status (node-stored s′ x (d .sender) fits ∙ w .sender)
+
     still-away : Asking s′ x y (w .status) (w .target) (d .kind) → isAttached (withNode s′ x (d .sender)) x ≡ false
-    still-away how = attached-by (withNode s′ x (d .sender)) x (w .status) (same-status (node-stored s′ x (d .sender) fits ∙ w .sender)) ∙ asks how
-      where
-        asks : Asking s′ x y (w .status) (w .target) (d .kind) → (eqb (w .status) inSystem || eqb (w .status) notifying) ≡ false
-        asks (copies-on e q k i n) = ap (λ (v : ℕ). eqb v inSystem || eqb v notifying) q
-        asks (starts-waiting e q k n) = ap (λ (v : ℕ). eqb v inSystem || eqb v notifying) q
-        asks (waits-on e q k n) = ap (λ (v : ℕ). eqb v inSystem || eqb v notifying) q
+    still-away (copies-on e q k i n) = copying-away (withNode s′ x (d .sender)) x (stored ∙ q)
+    still-away (starts-waiting e q k n) = waiting-away (withNode s′ x (d .sender)) x (stored ∙ q)
+    still-away (waits-on e q k n) = waiting-away (withNode s′ x (d .sender)) x (stored ∙ q)
 
     outside : (p : ℕ) → (p < 512 * nodeCount s) ⊎ (512 * nodeCount s + 512 ≤ p) → (p < tableStart x) ⊎ (tableStart x + 512 ≤ p)
     outside p (inl l) = inl (omega arith)

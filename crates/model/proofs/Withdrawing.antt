@@ -8,14 +8,14 @@ use native.Mathlib.Decide.{decLt}
 use native.Mathlib.Omega.{arith}
 use lib.ListN.{length, getD, replicate, length-replicate, getD-replicate}
 use Rattle.model.specs.Ids.{validId}
-use Rattle.model.specs.Memory.{stateLength, tablesLength, base, digits, depth, nodeCount, nodeOf, targetOf, isAttached, tableStart, tableOf}
+use Rattle.model.specs.Memory.{stateLength, tablesLength, base, digits, depth, nodeCount, nodeOf, targetOf, inSystem, isAttached, tableStart, tableOf}
 use Rattle.model.specs.Join.{noNode, withdrawn}
 use Rattle.model.proofs.Bools.{not-both}
 use Rattle.model.proofs.Memory.{same-id, table-at, stored-length, stored-outside, stored-same, stored-other}
 use Rattle.model.proofs.NodeStored.{stored-long, stored-count, stored-record, stored-at, stored-word, stored-kept}
 use Rattle.model.proofs.Tables.{grows-refl}
 use Rattle.model.proofs.Ids.{InRange}
-use Rattle.model.proofs.Status.{IsNode, StatusOk, is-in-system, is-copying, is-waiting, is-notifying, attached-in-system, attached-by, attached-other, attached-same, in-system-same}
+use Rattle.model.proofs.Status.{IsNode, StatusOk, is-in-system, is-copying, is-waiting, is-notifying, attached-in-system, attached-notifying, attached-by, attached-other, attached-same, in-system-same}
 use Rattle.model.proofs.Sound.{Sound, node-fits, table-fits}
 use Rattle.model.proofs.Later.{Later, table-later, status-later, counts-later}
 use Rattle.model.proofs.TablesOnlyGrow.{Onward, later-onward}
@@ -116,10 +116,10 @@ module _ (s t : List ℕ) (S : Sound s t) where
         asks n e = omega (arith, n .low, attached-below (targetOf s x) n e)
 
         go : StatusOk s (nodeCount s) → 1 < nodeCount s
-        go (is-in-system e o) = absurd (not-both (isAttached s x) (attached-by s x 0 e) away)
+        go (is-in-system e o) = absurd (not-both (isAttached s x) (attached-by s x inSystem e) away)
         go (is-copying e o) = asks (o .is-node) (attached-in-system s (targetOf s x) (o .in-system))
         go (is-waiting e o) = asks (o .is-node) (o .attached)
-        go (is-notifying e o) = absurd (not-both (isAttached s x) (attached-by s x 3 e) away)
+        go (is-notifying e o) = absurd (not-both (isAttached s x) (attached-notifying s x e) away)
 
     count : nodeCount s₁ ≡ x - 1
     unfolding s₁

@@ -5,9 +5,7 @@ use mathlib.Core.Logic.{_≢_}
 use mathlib.Core.Bool.{true, false, true≢false}
 use mathlib.Core.List.{List, [], _∷_, _++_}
 use native.Mathlib.Omega.{arith}
-use lib.Dec.{eqb}
 use lib.ListN.{length, getD, set, drop, replicate, length-replicate}
-use borrow.Author.Tests.{ne-eqb}
 use Rattle.model.specs.Memory.{Memory, stateLength, tablesLength, digits, nodeCount, withNode, withTable, copying}
 use Rattle.model.specs.Tables.{ownTable}
 use Rattle.model.specs.Join.{Delivery, newNode, joiningNode, noNode, founded, begun, withdrawn, delivery, delivered}
@@ -18,11 +16,10 @@ use Rattle.model.specs.Image.{imageOf, loaded}
 use Rattle.model.specs.Refusals.{foundRefusal, readRefusal, recordPlace, beginRefusal, withdrawRefusal, deliverRefusal, lookupRefusal, verdictRefusal, writeRefusal, stateRefusal}
 use Rattle.model.specs.Calls.{Outcome, refusedAt, taken, unlessRefused, deliveryFields, lookupFields, verdictFields, foundCall, readCall, beginCall, withdrawCall, deliverCall, lookupCall, surveyCall, verdictCall, writeCall, soundCall}
 use Rattle.model.specs.Run.{Call, found, read, begin, withdraw, deliver, lookup, survey, verdict, write, sound, step, after, play, history, isTaken}
-use Rattle.model.proofs.Bools.{not-both}
 use Rattle.model.proofs.Sound.{Long}
 use Rattle.model.proofs.Taken.{state-taken, found-taken, read-taken, begin-taken, withdraw-taken, deliver-taken, lookup-taken, verdict-taken, write-taken, not-short}
 use Rattle.model.proofs.OwnTable.{own-long}
-use Rattle.model.proofs.Calls.{either-end}
+use Rattle.model.proofs.Calls.{either-end, taken-zero}
 use Rattle.model.proofs.Within.{within-past, within-same}
 use Rattle.model.proofs.Works.{Works, found-works, read-works, node-works, deliver-works}
 use Rattle.model.proofs.Alike.{Alike, LongAlike, digits-same, count-same}
@@ -110,10 +107,8 @@ by-ends P m c f g =
 
 -- the number of a call that was taken is 0
 pub taken-number : (m : Memory) (c : Call) → isTaken (step m c .answer) ≡ true → number m c ≡ 0
-unfolding refusedAt
-taken-number m c =
-    by-ends (λ (o : Outcome). isTaken (o .answer) ≡ true → number m c ≡ 0) m c (λ nz e. absurd (not-both (eqb (number m c) 0) e (ne-eqb (number m c) 0 nz)))
-    (λ z e. z)
+taken-number m c e =
+    taken-zero m (number m c) (outputOf c) (others c (number m c)) _ (subst (λ (o : Outcome). isTaken (o .answer) ≡ true) (step-is m c) e)
 
 -- ---- a refused call
 

@@ -198,7 +198,12 @@ module _ (k : Count) (K : Kept k) where
           own : Dec (y ≡ x) → Counts (deliver y z)
           own (yes q) =
               let w = deliver-taken m y z r in
-              inr (rw (deliver-after m y z r) (record { low = omega (arith, q, w .1 .sender .low); high = omega (arith, q, delivered-count _ _ (w .0) y z (w .1), w .1 .sender .high) }))
+              inr
+              (rw (deliver-after m y z r)
+              (record {
+                low = omega (arith, q, w .1 .sender .low);
+                high = omega (arith, q, delivered-count _ _ (w .0) y z (w .1), w .1 .sender .high);
+              }))
           own (no q) = inl (deliver-same count m y z r x q)
 
   -- ---- any list of calls that starts no new run

@@ -16,7 +16,7 @@ use Rattle.model.proofs.Calls.{refused-is, looks-on, not-taken-same}
 abbrev pub event : Memory → Call → Event
 event m c = record { call = c; answer = step m c .answer }
 
--- a refused call, and one that is no beginning and no delivery
+-- a refused call, and one that changes no count whatever it answers
 pub data Idle (m : Memory) (c : Call) : Type 0 where
   refuses : isTaken (step m c .answer) ≡ false → Idle m c
   looks : ((first : ℕ) (counts : ℕ → Bool) (x : ℕ) (answer : List ℕ) (n : ℕ) → tallied first counts x c answer n ≡ n) → Idle m c

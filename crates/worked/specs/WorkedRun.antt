@@ -61,7 +61,7 @@ pub record WorkedCounts : Type 0 where
   pub sent : sent 3 (history dirty (wider ∷ twoJoins)) ≡ 2
   pub answered : answered 3 (history dirty (wider ∷ twoJoins)) ≡ 1
 
--- ---- a join that is withdrawn (b 2, d 2, K 1): node 2 is copied, and begins again after its withdrawal
+-- ---- a join that is withdrawn (b 2, d 2, K 1): node 2 copies, is withdrawn, and begins again
 
 unfoldable pub typedWrong : List Call
 typedWrong = begin 1 1 ∷ deliver 2 1 ∷ withdraw 3 ∷ withdraw 1 ∷ withdraw 2 ∷ withdraw 1 ∷ begin 1 1 ∷ []
