@@ -80,7 +80,7 @@ fn random_and_damaged_images_print_the_same() {
     let far = count(|lines| lines.contains("hops 3 ") && !lines.contains("hops 3 0\n"));
     let refused = count(|lines| !lines.starts_with("refusal 0\n"));
     assert!(
-        losing > 20 && far > 30 && refused > 300,
+        losing > 30 && far > 30 && refused > 300,
         "{losing} losing, {far} far, {refused} refused"
     );
 }

@@ -103,7 +103,10 @@ impl Run<'_> {
                 refusal(memory.used_state(), highest),
             );
             let others = [1, highest - 1, self.rng.between(1, highest)];
-            for node in others.into_iter().filter(|&node| node < highest) {
+            for node in others
+                .into_iter()
+                .filter(|node| (1..highest).contains(node))
+            {
                 expect(&mut self.pair, Call::Withdraw { node }, 19)?;
             }
             expect(&mut self.pair, Call::Withdraw { node: highest }, answer)?;

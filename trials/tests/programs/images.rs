@@ -61,7 +61,7 @@ impl ImageProgram {
     /// Also answers what was printed for each.
     pub fn random_and_damaged_images_print_the_same(&self) -> Vec<String> {
         let mut all = vec![];
-        for seed in seeds(0, 250) {
+        for seed in seeds(0, 400) {
             let mut rng = Rng::new(seed);
             let whole = image(&mut rng);
             all.push(self.agree(&whole, WHOLE, seed));

@@ -223,7 +223,13 @@ sound: the state is sound
 
 #[test]
 fn withdrawals_before_founding_and_while_nodes_join() {
-    let script = b"withdraw 1\nfound 2 3 1 0\nwithdraw 1\nbegin 100 1\ndeliver 2 1\ndeliver 2 1\nbegin 10 1\ndeliver 3 1\nbegin 110 2\n\twithdraw 4 # by the wrong gateway\nbegin 110 1\nwithdraw 0\nwithdraw 5\nwithdraw 18446744073709551615\nwithdraw 1\nwithdraw 3\nwithdraw\nwithdraw 4 4\nwithdraw 4a\nwithdraw -4\nwithdraw 18446744073709551616\nWithdraw 4\nwithdraw 004\nwithdraw 3\npanel\nwithdraw 2\nbegin 10 1\npanel\ndeliver 3 1\ndeliver 3 1\nwithdraw 3\nwithdraw 2\ndeliver 3 2\nwithdraw 3\nsound";
+    let script = b"\
+withdraw 1\nfound 2 3 1 0\nwithdraw 1\nbegin 100 1\ndeliver 2 1\ndeliver 2 1\nbegin 10 1\n\
+deliver 3 1\nbegin 110 2\n\twithdraw 4 # by the wrong gateway\nbegin 110 1\nwithdraw 0\nwithdraw 5\n\
+withdraw 18446744073709551615\nwithdraw 1\nwithdraw 3\nwithdraw\nwithdraw 4 4\nwithdraw 4a\n\
+withdraw -4\nwithdraw 18446744073709551616\nWithdraw 4\nwithdraw 004\nwithdraw 3\npanel\n\
+withdraw 2\nbegin 10 1\npanel\ndeliver 3 1\ndeliver 3 1\nwithdraw 3\nwithdraw 2\ndeliver 3 2\n\
+withdraw 3\nsound";
     assert_eq!(printed(script), WITHDRAWALS);
 }
 
