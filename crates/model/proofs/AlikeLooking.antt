@@ -1,7 +1,8 @@
 -- On memories alike in the fixed lengths lookup, survey, verdict and image are the same. Assumes nothing.
 use Prim.Native.Nat.{ℕ, zero, suc, _+_, _≤_, _<_}
 use mathlib.Core.Path.{_≡_, refl, sym, ap, fun-ext, _∙_}
-use mathlib.Core.Bool.{Bool, true, false, not, _&&_}
+use mathlib.Core.Logic.{_≢_}
+use mathlib.Core.Bool.{Bool, true, false, not}
 use mathlib.Core.List.{List, _∷_}
 use native.Mathlib.Omega.{arith}
 use lib.Dec.{eqb}
@@ -9,13 +10,14 @@ use lib.ListN.{take}
 use Rattle.model.specs.Loops.{allBelow, firstBelow, countBelow, sumBelow, joinBelow, node}
 use Rattle.model.specs.Memory.{stateLength, base, digits, nodeCount, tableOf}
 use Rattle.model.specs.Nodes.{qualifies}
-use Rattle.model.specs.Lookup.{nextHop, veryHopsWithin, answerOf, lookup}
-use Rattle.model.specs.Survey.{arrivesIn, isLost, ofDifferent, pairsFrom, countPairs, hopPairs, lostPairs, surveyCounts}
+use Rattle.model.specs.Lookup.{hopEntry, NextHop, frontmost, nextHop, veryHopsWithin, answerOf, lookup}
+use Rattle.model.specs.Survey.{arrivesIn, isLost, isPair, ofPair, pairsFrom, countPairs, hopPairs, lostPairs, surveyCounts}
 use Rattle.model.specs.Consistency.{Verdict, howMany, entryWhole, levelWhole, nodeWhole, consistent, nodeShort, levelShort, entryShort, firstShort, verdict}
 use Rattle.model.specs.Image.{idBytes, entryRecords, levelRecords, nodeRecords, allRecords, imageOf}
 use Rattle.model.proofs.Loops.{all-same, count-same, sum-same, first-same, join-same, first-fails}
 use Rattle.model.proofs.Status.{IsNode}
 use Rattle.model.proofs.Sound.{Sound}
+use Rattle.model.proofs.NextHop.{Agree, front-alike, entry-hop}
 use Rattle.model.proofs.Lookup.{Step, arrives, loses, hops, step-of, arrives-path, loses-path, hops-path, hop-node}
 use Rattle.model.proofs.Alike as same
 use Rattle.model.proofs.Alike.{LongAlike, base-same, digits-same, depth-same, id-same, alike-to, suffix-alike, table-same}
@@ -43,75 +45,81 @@ module _ (s t s′ t′ : List ℕ) (L : LongAlike s t s′ t′) (S : Sound s t
   few : (x : ℕ) → x ≤ nodeCount s → x ≤ 64
   few x h = omega (arith, S .few)
 
-  -- ---- lookup
+  -- ---- lookup and survey, with sets of failed nodes that say the same of every node
 
-  module _ (z : ℕ) (nz : IsNode s z) where
-    next-same : (u : ℕ) → IsNode s u → nextHop s′ t′ u z ≡ nextHop s t u z
-    unfolding nextHop
-    next-same u nu =
+  module _ (failed failed′ : ℕ) (agree : Agree s failed failed′) where
+    module _ (z : ℕ) (nz : IsNode s z) where
+      entry-alike : (u : ℕ) → IsNode s u → hopEntry s′ t′ u z ≡ hopEntry s t u z
+      unfolding hopEntry
+      entry-alike u nu =
+          cc (
+            depth-same s s′ a,
+            suffix-alike (alike-to s s′ a) u z (few u (nu .high)) (few z (nz .high)),
+            id-same s s′ a z (few z (nz .high)),
+            table-same s t s′ t′ L u (nu .low) (few u (nu .high)),
+          )
+
+      next-same : (u : ℕ) → IsNode s u → u ≢ z → nextHop s′ t′ failed′ u z .node ≡ nextHop s t failed u z .node
+      unfolding nextHop
+      next-same u nu ne =
+          ap (λ (E : List ℕ). frontmost failed′ E .node) (entry-alike u nu)
+          ∙ ap (λ (r : NextHop). r .node)
+          (front-alike failed failed′ (hopEntry s t u z) (λ k l. agree _ (entry-hop s t S u z nu nz ne k l .0)))
+
+      hops-same : (n u : ℕ) → IsNode s u → veryHopsWithin n s′ t′ failed′ u z ≡ veryHopsWithin n s t failed u z
+      unfolding veryHopsWithin
+      hops-same zero u nu = refl
+      hops-same (suc n) u nu = go (λ v nv. hops-same n v nv) (step-of s t failed u z)
+        where
+          go : ((v : ℕ) → IsNode s v → veryHopsWithin n s′ t′ failed′ v z ≡ veryHopsWithin n s t failed v z) → Step s t failed u z
+              → veryHopsWithin (suc n) s′ t′ failed′ u z ≡ veryHopsWithin (suc n) s t failed u z
+          go ih (arrives q) = arrives-path n s′ t′ failed′ u z q ∙ sym (arrives-path n s t failed u z q)
+          go ih (loses ne q) = loses-path n s′ t′ failed′ u z ne (next-same u nu ne ∙ q) ∙ sym (loses-path n s t failed u z ne q)
+          go ih (hops ne some) =
+              hops-path n s′ t′ failed′ u z ne (λ q. some (sym (next-same u nu ne) ∙ q))
+              ∙ ap (λ (v : ℕ). u ∷ veryHopsWithin n s′ t′ failed′ v z) (next-same u nu ne)
+              ∙ ap (_∷_ u) (ih (nextHop s t failed u z .node) (hop-node s t S failed u z nu nz ne some .0))
+              ∙ sym (hops-path n s t failed u z ne some)
+
+      pub lookup-same : (u : ℕ) → IsNode s u → lookup s′ t′ failed′ u z ≡ lookup s t failed u z
+      unfolding lookup
+      lookup-same u nu =
+          ap (λ (d : ℕ). answerOf z (veryHopsWithin (suc d) s′ t′ failed′ u z)) (digits-same s s′ a)
+          ∙ ap (answerOf z) (hops-same (suc (digits s)) u nu)
+
+    pairs-same : (f f′ : ℕ → ℕ → Bool) → ((u z : ℕ) → IsNode s u → IsNode s z → f′ u z ≡ f u z) → countPairs s′ failed′ f′ ≡ countPairs s failed f
+    unfolding countPairs isPair
+    pairs-same f f′ e =
+        nodes-same sumBelow sum-same (nodeCount s) (nodeCount s′) count (pairsFrom s failed f) (pairsFrom s′ failed′ f′)
+        (λ u lu hu.
+        nodes-same countBelow count-same (nodeCount s) (nodeCount s′) count (ofPair failed f u) (ofPair failed′ f′ u)
+        (λ z lz hz.
+        let nu : IsNode s u = record { low = lu; high = hu } in
+        let nz : IsNode s z = record { low = lz; high = hz } in
+        cc (agree u nu, agree z nz, e u z nu nz)))
+
+    hop-pairs-same : (h : ℕ) → hopPairs s′ t′ failed′ h ≡ hopPairs s t failed h
+    unfolding arrivesIn
+    hop-pairs-same h = pairs-same (arrivesIn s t failed h) (arrivesIn s′ t′ failed′ h) (λ u z nu nz. cc (lookup-same z nz u nu))
+
+    lost-pairs-same : lostPairs s′ t′ failed′ ≡ lostPairs s t failed
+    unfolding isLost
+    lost-pairs-same = pairs-same (isLost s t failed) (isLost s′ t′ failed′) (λ u z nu nz. cc (lookup-same z nz u nu))
+
+    pub survey-same : surveyCounts s′ t′ failed′ ≡ surveyCounts s t failed
+    unfolding surveyCounts
+    survey-same =
         cc (
-          suffix-alike (alike-to s s′ a) u z (few u (nu .high)) (few z (nz .high)),
-          id-same s s′ a z (few z (nz .high)),
-          table-same s t s′ t′ L u (nu .low) (few u (nu .high)),
+          hop-pairs-same 1,
+          hop-pairs-same 2,
+          hop-pairs-same 3,
+          hop-pairs-same 4,
+          hop-pairs-same 5,
+          hop-pairs-same 6,
+          hop-pairs-same 7,
+          hop-pairs-same 8,
+          lost-pairs-same,
         )
-
-    hops-same : (n u : ℕ) → IsNode s u → veryHopsWithin n s′ t′ u z ≡ veryHopsWithin n s t u z
-    unfolding veryHopsWithin
-    hops-same zero u nu = refl
-    hops-same (suc n) u nu = go (λ v nv. hops-same n v nv) (step-of s t u z)
-      where
-        e : nextHop s′ t′ u z ≡ nextHop s t u z
-        e = next-same u nu
-
-        go : ((v : ℕ) → IsNode s v → veryHopsWithin n s′ t′ v z ≡ veryHopsWithin n s t v z) → Step s t u z
-            → veryHopsWithin (suc n) s′ t′ u z ≡ veryHopsWithin (suc n) s t u z
-        go ih (arrives q) = arrives-path n s′ t′ u z q ∙ sym (arrives-path n s t u z q)
-        go ih (loses ne q) = loses-path n s′ t′ u z ne (e ∙ q) ∙ sym (loses-path n s t u z ne q)
-        go ih (hops ne some) =
-            hops-path n s′ t′ u z ne (λ q. some (sym e ∙ q))
-            ∙ ap (λ (v : ℕ). u ∷ veryHopsWithin n s′ t′ v z) e
-            ∙ ap (_∷_ u) (ih (nextHop s t u z) (hop-node s t S u z nu nz ne some .0))
-            ∙ sym (hops-path n s t u z ne some)
-
-    pub lookup-same : (u : ℕ) → IsNode s u → lookup s′ t′ u z ≡ lookup s t u z
-    unfolding lookup
-    lookup-same u nu =
-        ap (λ (d : ℕ). answerOf z (veryHopsWithin (suc d) s′ t′ u z)) (digits-same s s′ a)
-        ∙ ap (answerOf z) (hops-same (suc (digits s)) u nu)
-
-  -- ---- the survey
-
-  pairs-same : (f f′ : ℕ → ℕ → Bool) → ((u z : ℕ) → IsNode s u → IsNode s z → f′ u z ≡ f u z) → countPairs s′ f′ ≡ countPairs s f
-  unfolding countPairs
-  pairs-same f f′ e =
-      nodes-same sumBelow sum-same (nodeCount s) (nodeCount s′) count (pairsFrom s f) (pairsFrom s′ f′)
-      (λ u lu hu.
-      nodes-same countBelow count-same (nodeCount s) (nodeCount s′) count (ofDifferent f u) (ofDifferent f′ u)
-      (λ z lz hz.
-      ap (λ (b : Bool). not (eqb u z) && b) (e u z (record { low = lu; high = hu }) (record { low = lz; high = hz }))))
-
-  hop-pairs-same : (h : ℕ) → hopPairs s′ t′ h ≡ hopPairs s t h
-  unfolding arrivesIn
-  hop-pairs-same h = pairs-same (arrivesIn s t h) (arrivesIn s′ t′ h) (λ u z nu nz. cc (lookup-same z nz u nu))
-
-  lost-pairs-same : lostPairs s′ t′ ≡ lostPairs s t
-  unfolding isLost
-  lost-pairs-same = pairs-same (isLost s t) (isLost s′ t′) (λ u z nu nz. cc (lookup-same z nz u nu))
-
-  pub survey-same : surveyCounts s′ t′ ≡ surveyCounts s t
-  unfolding surveyCounts
-  survey-same =
-      cc (
-        hop-pairs-same 1,
-        hop-pairs-same 2,
-        hop-pairs-same 3,
-        hop-pairs-same 4,
-        hop-pairs-same 5,
-        hop-pairs-same 6,
-        hop-pairs-same 7,
-        hop-pairs-same 8,
-        lost-pairs-same,
-      )
 
   -- ---- the verdict
 

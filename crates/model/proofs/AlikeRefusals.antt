@@ -1,7 +1,7 @@
 -- On memories alike in the fixed lengths each call is refused alike. Assumes nothing.
 use Prim.Native.Nat.{ℕ, _+_, _≤_}
-use mathlib.Core.Path.{_≡_, refl, ap, _∙_}
-use mathlib.Core.Bool.{Bool, true, false, cond, not}
+use mathlib.Core.Path.{_≡_, refl, ap, ap₂, _∙_}
+use mathlib.Core.Bool.{Bool, true, false, cond, not, _||_}
 use mathlib.Core.List.{List, [], _∷_, _++_}
 use native.Mathlib.Omega.{arith}
 use lib.Dec.{eqb}
@@ -12,12 +12,12 @@ use Rattle.model.specs.Nodes.{isNode}
 use Rattle.model.specs.Sound.{sound}
 use Rattle.model.specs.Join.{outstanding}
 use Rattle.model.specs.Refusals.{Sentence, firstTrue, memoryShort, unsound, hasId, areNodes, someNotInSystem, stateSentences, beginSentences, withdrawSentences, deliverSentences, lookupSentences, verdictSentences, writeSentences, foundRefusal, readRefusal, stateRefusal, beginRefusal, withdrawRefusal, deliverRefusal, lookupRefusal, verdictRefusal, writeRefusal}
-use Rattle.model.proofs.Bools.{and-left, and-right}
 use Rattle.model.proofs.Loops.{all-same, any-same}
 use Rattle.model.proofs.Memory.{same-status, same-target, same-pending}
 use Rattle.model.proofs.Status.{IsNode, is-node, in-system-same, attached-same}
 use Rattle.model.proofs.Sound.{Sound, sound-ok}
-use Rattle.model.proofs.Taken.{long-of}
+use Rattle.model.proofs.Taken.{long-of, both-nodes}
+use Rattle.model.proofs.NextHop.{Agree}
 use Rattle.model.proofs.Alike.{Alike, LongAlike, base-same, digits-same, count-same, id-same, record-same, short-same, sound-same}
 use Rattle.model.proofs.AlikeLooking.{nodes-same, image-same}
 
@@ -97,10 +97,7 @@ module _ (m m′ : Memory) (a : Alike (m .state) (m .tables) (m′ .state) (m′
     in-system-there x h = in-system-same s s′ x (record-same s s′ (a .state) x h)
 
     nodes-there : (x y : ℕ) → areNodes s x y ≡ true → (x ≤ 64) × (y ≤ 64)
-    nodes-there x y e = (
-      node-few x (is-node s x (and-left (isNode s x) (isNode s y) e)),
-      node-few y (is-node s y (and-right (isNode s x) (isNode s y) e)),
-    )
+    nodes-there x y e = let n = both-nodes m x y (ap not e) in (node-few x (n .0), node-few y (n .1))
 
     are-nodes-same : (x y : ℕ) → areNodes s′ x y ≡ areNodes s x y
     are-nodes-same x y = cc (is-node-same x, is-node-same y)
@@ -149,11 +146,15 @@ module _ (m m′ : Memory) (a : Alike (m .state) (m .tables) (m′ .state) (m′
       deliver-judged s s′ x y (are-nodes-same S x y)
       (λ e. let n = nodes-there S x y e in (record-same s s′ (a .state) x (n .0), in-system-there S y (n .1))))
 
-  pub lookup-same : (u z : ℕ) → lookupRefusal m′ u z ≡ lookupRefusal m u z
+  pub lookup-same : (u z failed failed′ : ℕ) → Agree s failed failed′ → lookupRefusal m′ u z failed′ ≡ lookupRefusal m u z failed
   unfolding lookupRefusal
-  lookup-same u z =
-      past-sound (lookupSentences s u z) (lookupSentences s′ u z)
-      (λ L S. sentence-same _ _ 9 [] [] (ap not (are-nodes-same S u z)) (λ e. refl))
+  lookup-same u z failed failed′ agree =
+      past-sound (lookupSentences s u z failed) (lookupSentences s′ u z failed′)
+      (λ L S.
+      sentence-same _ _ 9 _ _ (ap not (are-nodes-same S u z))
+      (λ e₉.
+      let n = both-nodes m u z e₉ in
+      sentence-same _ _ 21 [] [] (ap₂ _||_ (agree u (n .0)) (agree z (n .1))) (λ e₂₁. refl)))
 
   pub verdict-same : verdictRefusal m′ ≡ verdictRefusal m
   unfolding verdictRefusal

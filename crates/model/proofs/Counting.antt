@@ -1,6 +1,6 @@
 -- Laws of counting and of joining by places: the places at which a test holds, counted; lists joined block by block. Assumes nothing.
 use Prim.Native.Nat.{ℕ, zero, suc, _+_, _*_, _≤_, _<_}
-use mathlib.Core.Path.{_≡_, refl, sym, ap, _∙_}
+use mathlib.Core.Path.{_≡_, refl, sym, ap, subst, _∙_}
 use mathlib.Core.Logic.{_⊎_, inl, inr}
 use mathlib.Core.Bool.{Bool, true, false, not, cond, _&&_}
 use mathlib.Core.List.{List, [], _++_, append-assoc, append-nil}
@@ -66,7 +66,7 @@ count-one (suc n) f h = go (f n) refl (count-one n f (λ p q l g. h p q (le-step
     go false e ih = omega arith
 
 -- counted by two tests
-count-split : (n : ℕ) (f g : ℕ → Bool) → countBelow n f ≡ countBelow n (λ k. f k && g k) + countBelow n (λ k. f k && not (g k))
+pub count-split : (n : ℕ) (f g : ℕ → Bool) → countBelow n f ≡ countBelow n (λ k. f k && g k) + countBelow n (λ k. f k && not (g k))
 unfolding countBelow
 count-split zero f g = refl
 count-split (suc n) f g = go (f n) (g n) (count-split n f g)
@@ -96,6 +96,25 @@ count-most n (suc m) test f below differ =
     omega (arith, g))
     (λ p q l g a b. differ p q l g (and-left _ _ a) (and-left _ _ b)) in
     omega (arith, count-split n test (λ k. eqb (f k) m))
+
+-- m different places at which a test holds are no more than it counts: each has its own rank
+count-all : (m : ℕ) → countBelow m (λ k. true) ≡ m
+unfolding countBelow
+count-all zero = refl
+count-all (suc m) = omega (arith, count-all m)
+
+same-rank : (p q : ℕ) (test : ℕ → Bool) → test p ≡ true → test q ≡ true → countBelow p test ≡ countBelow q test → p ≡ q
+same-rank p q test a b e =
+    let f : p < q → ⊥ = λ l. omega (arith, count-rises p q test l a) in
+    let g : q < p → ⊥ = λ l. omega (arith, count-rises q p test l b) in
+    omega (arith, f, g)
+
+pub count-least : (n m : ℕ) (test : ℕ → Bool) (f : ℕ → ℕ) → ((k : ℕ) → k < m → (f k < n) × (test (f k) ≡ true))
+    → ((j k : ℕ) → j < m → k < m → f j ≡ f k → j ≡ k) → m ≤ countBelow n test
+count-least n m test f holds differ =
+    subst (λ (c : ℕ). c ≤ countBelow n test) (count-all m)
+    (count-most m (countBelow n test) (λ k. true) (λ k. countBelow (f k) test) (λ k l e. count-rises (f k) n test (holds k l .0) (holds k l .1))
+    (λ j k l g a b e. differ j k l g (same-rank (f j) (f k) test (holds j l .1) (holds k g .1) e)))
 
 -- counted block by block
 count-add : (m n : ℕ) (f : ℕ → Bool) → countBelow (m + n) f ≡ countBelow m f + countBelow n (λ k. f (m + k))

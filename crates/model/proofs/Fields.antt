@@ -81,31 +81,31 @@ deliver-bytes m x y =
     (omega arith, (d .0, (d .1, (bit-below (eqb (delivery (m .state) (m .tables) x y .sender .status) inSystem), _)))))
 
 -- a lookup ends at a node
-ends : (s t : List ℕ) → Sound s t → (z : ℕ) → IsNode s z → (u : ℕ) → IsNode s u → lookup s t u z .last ≤ nodeCount s
-ends s t S z nz =
-    walk s t S z nz (λ (u : ℕ). lookup s t u z .last ≤ nodeCount s) (λ u nu e. rw (arrives-is s t u z e) (nu .high))
-    (λ u nu e q. rw (loses-is s t u z e q) (nu .high))
-    (λ u nu e q ih. rw (lookup-hop s t S z nz u nu e q) ih)
+ends : (s t : List ℕ) → Sound s t → (failed z : ℕ) → IsNode s z → (u : ℕ) → IsNode s u → lookup s t failed u z .last ≤ nodeCount s
+ends s t S failed z nz =
+    walk s t S failed z nz (λ (u : ℕ). lookup s t failed u z .last ≤ nodeCount s) (λ u nu e. rw (arrives-is s t failed u z e) (nu .high))
+    (λ u nu e q. rw (loses-is s t failed u z e q) (nu .high))
+    (λ u nu e q ih. rw (lookup-hop s t S failed z nz u nu e q) ih)
 
 -- and has arrived or not
-arrived-below : (s t : List ℕ) (u z : ℕ) → lookup s t u z .arrived < 256
-arrived-below s t u z = go (one-or-none s t u z)
+arrived-below : (s t : List ℕ) (failed u z : ℕ) → lookup s t failed u z .arrived < 256
+arrived-below s t failed u z = go (one-or-none s t failed u z)
   where
-    go : (lookup s t u z .arrived ≡ 1) ⊎ (lookup s t u z .arrived ≡ 0) → lookup s t u z .arrived < 256
+    go : (lookup s t failed u z .arrived ≡ 1) ⊎ (lookup s t failed u z .arrived ≡ 0) → lookup s t failed u z .arrived < 256
     go (inl e) = omega arith
     go (inr e) = omega arith
 
-pub lookup-bytes : (m : Memory) (u z : ℕ) → Bytes (lookupCall m u z .answer)
+pub lookup-bytes : (m : Memory) (u z failed : ℕ) → Bytes (lookupCall m u z failed .answer)
 unfolding Below lookupRefusal lookupCall taken numbered
-lookup-bytes m u z =
+lookup-bytes m u z failed =
     bytes-unless m [] _ 3 _ refl
     (λ q.
-    let c = lookup-taken m u z q in
-    let e = ends (m .state) (m .tables) (c .0) z (c .2) u (c .1) in
-    let h = hops-bound (m .state) (m .tables) (c .0) z (c .2) u (c .1) in
+    let c = lookup-taken m u z failed q in
+    let e = ends (m .state) (m .tables) (c .0) failed z (c .2) u (c .1) in
+    let h = hops-bound (m .state) (m .tables) (c .0) failed z (c .2) u (c .1) in
     let few : nodeCount (m .state) ≤ 64 = c .0 .few in
     let most : digits (m .state) ≤ 8 = c .0 .settings .digits-most in
-    (omega arith, (arrived-below (m .state) (m .tables) u z, (omega (arith, h, most), (omega (arith, e, few), _)))))
+    (omega arith, (arrived-below (m .state) (m .tables) failed u z, (omega (arith, h, most), (omega (arith, e, few), _)))))
 
 judged-bytes : (s t : List ℕ) → Sound s t → Bytes (verdictFields (verdict s t))
 unfolding Below verdict firstShort
@@ -135,14 +135,14 @@ verdict-bytes m =
 
 -- ---- a survey
 
-module _ (m : Memory) where
+module _ (m : Memory) (failed : ℕ) where
   -- 64 times 64
-  pairs-few : Sound (m .state) (m .tables) → (f : ℕ → ℕ → Bool) → countPairs (m .state) f < 4097
+  pairs-few : Sound (m .state) (m .tables) → (f : ℕ → ℕ → Bool) → countPairs (m .state) failed f < 4097
   pairs-few S f =
       let most : nodeCount (m .state) * nodeCount (m .state) ≤ 4096 = mul-le-mul (S .few) (S .few) in
-      omega (arith, pairs-most (m .state) f)
+      omega (arith, pairs-most (m .state) failed f)
 
-  pub survey-few : Below 4097 (surveyCall m .answer)
+  pub survey-few : Below 4097 (surveyCall m failed .answer)
   unfolding Below surveyCall surveyCounts stateRefusal taken numbered
   survey-few =
       below-unless 4097 (omega arith) m [] _ 9 _ refl
@@ -151,6 +151,6 @@ module _ (m : Memory) where
       (omega arith, (few _, (few _, (few _, (few _, (few _, (few _, (few _, (few _, (few _, _)))))))))))
 
   -- and what is taken was counted on a sound state
-  pub survey-sound : getD (surveyCall m .answer) 0 0 ≡ 0 → Sound (m .state) (m .tables)
+  pub survey-sound : getD (surveyCall m failed .answer) 0 0 ≡ 0 → Sound (m .state) (m .tables)
   unfolding surveyCall
   survey-sound e = state-taken m (taken-zero m (stateRefusal m) [] _ _ (eq-eqb _ 0 e))

@@ -48,9 +48,12 @@ pub mod TablesOnlyGrow
 pub mod Withdrawing
 pub mod Undoing
 -- ---- lookup and verdict
+pub mod SoundEntries
+pub mod NextHop
 pub mod Lookup
 pub mod Survey
 pub mod Consistency
+pub mod Failures
 pub mod HopsUnchanged
 -- ---- images: read, written, and back
 pub mod RecordRules

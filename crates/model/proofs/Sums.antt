@@ -49,6 +49,17 @@ sum-le (suc n) c f h =
     let e : suc n * c ≡ n * c + c = suc-mul n c in
     omega (arith, sum-le n c f (λ k l. h k (le-step l)), h n (lt-suc-self n))
 
+-- the same number each time that a test holds
+pub sum-where : (n c : ℕ) (f : ℕ → Bool) → sumBelow n (λ k. cond (f k) c 0) ≡ countBelow n f * c
+unfolding sumBelow countBelow
+sum-where zero c f = sym (zero-mul c)
+sum-where (suc n) c f = go (f n) (sum-where n c f)
+  where
+    go : (b : Bool) → sumBelow n (λ k. cond (f k) c 0) ≡ countBelow n f * c
+        → sumBelow n (λ k. cond (f k) c 0) + cond b c 0 ≡ (countBelow n f + cond b 1 0) * c
+    go true e = let w : suc (countBelow n f) * c ≡ countBelow n f * c + c = suc-mul (countBelow n f) c in rw add-one (omega arith)
+    go false e = let w : countBelow n f + 0 ≡ countBelow n f = omega arith in rw w (omega arith)
+
 -- a summand is at most the sum
 pub sum-at : (n : ℕ) (f : ℕ → ℕ) (k : ℕ) → k < n → f k ≤ sumBelow n f
 unfolding sumBelow

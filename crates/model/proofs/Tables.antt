@@ -14,7 +14,7 @@ use lib.Seq.{ext-getD, getD-set-same, getD-set-other, drop-set-add, take-suc-set
 use borrow.Author.Tests.{eqb-true, eqb-false, eq-eqb, ne-eqb}
 use Rattle.model.specs.Tables.{slotPlace, slotAt, slotIs, entrySize, entry, holds, append}
 use Rattle.model.proofs.Splice.{part-length, part-at}
-use Rattle.model.proofs.Loops.{first-le, first-before, first-holds, first-unique, first-min, first-same, any-at, any-false}
+use Rattle.model.proofs.Loops.{first-le, first-before, first-holds, first-unique, first-min, first-same, any-at, any-false, le-of-not-lt}
 
 -- ---- how many stand in an entry
 
@@ -190,3 +190,31 @@ append-grows K T i j u h = record {
   long = append-length K T i j u;
   kept = λ p f. append-away K T i j u p (λ e. f (ap (λ (q : ℕ). getD T q 0) e ∙ size-empty K T i j h));
 }
+
+-- an entry of it begins with what stood there
+module _ (K : ℕ) (T T′ : List ℕ) (i j : ℕ) (g : Grows T T′) (fits : slotPlace i j K ≤ length T) where
+  grown-size : entrySize K T i j ≤ entrySize K T′ i j
+  grown-size =
+      le-of-not-lt
+      (λ l.
+      let filled = size-filled K T i j (entrySize K T′ i j) l in
+      filled (sym (g .kept (slotPlace i j (entrySize K T′ i j)) filled) ∙ size-empty K T′ i j (omega (arith, size-le K T i j))))
+
+  fits′ : slotPlace i j K ≤ length T′
+  fits′ = omega (arith, g .long)
+
+  pub grown-longer : length (entry K T i j) ≤ length (entry K T′ i j)
+  grown-longer = omega (arith, grown-size, entry-length K T i j fits, entry-length K T′ i j fits′)
+
+  pub grown-begins : (k : ℕ) → k < length (entry K T i j) → getD (entry K T′ i j) k 0 ≡ getD (entry K T i j) k 0
+  grown-begins k h =
+      let l : k < entrySize K T i j = omega (arith, entry-length K T i j fits) in
+      entry-at K T′ i j fits′ k (omega (arith, grown-size))
+      ∙ g .kept (slotPlace i j k) (size-filled K T i j k l)
+      ∙ sym (entry-at K T i j fits k l)
+
+  -- and where it was full nothing came
+  pub grown-full : length (entry K T i j) ≡ K → entry K T′ i j ≡ entry K T i j
+  grown-full e =
+      let same : length (entry K T′ i j) ≡ length (entry K T i j) = omega (arith, grown-longer, entry-length K T′ i j fits′, size-le K T′ i j) in
+      ext-getD 0 (entry K T′ i j) (entry K T i j) same (λ k l. grown-begins k (omega arith))

@@ -5,7 +5,7 @@ use mathlib.Core.Path.{_≡_, refl, _∙_}
 use mathlib.Core.Bool.{true, false}
 use mathlib.Core.List.{List}
 use lib.ListN.{length}
-use Rattle.model.specs.Memory.{digits, nodeCount, Node, nodeOf, idOf, isAttached, isInSystem, withNode, tableOf}
+use Rattle.model.specs.Memory.{digits, depth, nodeCount, Node, nodeOf, idOf, isAttached, isInSystem, withNode, tableOf}
 use Rattle.model.specs.Join.{Delivery, notifyingNode, begun, delivery, delivered}
 use Rattle.model.proofs.Bools.{back-false, not-both}
 use Rattle.model.proofs.Memory.{same-id, node-stored, table-length}
@@ -28,16 +28,18 @@ pub record Attached (s : List ℕ) (x : ℕ) : Type 0 where
 -- the memory after is that of the same network, one call on or many
 pub record Onward (s t s′ t′ : List ℕ) : Type 0 where
   pub digits : digits s′ ≡ digits s
+  pub depth : depth s′ ≡ depth s
   pub attached : (x : ℕ) → Attached s x → Attached s′ x
   pub ids : (x : ℕ) → Attached s x → idOf s′ x ≡ idOf s x
   pub grows : (x : ℕ) → Attached s x → Grows (tableOf t x) (tableOf t′ x)
 
 pub onward-refl : (s t : List ℕ) → Onward s t s t
-onward-refl s t = record { digits = refl; attached = λ x a. a; ids = λ x a. refl; grows = λ x a. grows-refl (tableOf t x) }
+onward-refl s t = record { digits = refl; depth = refl; attached = λ x a. a; ids = λ x a. refl; grows = λ x a. grows-refl (tableOf t x) }
 
 pub onward-trans : {s t s′ t′ s″ t″ : List ℕ} → Onward s t s′ t′ → Onward s′ t′ s″ t″ → Onward s t s″ t″
 onward-trans f g = record {
   digits = g .digits ∙ f .digits;
+  depth = g .depth ∙ f .depth;
   attached = λ x a. g .attached x (f .attached x a);
   ids = λ x a. g .ids x (f .attached x a) ∙ f .ids x a;
   grows = λ x a. grows-trans (f .grows x a) (g .grows x (f .attached x a));
@@ -47,6 +49,7 @@ onward-trans f g = record {
 pub later-onward : {s t s′ t′ : List ℕ} → Later s s′ → ((x : ℕ) → Attached s x → Grows (tableOf t x) (tableOf t′ x)) → Onward s t s′ t′
 later-onward l g = record {
   digits = l .digits;
+  depth = l .depth;
   attached = λ x a. record { node = l .stays x (a .node) (a .status); status = l .attached x (a .node) (a .status) };
   ids = λ x a. l .ids x (a .node) (l .stays x (a .node) (a .status));
   grows = g;

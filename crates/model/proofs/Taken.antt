@@ -13,6 +13,7 @@ use Rattle.model.specs.Memory.{Memory, stateLength, tablesLength, nodeCo
 use Rattle.model.specs.Nodes.{isNode}
 use Rattle.model.specs.Sound.{sound}
 use Rattle.model.specs.Image.{imNodes, imBase, imDigits, imDepth, imRecords, imId, imIdValid, imIdDiffers, imIdNew, imIsNode, recNode, recNeighbor, recNodesGood, recOrdered, recAllowed, recOwnerFirst, ownHaveRecords, ownPresent, recordsOwned, imageOf}
+use Rattle.model.specs.Lookup.{endFailed}
 use Rattle.model.specs.Refusals.{Sentence, firstTrue, memoryShort, unsound, hasId, idTaken, areNodes, someNotInSystem, stateSentences, foundRefusal, readRefusal, stateRefusal, beginRefusal, withdrawRefusal, deliverRefusal, lookupRefusal, verdictRefusal, writeRefusal}
 use Rattle.model.proofs.Bools.{and-left, and-right, and-intro, or-none-left, or-none-right}
 use Rattle.model.proofs.Refusals.{numbered, testOf, passed, skipped, free, sentence-none}
@@ -87,7 +88,7 @@ module _ (m : Memory) where
       let p = passed _ refl e in
       (sound-past m (p 1) (p 2), eqb-true x (nodeCount s) (not-false _ (p 19)), p 20)
 
-  both-nodes : (x y : ℕ) → not (areNodes s x y) ≡ false → IsNode s x × IsNode s y
+  pub both-nodes : (x y : ℕ) → not (areNodes s x y) ≡ false → IsNode s x × IsNode s y
   both-nodes x y e =
       let a = not-false (areNodes s x y) e in
       (is-node s x (and-left (isNode s x) (isNode s y) a), is-node s y (and-right (isNode s x) (isNode s y) a))
@@ -99,12 +100,12 @@ module _ (m : Memory) where
       let n = both-nodes x y (p 9) in
       (sound-past m (p 1) (p 2), record { sender = n .0; receiver = n .1; requested = not-false _ (p 13); free = p 14 })
 
-  pub lookup-taken : (u z : ℕ) → lookupRefusal m u z ≡ 0 → Sound s t × IsNode s u × IsNode s z
+  pub lookup-taken : (u z failed : ℕ) → lookupRefusal m u z failed ≡ 0 → Sound s t × IsNode s u × IsNode s z × (endFailed failed u z ≡ false)
   unfolding lookupRefusal numbered testOf
-  lookup-taken u z e =
+  lookup-taken u z failed e =
       let p = passed _ refl e in
       let n = both-nodes u z (p 9) in
-      (sound-past m (p 1) (p 2), n .0, n .1)
+      (sound-past m (p 1) (p 2), n .0, n .1, p 21)
 
   -- 15: every node is in system
   all-in-system : someNotInSystem s ≡ false → (x : ℕ) → IsNode s x → isInSystem s x ≡ true
@@ -176,11 +177,13 @@ pub sound-free : (m : Memory) → Sound (m .state) (m .tables) → stateRefusal 
 unfolding stateRefusal
 sound-free m S = state-free m [] S (sym sentence-none)
 
-pub lookup-free : (m : Memory) (u z : ℕ) → Sound (m .state) (m .tables) → IsNode (m .state) u → IsNode (m .state) z → lookupRefusal m u z ≡ 0
+pub lookup-free : (m : Memory) (u z failed : ℕ) → Sound (m .state) (m .tables) → IsNode (m .state) u → IsNode (m .state) z → endFailed failed u z ≡ false
+    → lookupRefusal m u z failed ≡ 0
 unfolding lookupRefusal
-lookup-free m u z S nu nz =
+lookup-free m u z failed S nu nz left =
     state-free m _ S
-    (free (not (areNodes (m .state) u z)) 9 [] (ap not (and-intro _ _ (is-node-of (m .state) u nu) (is-node-of (m .state) z nz))) (sym sentence-none))
+    (free (not (areNodes (m .state) u z)) 9 _ (ap not (and-intro _ _ (is-node-of (m .state) u nu) (is-node-of (m .state) z nz)))
+    (free _ 21 [] left (sym sentence-none)))
 
 pub begin-free : (m : Memory) (id gateway : ℕ) → Sound (m .state) (m .tables) → CanBegin (m .state) id gateway → beginRefusal m id gateway ≡ 0
 unfolding beginRefusal

@@ -73,15 +73,15 @@ abbrev pub lookupFields : Lookup → List ℕ
 lookupFields r = r .arrived ∷ r .hops ∷ r .last ∷ []
 
 -- answer: the refusal, 1 for arrived or 0 for lost, the hops and the last node
-unfoldable pub lookupCall : Memory → ℕ → ℕ → Outcome
-lookupCall m u z =
-    unlessRefused (lookupRefusal m u z) (refused m [] 3)
-    (taken m [] (lookupFields (lookup (m .state) (m .tables) u z)))
+unfoldable pub lookupCall : Memory → ℕ → ℕ → ℕ → Outcome
+lookupCall m u z failed =
+    unlessRefused (lookupRefusal m u z failed) (refused m [] 3)
+    (taken m [] (lookupFields (lookup (m .state) (m .tables) failed u z)))
 
 -- answer: the refusal, how many pairs arrive in 1 to 8 hops, and how many are lost
-unfoldable pub surveyCall : Memory → Outcome
-surveyCall m =
-    unlessRefused (stateRefusal m) (refused m [] 9) (taken m [] (surveyCounts (m .state) (m .tables)))
+unfoldable pub surveyCall : Memory → ℕ → Outcome
+surveyCall m failed =
+    unlessRefused (stateRefusal m) (refused m [] 9) (taken m [] (surveyCounts (m .state) (m .tables) failed))
 
 abbrev pub verdictFields : Verdict → List ℕ
 verdictFields r = r .consistent ∷ r .node ∷ r .level ∷ r .digit ∷ []

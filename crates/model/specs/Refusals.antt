@@ -1,4 +1,4 @@
--- The refusals: document 01, "What a call declines", and document 02, Tickets 2 and 5. Each call has its own sentences, in the papers' order.
+-- The refusals: document 01, "What a call declines", and document 02, Tickets 2, 5 and 6. Each call has its own sentences, in the papers' order.
 use Prim.Native.Nat.{ℕ, _+_}
 use mathlib.Core.Bool.{Bool, cond, not, _&&_, _||_}
 use mathlib.Core.List.{List, [], _∷_, _++_}
@@ -10,6 +10,7 @@ use Rattle.model.specs.Memory.{Memory, stateLength, tablesLength, base, 
 use Rattle.model.specs.Nodes.{isNode, allNodes, anyNode}
 use Rattle.model.specs.Sound.{sound}
 use Rattle.model.specs.Join.{outstanding}
+use Rattle.model.specs.Lookup.{endFailed}
 use Rattle.model.specs.Image.{byteAt, imBase, imDigits, imDepth, imNodes, imRecords, lengthRight, imIdValid, imIdNew, recNodesGood}
 use Rattle.model.specs.Image.{recOrdered, recAllowed, recOwnerFirst, recordsOrdered, recordsAllowed, ownPresent, recordsOwned, imageOf}
 
@@ -145,11 +146,12 @@ deliverSentences s x y =
 unfoldable pub deliverRefusal : Memory → ℕ → ℕ → ℕ
 deliverRefusal m x y = firstTrue (stateSentences m ++ deliverSentences (m .state) x y)
 
-abbrev pub lookupSentences : List ℕ → ℕ → ℕ → List Sentence
-lookupSentences s u z = (not (areNodes s u z), 9) ∷ []
+-- 9, one of the two is no node; 21, one of the two has failed
+abbrev pub lookupSentences : List ℕ → ℕ → ℕ → ℕ → List Sentence
+lookupSentences s u z failed = (not (areNodes s u z), 9) ∷ (endFailed failed u z, 21) ∷ []
 
-unfoldable pub lookupRefusal : Memory → ℕ → ℕ → ℕ
-lookupRefusal m u z = firstTrue (stateSentences m ++ lookupSentences (m .state) u z)
+unfoldable pub lookupRefusal : Memory → ℕ → ℕ → ℕ → ℕ
+lookupRefusal m u z failed = firstTrue (stateSentences m ++ lookupSentences (m .state) u z failed)
 
 abbrev pub verdictSentences : List ℕ → List Sentence
 verdictSentences s = (someNotInSystem s, 15) ∷ []

@@ -21,9 +21,10 @@ pub data Call : Type 0 where
   withdraw : ℕ → Call
   -- sender, receiver
   deliver : ℕ → ℕ → Call
-  -- from, to
-  lookup : ℕ → ℕ → Call
-  survey : Call
+  -- from, to, the set of failed nodes
+  lookup : ℕ → ℕ → ℕ → Call
+  -- the set of failed nodes
+  survey : ℕ → Call
   verdict : Call
   -- the memory for output
   write : List ℕ → Call
@@ -36,8 +37,8 @@ step m (read im) = readCall m im
 step m (begin id gateway) = beginCall m id gateway
 step m (withdraw x) = withdrawCall m x
 step m (deliver x y) = deliverCall m x y
-step m (lookup u z) = lookupCall m u z
-step m survey = surveyCall m
+step m (lookup u z failed) = lookupCall m u z failed
+step m (survey failed) = surveyCall m failed
 step m verdict = verdictCall m
 step m (write out) = writeCall m out
 step m sound = soundCall m
@@ -71,8 +72,8 @@ isStart (read im) = true
 isStart (begin id gateway) = false
 isStart (withdraw x) = false
 isStart (deliver x y) = false
-isStart (lookup u z) = false
-isStart survey = false
+isStart (lookup u z failed) = false
+isStart (survey failed) = false
 isStart verdict = false
 isStart (write out) = false
 isStart sound = false
@@ -100,8 +101,8 @@ tallied first counts x (read im) answer n = n
 tallied first counts x (begin id gateway) answer n = cond (eqb (getD answer 1 0) x) first n
 tallied first counts x (withdraw y) answer n = n
 tallied first counts x (deliver y z) answer n = cond (eqb y x && counts (getD answer 1 0)) (n + 1) n
-tallied first counts x (lookup u z) answer n = n
-tallied first counts x survey answer n = n
+tallied first counts x (lookup u z failed) answer n = n
+tallied first counts x (survey failed) answer n = n
 tallied first counts x verdict answer n = n
 tallied first counts x (write out) answer n = n
 tallied first counts x sound answer n = n
