@@ -17,7 +17,7 @@ use Rattle.model.specs.Image.{idBytes, entryRecords, levelRecords, nodeR
 use Rattle.model.proofs.Loops.{all-same, count-same, sum-same, first-same, join-same, first-fails}
 use Rattle.model.proofs.Status.{IsNode}
 use Rattle.model.proofs.Sound.{Sound}
-use Rattle.model.proofs.NextHop.{Agree, front-alike, entry-hop}
+use Rattle.model.proofs.NextHop.{Agreeing, front-alike, entry-hop}
 use Rattle.model.proofs.Lookup.{Step, arrives, loses, hops, step-of, arrives-path, loses-path, hops-path, hop-node}
 use Rattle.model.proofs.Alike as same
 use Rattle.model.proofs.Alike.{LongAlike, base-same, digits-same, depth-same, id-same, alike-to, suffix-alike, table-same}
@@ -47,7 +47,7 @@ module _ (s t s′ t′ : List ℕ) (L : LongAlike s t s′ t′) (S : Sound s t
 
   -- ---- lookup and survey, with sets of failed nodes that say the same of every node
 
-  module _ (failed failed′ : ℕ) (agree : Agree s failed failed′) where
+  module _ (failed failed′ : ℕ) (agree : Agreeing s failed failed′) where
     module _ (z : ℕ) (nz : IsNode s z) where
       entry-alike : (u : ℕ) → IsNode s u → hopEntry s′ t′ u z ≡ hopEntry s t u z
       unfolding hopEntry

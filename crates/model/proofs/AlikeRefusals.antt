@@ -17,7 +17,7 @@ use Rattle.model.proofs.Memory.{same-status, same-target, same-pending}
 use Rattle.model.proofs.Status.{IsNode, is-node, in-system-same, attached-same}
 use Rattle.model.proofs.Sound.{Sound, sound-ok}
 use Rattle.model.proofs.Taken.{long-of, both-nodes}
-use Rattle.model.proofs.NextHop.{Agree}
+use Rattle.model.proofs.NextHop.{Agreeing}
 use Rattle.model.proofs.Alike.{Alike, LongAlike, base-same, digits-same, count-same, id-same, record-same, short-same, sound-same}
 use Rattle.model.proofs.AlikeLooking.{nodes-same, image-same}
 
@@ -146,7 +146,7 @@ module _ (m m′ : Memory) (a : Alike (m .state) (m .tables) (m′ .state) (m′
       deliver-judged s s′ x y (are-nodes-same S x y)
       (λ e. let n = nodes-there S x y e in (record-same s s′ (a .state) x (n .0), in-system-there S y (n .1))))
 
-  pub lookup-same : (u z failed failed′ : ℕ) → Agree s failed failed′ → lookupRefusal m′ u z failed′ ≡ lookupRefusal m u z failed
+  pub lookup-same : (u z failed failed′ : ℕ) → Agreeing s failed failed′ → lookupRefusal m′ u z failed′ ≡ lookupRefusal m u z failed
   unfolding lookupRefusal
   lookup-same u z failed failed′ agree =
       past-sound (lookupSentences s u z failed) (lookupSentences s′ u z failed′)

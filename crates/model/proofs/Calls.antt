@@ -72,3 +72,11 @@ unfolding refusedAt taken
 not-taken-same m n out fields m₁ out₁ fields₁ =
     either-end (λ (o : Outcome). isTaken (o .answer) ≡ false → o .memory ≡ m) n (refusedAt m out fields) (taken m₁ out₁ fields₁)
     (λ nz e. refl) (λ z e. absurd (true≢false e))
+
+-- two calls that are refused alike, and where they are taken leave the same, are one
+pub unless-same : (n n′ : ℕ) (declined : ℕ → Outcome) (done done′ : Outcome) → n′ ≡ n → (n ≡ 0 → done′ ≡ done)
+    → unlessRefused n′ declined done′ ≡ unlessRefused n declined done
+unless-same n n′ declined done done′ e same =
+    ap (λ (n : ℕ). unlessRefused n declined done′) e
+    ∙ either-end (λ (o : Outcome). unlessRefused n declined done′ ≡ o) n declined done (refused-is n declined done′)
+    (λ z. taken-is n declined done′ z ∙ same z)

@@ -11,17 +11,19 @@ use lib.ListN.{length, getD, List·getD-eq-default}
 use borrow.Author.Tests.{not-true, not-false}
 use Rattle.model.specs.Loops.{firstBelow}
 use Rattle.model.specs.Ids.{digitOf}
-use Rattle.model.specs.Memory.{base, digits, idOf, hasNode}
+use Rattle.model.specs.Memory.{base, digits, depth, idOf, hasNode, tableOf}
+use Rattle.model.specs.Tables.{firstOf}
 use Rattle.model.specs.Nodes.{suffixOf, qualifies}
 use Rattle.model.specs.Lookup.{hopEntry, NextHop, frontmost, nextHop}
 use Rattle.model.specs.Consistency.{neighbors}
 use Rattle.model.proofs.Ids.{next-hop, valid-digit, qualified-of}
 use Rattle.model.proofs.Loops.{first-le, first-before, first-holds, first-unique, first-same}
 use Rattle.model.proofs.Sets.{has-none}
+use Rattle.model.proofs.Tables.{entry-first}
 use Rattle.model.proofs.Status.{IsNode}
 use Rattle.model.proofs.Sound.{Sound}
 use Rattle.model.proofs.SoundNodes.{suffix-below}
-use Rattle.model.proofs.SoundEntries.{entry-node, entry-qualifies}
+use Rattle.model.proofs.SoundEntries.{entry-fits, entry-node, entry-qualifies}
 
 -- ---- the frontmost of some nodes
 
@@ -84,8 +86,8 @@ front-behind failed E E′ longer same some =
     ∙ ap (λ (v : ℕ). record { node = v; passedOver = k }) is
 
 -- two sets say the same of every node
-abbrev pub Agree : List ℕ → ℕ → ℕ → Type 0
-Agree s failed failed′ = (x : ℕ) → IsNode s x → hasNode failed′ x ≡ hasNode failed x
+abbrev pub Agreeing : List ℕ → ℕ → ℕ → Type 0
+Agreeing s failed failed′ = (x : ℕ) → IsNode s x → hasNode failed′ x ≡ hasNode failed x
 
 -- sets that say the same of some nodes have the same frontmost
 pub front-alike : (failed failed′ : ℕ) (E : List ℕ)
@@ -146,3 +148,10 @@ module _ (s t : List ℕ) (S : Sound s t) (u z : ℕ) (nu : IsNode s u) (nz : Is
     hop-none e k h =
         let all = front-none failed (hopEntry s t u z) (λ k h q. omega (arith, entry-hop k h .0 .low)) e in
         front-passed failed (hopEntry s t u z) k (omega arith)
+
+  -- where none has failed the next hop is the first of the entry
+  pub hop-first : nextHop s t 0 u z .node ≡ firstOf (tableOf t u) (suffixOf s u z) (digitOf (idOf s z) (suffixOf s u z))
+  unfolding nextHop hopEntry
+  hop-first =
+      front-first (hopEntry s t u z)
+      ∙ entry-first (depth s) (tableOf t u) level digit (entry-fits s t S u level digit nu level-below digit-below) (S .settings .depth-least)

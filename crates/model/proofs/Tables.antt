@@ -1,7 +1,7 @@
 -- Laws of an entry of a table: how many stand in it, what appending adds, and that appending changes no other place. T is the table of
 -- one node, K at most 4. Assumes nothing.
 use Prim.Native.Nat.{ℕ, suc, _+_, _≤_, _<_}
-use mathlib.Core.Path.{_≡_, refl, sym, ap, _∙_}
+use mathlib.Core.Path.{_≡_, refl, sym, ap, subst, _∙_}
 use mathlib.Core.Logic.{_≢_}
 use mathlib.Core.Bool.{false}
 use mathlib.Core.List.{List, [], _∷_, _++_}
@@ -9,10 +9,10 @@ use native.Mathlib.Decide.{decLt, le-ind}
 use native.Mathlib.Numerals.{add-one}
 use native.Mathlib.Omega.{arith}
 use lib.Dec.{eqb}
-use lib.ListN.{length, getD, set, take, drop, length-set, length-drop}
+use lib.ListN.{length, getD, set, take, drop, length-set, length-drop, List·getD-eq-default}
 use lib.Seq.{ext-getD, getD-set-same, getD-set-other, drop-set-add, take-suc-set}
 use borrow.Author.Tests.{eqb-true, eqb-false, eq-eqb, ne-eqb}
-use Rattle.model.specs.Tables.{slotPlace, slotAt, slotIs, entrySize, entry, holds, append}
+use Rattle.model.specs.Tables.{slotPlace, slotAt, slotIs, firstOf, entrySize, entry, holds, append}
 use Rattle.model.proofs.Splice.{part-length, part-at}
 use Rattle.model.proofs.Loops.{first-le, first-before, first-holds, first-unique, first-min, first-same, any-at, any-false, le-of-not-lt}
 
@@ -77,6 +77,17 @@ module _ (K : ℕ) (T : List ℕ) (i j : ℕ) (fits : slotPlace i j K ≤ length
   entry-at k h =
       let w : slotPlace i j 0 + k ≡ slotPlace i j k = omega arith in
       part-at (slotPlace i j 0) (entrySize K T i j) T (omega (arith, size-le K T i j)) k h ∙ ap (λ (p : ℕ). getD T p 0) w
+
+  -- its first node is what stands in slot 0
+  pub entry-first : 1 ≤ K → getD (entry K T i j) 0 0 ≡ firstOf T i j
+  entry-first some = go (decLt 0 (entrySize K T i j))
+    where
+      go : Dec (0 < entrySize K T i j) → getD (entry K T i j) 0 0 ≡ firstOf T i j
+      go (yes l) = entry-at 0 l
+      go (no g) =
+          let e : entrySize K T i j ≡ 0 = omega arith in
+          List·getD-eq-default (entry K T i j) 0 (omega (arith, entry-length))
+          ∙ sym (subst (λ (n : ℕ). slotAt T i j n ≡ 0) e (size-empty K T i j (omega arith)))
 
 -- an entry whose first slot is empty has none
 pub entry-none : (K : ℕ) (T : List ℕ) (i j : ℕ) → slotAt T i j 0 ≡ 0 → entry K T i j ≡ []

@@ -40,8 +40,8 @@ number m (read im) = readRefusal m im
 number m (begin id gateway) = beginRefusal m id gateway
 number m (withdraw x) = withdrawRefusal m x
 number m (deliver x y) = deliverRefusal m x y
-number m (lookup u z) = lookupRefusal m u z
-number m survey = stateRefusal m
+number m (lookup u z failed) = lookupRefusal m u z failed
+number m (survey failed) = stateRefusal m
 number m verdict = verdictRefusal m
 number m (write out) = writeRefusal m out
 number m sound = stateRefusal m
@@ -53,8 +53,8 @@ others (read im) n = recordPlace im n ∷ []
 others (begin id gateway) n = replicate 1 0
 others (withdraw x) n = []
 others (deliver x y) n = replicate 3 0
-others (lookup u z) n = replicate 3 0
-others survey n = replicate 9 0
+others (lookup u z failed) n = replicate 3 0
+others (survey failed) n = replicate 9 0
 others verdict n = replicate 4 0
 others (write out) n = replicate 1 0
 others sound n = []
@@ -74,8 +74,8 @@ work m (withdraw x) = record { memory = withdrawn (m .state) (m .tables); out = 
 work m (deliver x y) =
     let r = delivery (m .state) (m .tables) x y in
     record { memory = delivered (m .state) (m .tables) x y r; out = []; fields = deliveryFields r }
-work m (lookup u z) = record { memory = m; out = []; fields = lookupFields (routing.lookup (m .state) (m .tables) u z) }
-work m survey = record { memory = m; out = []; fields = surveyCounts (m .state) (m .tables) }
+work m (lookup u z failed) = record { memory = m; out = []; fields = lookupFields (routing.lookup (m .state) (m .tables) failed u z) }
+work m (survey failed) = record { memory = m; out = []; fields = surveyCounts (m .state) (m .tables) failed }
 work m verdict = record { memory = m; out = []; fields = verdictFields (consistency.verdict (m .state) (m .tables)) }
 work m (write out) =
     let im = imageOf (m .state) (m .tables) in
@@ -92,8 +92,8 @@ step-is m (read im) = refl
 step-is m (begin id gateway) = refl
 step-is m (withdraw x) = refl
 step-is m (deliver x y) = refl
-step-is m (lookup u z) = refl
-step-is m survey = refl
+step-is m (lookup u z failed) = refl
+step-is m (survey failed) = refl
 step-is m verdict = refl
 step-is m (write out) = refl
 step-is m sound = refl
@@ -124,8 +124,8 @@ others-carried (read im) n k = refl
 others-carried (begin id gateway) n k = zeros 1 k
 others-carried (withdraw x) n k = refl
 others-carried (deliver x y) n k = zeros 3 k
-others-carried (lookup u z) n k = zeros 3 k
-others-carried survey n k = zeros 9 k
+others-carried (lookup u z failed) n k = zeros 3 k
+others-carried (survey failed) n k = zeros 9 k
 others-carried verdict n k = zeros 4 k
 others-carried (write out) n k = zeros 1 k
 others-carried sound n k = refl
@@ -187,8 +187,8 @@ work-past m (withdraw x) z = works-past m _ _ (withdraws m x z) (withdraw-taken 
 work-past m (deliver x y) z =
     let k = deliver-taken m x y z in
     works-past m _ _ (deliver-works (m .state) (m .tables) (k .0) x y (k .1)) (k .0 .long)
-work-past m (lookup u v) z = refl
-work-past m survey z = refl
+work-past m (lookup u v failed) z = refl
+work-past m (survey failed) z = refl
 work-past m verdict z = refl
 work-past m (write out) z = refl
 work-past m sound z = refl
@@ -227,8 +227,8 @@ module _ (m m′ : Memory) (e : fixed m′ ≡ fixed m) where
   number-same (begin id gateway) = alike.begin-same m m′ a id gateway
   number-same (withdraw x) = alike.withdraw-same m m′ a x
   number-same (deliver x y) = alike.deliver-same m m′ a x y
-  number-same (lookup u z) = alike.lookup-same m m′ a u z
-  number-same survey = alike.state-same m m′ a
+  number-same (lookup u z failed) = alike.lookup-same m m′ a u z failed failed (λ x n. refl)
+  number-same (survey failed) = alike.state-same m m′ a
   number-same verdict = alike.verdict-same m m′ a
   number-same (write out) = alike.write-same m m′ a out
   number-same sound = alike.state-same m m′ a
@@ -292,12 +292,12 @@ module _ (m m′ : Memory) (e : fixed m′ ≡ fixed m) where
             ap (λ (r : Delivery). fixed (delivered s′ t′ x y r)) d
             ∙ works-front _ _ (deliver-works s t (k .0) x y (k .1)) (k .0 .long);
       }
-  work-same (lookup u v) z =
-      let k = lookup-taken m u v z in
-      looks _ _ (ap lookupFields (looking.lookup-same s t s′ t′ (both (k .0 .long)) (k .0) v (k .2) u (k .1)))
-  work-same survey z =
+  work-same (lookup u v failed) z =
+      let k = lookup-taken m u v failed z in
+      looks _ _ (ap lookupFields (looking.lookup-same s t s′ t′ (both (k .0 .long)) (k .0) failed failed (λ x n. refl) v (k .2) u (k .1)))
+  work-same (survey failed) z =
       let S = state-taken m z in
-      looks _ _ (looking.survey-same s t s′ t′ (both (S .long)) S)
+      looks _ _ (looking.survey-same s t s′ t′ (both (S .long)) S failed failed (λ x n. refl))
   work-same verdict z =
       let k = verdict-taken m z in
       looks _ _ (ap verdictFields (looking.verdict-same s t s′ t′ (both (k .0 .long)) (k .0)))

@@ -38,8 +38,8 @@ module _ (m : Memory) (e : isTaken (verdictCall m .answer) ≡ true) where
   unfolding verdictCall
   free = taken-zero m (verdictRefusal m) [] _ _ e
 
-  S : Sound s t
-  S = verdict-taken m free .0
+  pub verdict-sound : Sound s t
+  verdict-sound = verdict-taken m free .0
 
   -- every node is in system
   pub settled : (x : ℕ) → IsNode s x → isInSystem s x ≡ true
@@ -74,13 +74,13 @@ module _ (m : Memory) (e : isTaken (verdictCall m .answer) ≡ true) where
     node = is-node-of s x (w .node);
     level = w .level;
     digit = w .digit;
-    few = entry-fewer s t S x i j (w .node) (w .level) (w .digit) (w .short);
+    few = entry-fewer s t verdict-sound x i j (w .node) (w .level) (w .digit) (w .short);
   }
 
   of-short : {x i j : ℕ} → Short m x i j → NotWhole s t x i j
   of-short {x} {i} {j} w =
       let n = is-node s x (w .node) in
-      record { node = n; level = w .level; digit = w .digit; short = fewer-entry s t S x i j n (w .level) (w .digit) (w .few) }
+      record { node = n; level = w .level; digit = w .digit; short = fewer-entry s t verdict-sound x i j n (w .level) (w .digit) (w .few) }
 
   abbrev v : Verdict
   v = firstShort (m .state) (m .tables)
@@ -97,8 +97,8 @@ module _ (m : Memory) (e : isTaken (verdictCall m .answer) ≡ true) where
 
   verdicts : VerdictIs m
   verdicts = record {
-    yes = λ p. consistent-is s t S (says-yes p);
-    whole = λ k. yes-says (is-consistent s t S k);
+    yes = λ p. consistent-is s t verdict-sound (says-yes p);
+    whole = λ k. yes-says (is-consistent s t verdict-sound k);
     no =
         λ p.
         let f = says-no p in

@@ -1,4 +1,4 @@
--- The three demands, the total of a survey, what reading says of records, and what a withdrawal undoes and leaves alone, proved.
+-- The three demands, the total of a survey, what reading says of records, what a withdrawal undoes and leaves alone, and lookups around failed nodes, proved.
 pub mod Demand1
 pub mod Demand2
 -- ---- demand 3: each step, any list of them, the claim
@@ -6,7 +6,9 @@ pub mod Steps
 pub mod Run
 pub mod RunCounts
 pub mod Promise
--- ---- the total of a survey; what reading says of records; withdrawals
+-- ---- the total of a survey; what reading says of records; withdrawals; failed nodes
 pub mod Survey
 pub mod Records
 pub mod Withdrawals
+pub mod Failures
+pub mod NoneFailed

@@ -5,14 +5,14 @@ use mathlib.Core.Bool.{true, false, not, false≢true}
 use mathlib.Core.List.{List, [], _∷_, _++_}
 use native.Mathlib.Omega.{arith}
 use lib.ListN.{getD}
-use Rattle.model.specs.Memory.{Memory, digits, nodeOf}
+use Rattle.model.specs.Memory.{Memory, digits, nodeOf, hasNode}
 use Rattle.model.specs.Lookup as book
-use Rattle.model.specs.Lookup.{Lookup, veryHops}
+use Rattle.model.specs.Lookup.{Lookup, veryHops, endFailed}
 use Rattle.model.specs.Consistency.{consistent}
 use Rattle.model.specs.Refusals.{foundRefusal, readRefusal, lookupRefusal}
 use Rattle.model.specs.Calls.{Outcome, refused, taken, lookupFields, foundCall, readCall, lookupCall}
 use Rattle.model.specs.Run.{Call, found, read, begin, withdraw, deliver, lookup, survey, verdict, write, sound, step, after, play, history, isTaken, starts, goesOn, isRun, tallyFrom, sent}
-use Rattle.model.proofs.Bools.{and-left, and-right, and-intro}
+use Rattle.model.proofs.Bools.{and-left, and-right, and-intro, or-none-right}
 use Rattle.model.proofs.Status.{IsNode, is-node}
 use Rattle.model.proofs.NodeCounts.{Fresh}
 use Rattle.model.proofs.Sound.{Sound}
@@ -69,8 +69,8 @@ module _ (m : Memory) where
   started (begin id g) e = absurd (false≢true e)
   started (withdraw x) e = absurd (false≢true e)
   started (deliver x y) e = absurd (false≢true e)
-  started (lookup u z) e = absurd (false≢true e)
-  started survey e = absurd (false≢true e)
+  started (lookup u z failed) e = absurd (false≢true e)
+  started (survey failed) e = absurd (false≢true e)
   started verdict e = absurd (false≢true e)
   started (write out) e = absurd (false≢true e)
   started sound e = absurd (false≢true e)
@@ -96,7 +96,7 @@ module _ (m : Memory) (c : Call) (start : starts m c ≡ true) (k : Count) (K : 
 
 -- ---- a verdict that says yes
 
-passes-whole : (m : Memory) → Passes m → consistent (m .state) (m .tables) ≡ true
+pub passes-whole : (m : Memory) → Passes m → consistent (m .state) (m .tables) ≡ true
 passes-whole m p = says-yes m (p .taken) (p .yes)
 
 -- ---- lists of calls
@@ -130,33 +130,36 @@ requests-bound m c start cs on x =
       run-tally m c start requestCount requests-kept x 0 cs,
     )
 
-module _ (m : Memory) (S : Sound (m .state) (m .tables)) (u z : ℕ) (nu : IsNode (m .state) u) (nz : IsNode (m .state) z) where
-  lookup-answer : lookupCall m u z .answer ≡ 0 ∷ lookupFields (book.lookup (m .state) (m .tables) u z)
+module _ (m : Memory) (S : Sound (m .state) (m .tables)) (u z failed : ℕ) (nu : IsNode (m .state) u) (nz : IsNode (m .state) z)
+    (left : endFailed failed u z ≡ false) where
+  pub lookup-answer : lookupCall m u z failed .answer ≡ 0 ∷ lookupFields (book.lookup (m .state) (m .tables) failed u z)
   unfolding lookupCall taken
   lookup-answer =
-      ap (λ (o : Outcome). o .answer) (taken-is (lookupRefusal m u z) (refused m [] 3) _ (lookup-free m u z S nu nz))
+      ap (λ (o : Outcome). o .answer) (taken-is (lookupRefusal m u z failed) (refused m [] 3) _ (lookup-free m u z failed S nu nz left))
 
-  lookup-bound : (isTaken (lookupCall m u z .answer) ≡ true)
-      × (getD (lookupCall m u z .answer) 2 0 ≤ digits (m .state) - alreadyMatched m u z)
+  lookup-bound : (isTaken (lookupCall m u z failed .answer) ≡ true)
+      × (getD (lookupCall m u z failed .answer) 2 0 ≤ digits (m .state) - alreadyMatched m u z)
   lookup-bound = (
     ap isTaken lookup-answer,
-    omega (arith, ap (λ (l : List ℕ). getD l 2 0) lookup-answer, hops-bound (m .state) (m .tables) S z nz u nu),
+    omega (arith, ap (λ (l : List ℕ). getD l 2 0) lookup-answer, hops-bound (m .state) (m .tables) S failed z nz u nu),
   )
 
 -- from a point where the network passes to any later one
 lookups-stay : (m m′ : Memory) → Sound (m .state) (m .tables) → Sound (m′ .state) (m′ .tables)
-    → Onward (m .state) (m .tables) (m′ .state) (m′ .tables) → Passes m → (u z : ℕ) → NodeIn m u → NodeIn m z
-    → (veryHops (m′ .state) (m′ .tables) u z ≡ veryHops (m .state) (m .tables) u z) × (lookupCall m′ u z .answer ≡ lookupCall m u z .answer)
-lookups-stay m m′ S S′ on p u z a b =
+    → Onward (m .state) (m .tables) (m′ .state) (m′ .tables) → Passes m → (u z failed : ℕ) → NodeIn m u → NodeIn m z → endFailed failed u z ≡ false
+    → (veryHops (m′ .state) (m′ .tables) failed u z ≡ veryHops (m .state) (m .tables) failed u z)
+    × (lookupCall m′ u z failed .answer ≡ lookupCall m u z failed .answer)
+lookups-stay m m′ S S′ on p u z failed a b left =
     let nu = is-node (m .state) u a in
     let nz = is-node (m .state) z b in
     let all = settled m (p .taken) in
+    let to = or-none-right (hasNode failed u) (hasNode failed z) left in
     let whole = passes-whole m p in (
-      same-hops (m .state) (m .tables) (m′ .state) (m′ .tables) S S′ on all whole z nz u nu,
-      lookup-answer m′ S′ u z (still-node (m .state) (m .tables) (m′ .state) (m′ .tables) S S′ on all u nu)
-          (still-node (m .state) (m .tables) (m′ .state) (m′ .tables) S S′ on all z nz)
-          ∙ ap (λ (r : Lookup). 0 ∷ lookupFields r) (same-lookup (m .state) (m .tables) (m′ .state) (m′ .tables) S S′ on all whole z nz u nu)
-          ∙ sym (lookup-answer m S u z nu nz),
+      same-hops (m .state) (m .tables) (m′ .state) (m′ .tables) S S′ on all whole failed z nz to u nu,
+      lookup-answer m′ S′ u z failed (still-node (m .state) (m .tables) (m′ .state) (m′ .tables) S S′ on all u nu)
+          (still-node (m .state) (m .tables) (m′ .state) (m′ .tables) S S′ on all z nz) left
+          ∙ ap (λ (r : Lookup). 0 ∷ lookupFields r) (same-lookup (m .state) (m .tables) (m′ .state) (m′ .tables) S S′ on all whole failed z nz to u nu)
+          ∙ sym (lookup-answer m S u z failed nu nz left),
     )
 
 -- ---- the theorem
@@ -182,7 +185,7 @@ promise m c cs run =
           let n = is-node (M .state) x a in
           (counted m c start requestCount requests-kept cs on x n, counted m c start noticeCount notices-kept cs on x n);
       fresh = λ x a. started m c start .fresh x (is-node (after m c .state) x a);
-      lookups = λ u z a b. lookup-bound M (G .sound) u z (is-node (M .state) u a) (is-node (M .state) z b);
+      lookups = λ u z failed a b left. lookup-bound M (G .sound) u z failed (is-node (M .state) u a) (is-node (M .state) z b) left;
       unchanged =
           λ early late e.
           let on′ : goesOn (after m c) (early ++ late) ≡ true = subst (λ (cs : List Call). goesOn (after m c) cs ≡ true) e on in
@@ -191,9 +194,9 @@ promise m c cs run =
           let w : play (after m c) cs ≡ play (play (after m c) early) late = ap (play (after m c)) e ∙ play-append (after m c) early late in
           subst
           (λ (M : Memory).
-          Passes (play (after m c) early) → (u z : ℕ) → NodeIn (play (after m c) early) u → NodeIn (play (after m c) early) z
-          → (veryHops (M .state) (M .tables) u z ≡ veryHops (play (after m c) early .state) (play (after m c) early .tables) u z)
-          × (lookupCall M u z .answer ≡ lookupCall (play (after m c) early) u z .answer))
+          Passes (play (after m c) early) → (u z failed : ℕ) → NodeIn (play (after m c) early) u → NodeIn (play (after m c) early) z → endFailed failed u z ≡ false
+          → (veryHops (M .state) (M .tables) failed u z ≡ veryHops (play (after m c) early .state) (play (after m c) early .tables) failed u z)
+          × (lookupCall M u z failed .answer ≡ lookupCall (play (after m c) early) u z failed .answer))
           (sym w)
           (lookups-stay (play (after m c) early) (play (play (after m c) early) late) (E .sound) (L .sound) (L .onward));
     }

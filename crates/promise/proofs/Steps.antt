@@ -67,8 +67,8 @@ module _ (m : Memory) where
       go : Dec (deliverRefusal m x y ≡ 0) → Effect m (deliver x y)
       go (yes e) = delivers x y refl e
       go (no nz) = refused-still m (deliver x y) [] _ _ _ nz refl
-  effect (lookup u z) f = still (looks-on m _ [] _ [] _) (looks (λ p q x a n. refl))
-  effect survey f = still (looks-on m _ [] _ [] _) (looks (λ p q x a n. refl))
+  effect (lookup u z failed) f = still (looks-on m _ [] _ [] _) (looks (λ p q x a n. refl))
+  effect (survey failed) f = still (looks-on m _ [] _ [] _) (looks (λ p q x a n. refl))
   effect verdict f = still (looks-on m _ [] _ [] _) (looks (λ p q x a n. refl))
   effect (write out) f = still (looks-on m _ out _ _ _) (looks (λ p q x a n. refl))
   effect sound f = still (looks-on m _ [] _ [] _) (looks (λ p q x a n. refl))

@@ -21,38 +21,38 @@ use Rattle.model.proofs.Calls.{taken-is, taken-zero}
 use Rattle.promise.specs.Survey.{inHops, lost, orderedPairs, AddsUp, SurveyTotal}
 use Rattle.promise.proofs.Promise.{run-sound}
 
-module _ (m : Memory) (S : Sound (m .state) (m .tables)) where
-  answers : surveyCall m .answer ≡ 0 ∷ surveyCounts (m .state) (m .tables)
+module _ (m : Memory) (S : Sound (m .state) (m .tables)) (failed : ℕ) where
+  answers : surveyCall m failed .answer ≡ 0 ∷ surveyCounts (m .state) (m .tables) failed
   unfolding surveyCall taken
   answers = ap (λ (o : Outcome). o .answer) (taken-is (stateRefusal m) _ _ (sound-free m S))
 
-  in-hops : (k : ℕ) → k < 8 → inHops m (k + 1) ≡ hopPairs (m .state) (m .tables) (k + 1)
-  in-hops k l = ap₂ (λ (l : List ℕ) (h : ℕ). getD l h 0) answers (add-one k) ∙ counted-at (m .state) (m .tables) k l
+  in-hops : (k : ℕ) → k < 8 → inHops m failed (k + 1) ≡ hopPairs (m .state) (m .tables) failed (k + 1)
+  in-hops k l = ap₂ (λ (l : List ℕ) (h : ℕ). getD l h 0) answers (add-one k) ∙ counted-at (m .state) (m .tables) failed k l
 
-  total-is : sumBelow (digits (m .state)) (node (inHops m)) + lost m ≡ orderedPairs m
+  total-is : sumBelow (digits (m .state)) (node (inHops m failed)) + lost m failed ≡ orderedPairs m failed
   total-is =
-      ap₂ _+_ (sum-same (digits (m .state)) (node (inHops m)) (node (hopPairs (m .state) (m .tables))) (λ k l. in-hops k (omega (arith, S .settings .digits-most))))
-      (ap (λ (l : List ℕ). getD l 9 0) answers ∙ lost-at (m .state) (m .tables))
-      ∙ survey-total (m .state) (m .tables) S
+      ap₂ _+_ (sum-same (digits (m .state)) (node (inHops m failed)) (node (hopPairs (m .state) (m .tables) failed)) (λ k l. in-hops k (omega (arith, S .settings .digits-most))))
+      (ap (λ (l : List ℕ). getD l 9 0) answers ∙ lost-at (m .state) (m .tables) failed)
+      ∙ survey-total (m .state) (m .tables) S failed
 
-  far : (k : ℕ) → digits (m .state) ≤ k → k < 8 → inHops m (k + 1) ≡ 0
-  far k g l = in-hops k l ∙ none-beyond (m .state) (m .tables) S (k + 1) (omega arith)
+  far : (k : ℕ) → digits (m .state) ≤ k → k < 8 → inHops m failed (k + 1) ≡ 0
+  far k g l = in-hops k l ∙ none-beyond (m .state) (m .tables) S failed (k + 1) (omega arith)
 
-  adds-up : AddsUp m
+  adds-up : AddsUp m failed
   adds-up = record {
     total = total-is;
-    beyond = none-beyond (m .state) (m .tables) S;
-    zeros = λ h g l. let e : h - 1 + 1 ≡ h = omega arith in subst (λ (h : ℕ). inHops m h ≡ 0) e (far (h - 1) (omega arith) (omega arith));
-    all = ap (λ (n : ℕ). n + lost m) (sum-up-to (digits (m .state)) 8 (node (inHops m)) (S .settings .digits-most) far) ∙ total-is;
+    beyond = none-beyond (m .state) (m .tables) S failed;
+    zeros = λ h g l. let e : h - 1 + 1 ≡ h = omega arith in subst (λ (h : ℕ). inHops m failed h ≡ 0) e (far (h - 1) (omega arith) (omega arith));
+    all = ap (λ (n : ℕ). n + lost m failed) (sum-up-to (digits (m .state)) 8 (node (inHops m failed)) (S .settings .digits-most) far) ∙ total-is;
   }
 
 -- a survey that was taken was of a sound state
-sound-taken : (m : Memory) → isTaken (surveyCall m .answer) ≡ true → Sound (m .state) (m .tables)
+sound-taken : (m : Memory) (failed : ℕ) → isTaken (surveyCall m failed .answer) ≡ true → Sound (m .state) (m .tables)
 unfolding surveyCall
-sound-taken m e = state-taken m (taken-zero m (stateRefusal m) [] _ _ e)
+sound-taken m failed e = state-taken m (taken-zero m (stateRefusal m) [] _ _ e)
 
 pub survey-adds-up : SurveyTotal
 survey-adds-up = record {
-  adds-up = λ m e. adds-up m (sound-taken m e);
-  in-runs = λ m c cs run. ap isTaken (answers _ (run-sound m c cs run));
+  adds-up = λ m failed e. adds-up m (sound-taken m failed e) failed;
+  in-runs = λ m c cs failed run. ap isTaken (answers _ (run-sound m c cs run) failed);
 }

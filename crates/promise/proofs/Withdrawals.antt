@@ -155,8 +155,8 @@ module _ (m : Memory) where
           isTaken (step m′ (deliver y z) .answer) ≡ true → eqb (getD (step m′ (deliver y z) .answer) 1 0) kindAttached ≡ false
           → More (after m′ (deliver y z)))
           (sym w) (delivered-more m′ z h)
-  own-more m′ (lookup u z) h e q = same (looks-on m′ _ [] _ [] _) h
-  own-more m′ survey h e q = same (looks-on m′ _ [] _ [] _) h
+  own-more m′ (lookup u z failed) h e q = same (looks-on m′ _ [] _ [] _) h
+  own-more m′ (survey failed) h e q = same (looks-on m′ _ [] _ [] _) h
   own-more m′ verdict h e q = same (looks-on m′ _ [] _ [] _) h
   own-more m′ (write out) h e q = same (looks-on m′ _ out _ _ _) h
   own-more m′ sound h e q = same (looks-on m′ _ [] _ [] _) h

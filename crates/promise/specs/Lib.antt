@@ -1,5 +1,5 @@
--- The three demands, the total of a survey, what reading says of records, and what a withdrawal undoes and leaves alone, as statements about the book's
--- calls. docs/SOURCES.md says what they are.
+-- The three demands, the total of a survey, what reading says of records, what a withdrawal undoes and leaves alone, and lookups around failed nodes, as
+-- statements about the book's calls. docs/SOURCES.md says what they are.
 pub mod Fixed
 pub mod Demand1
 pub mod Demand2
@@ -7,3 +7,5 @@ pub mod Promise
 pub mod Survey
 pub mod Records
 pub mod Withdrawals
+pub mod Failures
+pub mod NoneFailed

@@ -2,12 +2,12 @@
 -- then any calls, taken or refused, of which none starts a new run. The list is any list, so what holds at its end holds at every point of a run.
 use Prim.Native.Nat.{ℕ, _+_, _-_, _≤_}
 use mathlib.Core.Path.{_≡_}
-use mathlib.Core.Bool.{true}
+use mathlib.Core.Bool.{true, false}
 use mathlib.Core.List.{List, _∷_, _++_}
 use lib.ListN.{getD}
 use Rattle.model.specs.Memory.{Memory, digits, requestsOf, noticesOf}
 use Rattle.model.specs.Nodes.{isNode, suffixOf}
-use Rattle.model.specs.Lookup.{veryHops}
+use Rattle.model.specs.Lookup.{veryHops, endFailed}
 use Rattle.model.specs.Calls.{lookupCall, verdictCall}
 use Rattle.model.specs.Run.{Call, after, play, history, sent, sentFrom, answeredFrom, isTaken, isRun}
 
@@ -35,18 +35,18 @@ pub record Promise (m : Memory) (c : Call) (cs : List Call) : Type 0 where
       × (noticesOf (play m (c ∷ cs) .state) x ≡ answeredFrom (noticesOf (after m c .state) x) x (history m (c ∷ cs)))
   -- and at the start they are zero
   pub fresh : (x : ℕ) → NodeIn (after m c) x → (requestsOf (after m c .state) x ≡ 0) × (noticesOf (after m c .state) x ≡ 0)
-  -- (b) a lookup from any node to any node is not refused and takes at most d hops less the digits already matched
-  pub lookups : (u z : ℕ) → NodeIn (play m (c ∷ cs)) u → NodeIn (play m (c ∷ cs)) z
-      → (isTaken (lookupCall (play m (c ∷ cs)) u z .answer) ≡ true)
-      × (getD (lookupCall (play m (c ∷ cs)) u z .answer) 2 0
+  -- (b) a lookup from any node to any node, whatever others have failed, is not refused and takes at most d hops less the digits already matched
+  pub lookups : (u z failed : ℕ) → NodeIn (play m (c ∷ cs)) u → NodeIn (play m (c ∷ cs)) z → endFailed failed u z ≡ false
+      → (isTaken (lookupCall (play m (c ∷ cs)) u z failed .answer) ≡ true)
+      × (getD (lookupCall (play m (c ∷ cs)) u z failed .answer) 2 0
       ≤ digits (play m (c ∷ cs) .state) - alreadyMatched (play m (c ∷ cs)) u z)
-  -- (c) since any point of the run at which the network passed the verdict, lookups between nodes of that time have taken the very same
-  -- hops and given the same answers
+  -- (c) since any point of the run at which the network passed the verdict, lookups between nodes of that time, whatever others have failed, have
+  -- taken the very same hops and given the same answers, arrived or lost
   pub unchanged : (early late : List Call) → cs ≡ early ++ late → Passes (play m (c ∷ early))
-      → (u z : ℕ) → NodeIn (play m (c ∷ early)) u → NodeIn (play m (c ∷ early)) z
-      → (veryHops (play m (c ∷ cs) .state) (play m (c ∷ cs) .tables) u z
-      ≡ veryHops (play m (c ∷ early) .state) (play m (c ∷ early) .tables) u z)
-      × (lookupCall (play m (c ∷ cs)) u z .answer ≡ lookupCall (play m (c ∷ early)) u z .answer)
+      → (u z failed : ℕ) → NodeIn (play m (c ∷ early)) u → NodeIn (play m (c ∷ early)) z → endFailed failed u z ≡ false
+      → (veryHops (play m (c ∷ cs) .state) (play m (c ∷ cs) .tables) failed u z
+      ≡ veryHops (play m (c ∷ early) .state) (play m (c ∷ early) .tables) failed u z)
+      × (lookupCall (play m (c ∷ cs)) u z failed .answer ≡ lookupCall (play m (c ∷ early)) u z failed .answer)
 
 -- the claim, about every run
 abbrev pub Demand3 : Type 0
