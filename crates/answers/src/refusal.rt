@@ -1,4 +1,4 @@
-// The refusals by name: document 01, "What a call declines", and document 02, Tickets 2 and 5. include/overlay.h has the same names behind OVERLAY_.
+// The refusals by name: document 01, "What a call declines", and document 02, Tickets 2, 5 and 6. include/overlay.h has the same names behind OVERLAY_.
 pub struct Refusal {
     pub number: u64,
 }
@@ -63,4 +63,7 @@ impl Refusal {
 
     // the node is in system or notifying
     pub const HAS_ATTACHED: u64 = 20;
+
+    // the start or the destination of a lookup has failed
+    pub const HAS_FAILED: u64 = 21;
 }

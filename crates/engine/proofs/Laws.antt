@@ -88,8 +88,8 @@ module _ (m : Memory) (r : ℕ) where
   pub delivers : (x y : ℕ) → r ≡ deliverRefusal m x y → r ≡ 0 → Sound s t × CanDeliver s x y
   delivers x y e z = deliver-taken m x y (sym e ∙ z)
 
-  pub looks : (u z : ℕ) → r ≡ lookupRefusal m u z → r ≡ 0 → Sound s t × (IsNode s u × IsNode s z)
-  looks u z e n = let k = lookup-taken m u z (sym e ∙ n) in (k .0, (k .1, k .2))
+  pub looks : (u z failed : ℕ) → r ≡ lookupRefusal m u z failed → r ≡ 0 → Sound s t × (IsNode s u × IsNode s z)
+  looks u z failed e n = let k = lookup-taken m u z failed (sym e ∙ n) in (k .0, (k .1, k .2))
 
   pub surveys : r ≡ stateRefusal m → r ≡ 0 → Sound s t
   surveys e z = state-taken m (sym e ∙ z)

@@ -6,9 +6,9 @@ ghost use Rattle.state.specs.Lent.{memory};
 ghost use Rattle.engine.specs.Outcomes.{leaves};
 use answers::SurveyAnswer;
 
-// Counts the ordered pairs of different nodes by the hops of their lookups. Refusals: 1, 2.
-pub fn survey(state: &[u64], tables: &[u8]) -> SurveyAnswer
-    ensures { λ r. ⌜ leaves (memory (now (state .entry)) (now (tables .entry))) (r .refusal ∷ r .counts) ≡ surveyCall (memory (now (state .entry)) (now (tables .entry))) ⌝ }
+// Counts the ordered pairs of different nodes that have not failed by the hops of their lookups. Refusals: 1, 2.
+pub fn survey(state: &[u64], tables: &[u8], failed: u64) -> SurveyAnswer
+    ensures { λ r. ⌜ leaves (memory (now (state .entry)) (now (tables .entry))) (r .refusal ∷ r .counts) ≡ surveyCall (memory (now (state .entry)) (now (tables .entry))) failed ⌝ }
 {
     let r = refusals::sentences::state_refusal(state, tables);
     if r != 0 {
@@ -19,6 +19,6 @@ pub fn survey(state: &[u64], tables: &[u8]) -> SurveyAnswer
     }
     SurveyAnswer {
         refusal: 0,
-        counts: hop_survey::survey(state, tables),
+        counts: hop_survey::survey(state, tables, failed),
     }
 }

@@ -76,16 +76,16 @@ bit-field : (m : Memory) (o : Outcome) (b : ℕ) (a : Bool) (r : ℕ) (fields : 
     → leaves m (r ∷ b ∷ fields) ≡ o
 bit-field m o b a r fields q e = ap (λ (b : ℕ). leaves m (r ∷ b ∷ fields)) q ∙ e
 
-module _ (m : Memory) (u z r b hops last : ℕ) (a : Bool) (e : leaves m (r ∷ cond a 1 0 ∷ hops ∷ last ∷ []) ≡ lookupCall m u z) (q : b ≡ cond a 1 0) where
-  found-is : leaves m (r ∷ b ∷ hops ∷ last ∷ []) ≡ lookupCall m u z
-  found-is = bit-field m (lookupCall m u z) b a r (hops ∷ last ∷ []) q e
+module _ (m : Memory) (u z failed r b hops last : ℕ) (a : Bool) (e : leaves m (r ∷ cond a 1 0 ∷ hops ∷ last ∷ []) ≡ lookupCall m u z failed) (q : b ≡ cond a 1 0) where
+  found-is : leaves m (r ∷ b ∷ hops ∷ last ∷ []) ≡ lookupCall m u z failed
+  found-is = bit-field m (lookupCall m u z failed) b a r (hops ∷ last ∷ []) q e
 
   pub lookup-fits : Fit r b hops last 0
-  lookup-fits = fits (lookupCall m u z) (lookup-bytes m u z) m (r ∷ b ∷ hops ∷ last ∷ []) found-is
+  lookup-fits = fits (lookupCall m u z failed) (lookup-bytes m u z failed) m (r ∷ b ∷ hops ∷ last ∷ []) found-is
 
-  pub lookup-packs : (n : ℕ) → n ≡ packed (r ∷ b ∷ hops ∷ last ∷ 0 ∷ []) → gives m n ≡ packing (lookupCall m u z)
+  pub lookup-packs : (n : ℕ) → n ≡ packed (r ∷ b ∷ hops ∷ last ∷ 0 ∷ []) → gives m n ≡ packing (lookupCall m u z failed)
   unfolding packed
-  lookup-packs n h = packs (lookupCall m u z) (lookup-bytes m u z) m (r ∷ b ∷ hops ∷ last ∷ []) found-is n h
+  lookup-packs n h = packs (lookupCall m u z failed) (lookup-bytes m u z failed) m (r ∷ b ∷ hops ∷ last ∷ []) found-is n h
 
 module _ (m : Memory) (r b x i j : ℕ) (a : Bool) (e : leaves m (r ∷ cond a 1 0 ∷ x ∷ i ∷ j ∷ []) ≡ verdictCall m) (q : b ≡ cond a 1 0) where
   judged-is : leaves m (r ∷ b ∷ x ∷ i ∷ j ∷ []) ≡ verdictCall m

@@ -68,19 +68,30 @@ pub extern "C" fn overlay_deliver(
 
 // Lookup from one node to another. Answers whether it arrived, the hops and the last node.
 #[no_mangle]
-pub extern "C" fn overlay_lookup(state: &[u64], tables: &[u8], from: u64, to: u64) -> u64
-    ensures { λ r. ⌜ gives (memory (now (state .entry)) (now (tables .entry))) r ≡ packing (lookupCall (memory (now (state .entry)) (now (tables .entry))) from to) ⌝ }
+pub extern "C" fn overlay_lookup(
+    state: &[u64],
+    tables: &[u8],
+    from: u64,
+    to: u64,
+    failed: u64,
+) -> u64
+    ensures { λ r. ⌜ gives (memory (now (state .entry)) (now (tables .entry))) r ≡ packing (lookupCall (memory (now (state .entry)) (now (tables .entry))) from to failed) ⌝ }
 {
-    let found = engine::lookup::lookup(state, tables, from, to);
+    let found = engine::lookup::lookup(state, tables, from, to, failed);
     pack(found.refusal, bit(found.arrived), found.hops, found.last, 0)
 }
 
 // The hop survey. Answers the refusal; where that is 0, counts are the pairs for 1 to 8 hops and the lost ones, else they stay.
 #[no_mangle]
-pub extern "C" fn overlay_survey(state: &[u64], tables: &[u8], counts: &mut [u64; 9]) -> u64
-    ensures { λ r. ⌜ fills (memory (now (state .entry)) (now (tables .entry))) (now (counts .exit)) r ≡ surveying (surveyCall (memory (now (state .entry)) (now (tables .entry)))) (now (counts .entry)) ⌝ }
+pub extern "C" fn overlay_survey(
+    state: &[u64],
+    tables: &[u8],
+    failed: u64,
+    counts: &mut [u64; 9],
+) -> u64
+    ensures { λ r. ⌜ fills (memory (now (state .entry)) (now (tables .entry))) (now (counts .exit)) r ≡ surveying (surveyCall (memory (now (state .entry)) (now (tables .entry))) failed) (now (counts .entry)) ⌝ }
 {
-    let surveyed = engine::survey::survey(state, tables);
+    let surveyed = engine::survey::survey(state, tables, failed);
     if surveyed.refusal != 0 {
         return surveyed.refusal;
     }

@@ -16,7 +16,7 @@ use Rattle.model.proofs.Refusals.{numbered, sentence-leaves, sentence-goes, sen
 use Rattle.model.proofs.Sound.{Sound}
 use Rattle.model.proofs.Status.{is-node}
 use Rattle.model.proofs.Taken.{state-taken}
-use Rattle.state.specs.Loaded.{Placed}
+use Rattle.state.specs.Loaded.{Numbered, Placed}
 use Rattle.refusals.specs.Refused.{NodesPlaced}
 
 -- ---- 1 and 2
@@ -79,3 +79,7 @@ module _ (m : Memory) (r : ℕ) (e : r ≡ stateRefusal m) where
     -- a node's record stands in the state
     pub placed : (x : ℕ) (q : Bool) → q ≡ isNode (m .state) x → not q ≡ false → Placed (m .state) x
     placed x q f h = node-placed (m .state) (m .tables) x q state-sound f h
+
+    -- and its number is one that a set can have
+    pub in-sets : (x : ℕ) (q : Bool) → q ≡ isNode (m .state) x → not q ≡ false → Numbered x
+    in-sets x q f h = let p = placed x q f h in record { first = p .first; last = p .last }

@@ -53,24 +53,24 @@ module _ (m m₁ : Memory) (w : Words) (c : book.Call) (e : shown m₁ w ≡ pla
 -- ---- a survey, played
 
 -- one that was taken is of a sound state
-counts-fit : (m : Memory) → getD (surveyCall m .answer) 0 0 ≡ 0 → Showable (digits (m .state)) (drop 1 (surveyCall m .answer))
-counts-fit m z = record {
-  digits = survey-sound m z .settings .digits-most;
+counts-fit : (m : Memory) (failed : ℕ) → getD (surveyCall m failed .answer) 0 0 ≡ 0 → Showable (digits (m .state)) (drop 1 (surveyCall m failed .answer))
+counts-fit m failed z = record {
+  digits = survey-sound m failed z .settings .digits-most;
   counts = λ k.
-      let below : getD (surveyCall m .answer) (1 + k) 0 < 4097 = below-at 4097 (surveyCall m .answer) (omega arith) (survey-few m) (1 + k) in
-      omega (arith, getD-drop 1 (surveyCall m .answer) k 0);
+      let below : getD (surveyCall m failed .answer) (1 + k) 0 < 4097 = below-at 4097 (surveyCall m failed .answer) (omega arith) (survey-few m failed) (1 + k) in
+      omega (arith, getD-drop 1 (surveyCall m failed .answer) k 0);
 }
 
 pub played-sayable : (m m₁ : Memory) (w : Words) (image out : List ℕ) (call : Call) (d : ℕ)
     → shown m₁ w ≡ playing (step m (called image out call)) → d ≡ digits (m .state) → Sayable d call (listed w)
 unfolding step
 played-sayable m m₁ w image out call d e f = record {
-  survey = λ is z.
-      let answer : listed w ≡ surveyCall m .answer =
-      played-answer m m₁ w (called image out call) e ∙ ap (λ (c : Call). padded (step m (called image out c) .answer)) is ∙ survey-filled m in
-      let first : getD (surveyCall m .answer) 0 0 ≡ 0 = sym (ap (λ (l : List ℕ). getD l 0 0) answer) ∙ z in
+  survey = λ failed is z.
+      let answer : listed w ≡ surveyCall m failed .answer =
+      played-answer m m₁ w (called image out call) e ∙ ap (λ (c : Call). padded (step m (called image out c) .answer)) is ∙ survey-filled m failed in
+      let first : getD (surveyCall m failed .answer) 0 0 ≡ 0 = sym (ap (λ (l : List ℕ). getD l 0 0) answer) ∙ z in
       subst (λ (d : ℕ). Showable d (drop 1 (listed w))) (sym f)
-      (subst (λ (l : List ℕ). Showable (digits (m .state)) (drop 1 l)) (sym answer) (counts-fit m first));
+      (subst (λ (l : List ℕ). Showable (digits (m .state)) (drop 1 l)) (sym answer) (counts-fit m failed first));
 }
 
 -- ---- the panel and a table; r is the refusal that the code found
@@ -78,8 +78,8 @@ played-sayable m m₁ w image out call d e f = record {
 pub panel-sound : (m : Memory) (r : ℕ) → r ≡ stateRefusal m → r ≡ 0 → Sound (m .state) (m .tables)
 panel-sound m r e z = state-taken m (sym e ∙ z)
 
-pub shows : (m : Memory) (x r : ℕ) → r ≡ lookupRefusal m x x → r ≡ 0 → Sound (m .state) (m .tables) × IsNode (m .state) x
-shows m x r e z = let k = lookup-taken m x x (sym e ∙ z) in (k .0, k .1)
+pub shows : (m : Memory) (x r : ℕ) → r ≡ lookupRefusal m x x 0 → r ≡ 0 → Sound (m .state) (m .tables) × IsNode (m .state) x
+shows m x r e z = let k = lookup-taken m x x 0 (sym e ∙ z) in (k .0, k .1)
 
 module _ (r number : ℕ) (e : r ≡ number) (text o p : List ℕ) (g : ℕ) where
   pub says-refused : (r ≡ 0 → ⊥) → Put o 0 (refusedText r 0) p g → Put o 0 (orRefused number text) p g

@@ -27,7 +27,7 @@ panelSaid m = orRefused (stateRefusal m) (panelText (m .state))
 
 -- `table`: the node's record and table, or the refusal that a lookup from the node to itself would have
 abbrev pub tableSaid : Memory → ℕ → List ℕ
-tableSaid m x = orRefused (lookupRefusal m x x) (tableText (m .state) (m .tables) x)
+tableSaid m x = orRefused (lookupRefusal m x x 0) (tableText (m .state) (m .tables) x)
 
 -- a line that is no command, by its number
 unfoldable pub unknownSaid : ℕ → List ℕ

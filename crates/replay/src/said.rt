@@ -78,7 +78,7 @@ fn table(state: &[u64], tables: &[u8], x: u64, words: &mut [u8]) -> usize
     ensures { λ r. ⌜ Put (now (words .entry)) 0 (tableSaid (memory (now (state .entry)) (now (tables .entry))) x) (now (words .exit)) r ⌝ }
     ensures { λ r. ⌜ r ≤ 16384 ⌝ }
 {
-    let r = refusals::lookup::refusal(state, tables, x, x);
+    let r = refusals::lookup::refusal(state, tables, x, x, 0);
     if r != 0 {
         return replay_refusals::put(words, r, 0);
     }

@@ -37,18 +37,18 @@ pub deliver-words : (s t : List ℕ) (o : Outcome) (w : Words) (a : DeliverAnswe
     → listed w ≡ padded (numbers.listed n) → shown (memory s t) w ≡ playing o
 deliver-words s t o w a n e f g = words-of (memory s t) o w [] (answerFields a) e (g ∙ ap padded f)
 
-module _ (m : Memory) where
+module _ (m : Memory) (failed : ℕ) where
   -- the answer of a survey fills its words
-  pub survey-filled : padded (surveyCall m .answer) ≡ surveyCall m .answer
+  pub survey-filled : padded (surveyCall m failed .answer) ≡ surveyCall m failed .answer
   unfolding surveyCall surveyCounts refusedAt taken
   survey-filled =
-      either-end (λ (o : Outcome). padded (o .answer) ≡ o .answer) (stateRefusal m) (refused m [] 9) (taken m [] (surveyCounts (m .state) (m .tables)))
+      either-end (λ (o : Outcome). padded (o .answer) ≡ o .answer) (stateRefusal m) (refused m [] 9) (taken m [] (surveyCounts (m .state) (m .tables) failed))
       (λ nz. refl) (λ z. refl)
 
-  pub survey-words : (r : ℕ) (C : List ℕ) → leaves m (r ∷ C) ≡ surveyCall m → shown m (record { refusal = r; fields = C }) ≡ playing (surveyCall m)
+  pub survey-words : (r : ℕ) (C : List ℕ) → leaves m (r ∷ C) ≡ surveyCall m failed → shown m (record { refusal = r; fields = C }) ≡ playing (surveyCall m failed)
   survey-words r C e =
-      let is : r ∷ C ≡ surveyCall m .answer = ap (λ (o : Outcome). o .answer) e in
-      words-of m (surveyCall m) (record { refusal = r; fields = C }) [] (r ∷ C) e (is ∙ sym survey-filled ∙ ap padded (sym is))
+      let is : r ∷ C ≡ surveyCall m failed .answer = ap (λ (o : Outcome). o .answer) e in
+      words-of m (surveyCall m failed) (record { refusal = r; fields = C }) [] (r ∷ C) e (is ∙ sym survey-filled ∙ ap padded (sym is))
 
 pub write-out : (m : Memory) (o : Outcome) (out fields : List ℕ) → writes m out fields ≡ o → out ≡ o .out
 write-out m o out fields e = ap (λ (o : Outcome). o .out) e

@@ -59,17 +59,17 @@ fn deliver(state: &mut [u64], tables: &mut [u8], sender: u64, receiver: u64) -> 
     first_fields(n.refusal, n.kind, n.level, n.settled, 0)
 }
 
-fn lookup(state: &[u64], tables: &[u8], from: u64, to: u64) -> Words
-    ensures { λ r. ⌜ shown (memory (now (state .entry)) (now (tables .entry))) r ≡ playing (lookupCall (memory (now (state .entry)) (now (tables .entry))) from to) ⌝ }
+fn lookup(state: &[u64], tables: &[u8], from: u64, to: u64, failed: u64) -> Words
+    ensures { λ r. ⌜ shown (memory (now (state .entry)) (now (tables .entry))) r ≡ playing (lookupCall (memory (now (state .entry)) (now (tables .entry))) from to failed) ⌝ }
 {
-    let r = engine::lookup::lookup(state, tables, from, to);
+    let r = engine::lookup::lookup(state, tables, from, to, failed);
     first_fields(r.refusal, bit(r.arrived), r.hops, r.last, 0)
 }
 
-fn survey(state: &[u64], tables: &[u8]) -> Words
-    ensures { λ r. ⌜ shown (memory (now (state .entry)) (now (tables .entry))) r ≡ playing (surveyCall (memory (now (state .entry)) (now (tables .entry)))) ⌝ }
+fn survey(state: &[u64], tables: &[u8], failed: u64) -> Words
+    ensures { λ r. ⌜ shown (memory (now (state .entry)) (now (tables .entry))) r ≡ playing (surveyCall (memory (now (state .entry)) (now (tables .entry))) failed) ⌝ }
 {
-    let r = engine::survey::survey(state, tables);
+    let r = engine::survey::survey(state, tables, failed);
     let fields = r.counts;
     Words {
         refusal: r.refusal,
@@ -118,8 +118,8 @@ pub fn play(state: &mut [u64], tables: &mut [u8], image: &[u8], out: &mut [u8], 
         Call::Begin(id, gateway) => return begin(state, tables, id, gateway),
         Call::Withdraw(node) => return withdraw(state, tables, node),
         Call::Deliver(sender, receiver) => return deliver(state, tables, sender, receiver),
-        Call::Lookup(from, to) => return lookup(state, tables, from, to),
-        Call::Survey => return survey(state, tables),
+        Call::Lookup(from, to, failed) => return lookup(state, tables, from, to, failed),
+        Call::Survey(failed) => return survey(state, tables, failed),
         Call::Verdict => return verdict(state, tables),
         Call::Write => return write(state, tables, out),
         Call::Sound => return sound(state, tables),

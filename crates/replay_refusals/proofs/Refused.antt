@@ -29,10 +29,10 @@ module _ (n : ℕ) (o : List ℕ) (a : ℕ) (f : a ≤ length o) where
   no-sentence-from-9 h₁ h₂ h₃ h₄ h₅ h₆ h₇ h₈ =
       rw (ne-eqb n 9 h₁, ne-eqb n 10 h₂, ne-eqb n 11 h₃, ne-eqb n 12 h₄, ne-eqb n 13 h₅, ne-eqb n 14 h₆, ne-eqb n 15 h₇, ne-eqb n 16 h₈) (put-none o a f)
 
-  pub no-sentence-from-17 : (place : ℕ) → (n ≡ 17 → ⊥) → (n ≡ 18 → ⊥) → (n ≡ 19 → ⊥) → (n ≡ 20 → ⊥) → Put o a (sentenceFrom17 n place) o a
+  pub no-sentence-from-17 : (place : ℕ) → (n ≡ 17 → ⊥) → (n ≡ 18 → ⊥) → (n ≡ 19 → ⊥) → (n ≡ 20 → ⊥) → (n ≡ 21 → ⊥) → Put o a (sentenceFrom17 n place) o a
   unfolding sentenceFrom17
-  no-sentence-from-17 place h₁ h₂ h₃ h₄ =
-      rw (ne-eqb n 17 h₁, ne-eqb n 18 h₂, ne-eqb n 19 h₃, ne-eqb n 20 h₄) (put-none o a f)
+  no-sentence-from-17 place h₁ h₂ h₃ h₄ h₅ =
+      rw (ne-eqb n 17 h₁, ne-eqb n 18 h₂, ne-eqb n 19 h₃, ne-eqb n 20 h₄, ne-eqb n 21 h₅) (put-none o a f)
 
   -- n is a place
   pub no-place : n ≡ 0 → Put o a (placeText n) o a

@@ -37,7 +37,8 @@ sentenceFrom17 n place =
     cond (eqb n 17) (ascii "the neighbour is not qualified, is in its entry already, or finds it full")
     (cond (eqb n 18) (ownEntry place)
     (cond (eqb n 19) (ascii "the node is not the highest-numbered one")
-    (cond (eqb n 20) (ascii "the node is settled or notifying") [])))
+    (cond (eqb n 20) (ascii "the node is settled or notifying")
+    (cond (eqb n 21) (ascii "the start or the destination has failed") []))))
 
 -- a number that no sentence has is left without words
 unfoldable pub sentence : ℕ → ℕ → List ℕ

@@ -101,6 +101,7 @@ fn from_17(out: &mut [u8], at: usize, number: u64, place: u64) -> usize
         Refusal::OWN_ENTRY => return own_entry(out, at, place),
         Refusal::NOT_HIGHEST => return piece(out, at, b"the node is not the highest-numbered one"),
         Refusal::HAS_ATTACHED => return piece(out, at, b"the node is settled or notifying"),
+        Refusal::HAS_FAILED => return piece(out, at, b"the start or the destination has failed"),
         _ => return at,
     }
 }

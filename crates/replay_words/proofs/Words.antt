@@ -111,5 +111,5 @@ module _ (w : Words) (o : List ℕ) (a : ℕ) (p : List ℕ) (g : ℕ) where
     unfolding said
     said-taken h P = rw (eq-eqb (w .refusal) 0 h) P
 
-pub survey-fits : (d : ℕ) (c : Call) (w : Words) → Sayable d c (listed w) → c ≡ Survey → w .refusal ≡ 0 → Showable d (w .fields)
-survey-fits d c w s e z = s .survey e z
+pub survey-fits : (d : ℕ) (c : Call) (w : Words) (failed : ℕ) → Sayable d c (listed w) → c ≡ Survey failed → w .refusal ≡ 0 → Showable d (w .fields)
+survey-fits d c w failed s e z = s .survey failed e z

@@ -9,4 +9,4 @@ use Rattle.replay_survey.specs.Showable.{Showable}
 
 -- a survey that was taken has at most 8 digits and no count above 4,096
 pub record Sayable (d : ℕ) (c : Call) (w : List ℕ) : Type 0 where
-  pub survey : c ≡ Survey → getD w 0 0 ≡ 0 → Showable d (drop 1 w)
+  pub survey : (failed : ℕ) → c ≡ Survey failed → getD w 0 0 ≡ 0 → Showable d (drop 1 w)

@@ -27,7 +27,7 @@ abbrev pub surveyText : ℕ → List ℕ → List ℕ
 surveyText d answer = answerText answer (countLines d (drop 1 answer))
 
 abbrev pub surveyOf : Memory → List ℕ
-surveyOf m = surveyText (digits (m .state)) (surveyCall m .answer)
+surveyOf m = surveyText (digits (m .state)) (surveyCall m 0 .answer)
 
 -- a refused reading's answer as text: line one alone
 abbrev pub refusedLines : List ℕ → List ℕ

@@ -3,20 +3,20 @@ use mathlib.Core.Path.{refl}
 use Rattle.model.specs.Loops.{allBelow, anyBelow, countBelow, sumBelow, firstBelow, eachBelow, joinBelow}
 use Rattle.model.specs.Ids.{settingsInRange, digitOf, validId, commonSuffix, lowDigits, suffixMask}
 use Rattle.model.specs.Memory.{withNode, hasNode, setSize, tableOf, withTable}
-use Rattle.model.specs.Tables.{qualified, entrySize, append, ownTable}
+use Rattle.model.specs.Tables.{qualified, entrySize, entry, append, ownTable}
 use Rattle.model.specs.Sound.{hasNewId, slotSound, entrySound, levelSound, inSystemSound, joiningSound, copyingSound, waitingSound, pendingSound, notifiedSound, notifyingSound, statusSound, requestLimit, noticesSound, countsSound, allZero, stateRestZero, tablesRestZero, tableSound, unusedZero, sound}
 use Rattle.model.specs.Join.{founded}
-use Rattle.model.specs.Lookup.{nextHop, veryHopsWithin, lastOf, answerOf, lookup}
-use Rattle.model.specs.Survey.{arrivesIn, isLost, countPairs, surveyCounts}
+use Rattle.model.specs.Lookup.{hopEntry, frontmost, nextHop, veryHopsWithin, lastOf, answerOf, lookup}
+use Rattle.model.specs.Survey.{arrivesIn, isLost, isPair, countPairs, surveyCounts}
 use Rattle.model.specs.Consistency.{howMany, entryWhole, levelWhole, nodeWhole, consistent, firstShort, verdict}
 use Rattle.model.specs.Image.{imId, lengthRight, sameEntry, risesFrom, recOrdered, recAllowed, recOwnerFirst, ownHasRecord, ownHaveRecords, loadRecord, loaded}
 use Rattle.model.specs.Refusals.{firstTrue, foundRefusal, readRefusal, recordPlace, stateRefusal, lookupRefusal, verdictRefusal}
 use Rattle.model.specs.Calls.{refusedAt, taken, unlessRefused, foundCall, readCall, lookupCall, surveyCall, verdictCall}
-use Rattle.worked.specs.Examples.{dirty, founding, reading, verdictOn, lookupOn, surveyOn, headOfE1, rec, E1, E1Short, three, Worked, Surveyed, Damaged, Masked}
+use Rattle.worked.specs.Examples.{dirty, founding, reading, verdictOn, lookupOn, surveyOn, headOfE1, rec, E1, E1Short, three, deep, Worked, Surveyed, Damaged, Masked, Failed}
 
 -- what the examples compute with
 unfoldable pub computing : Unit {0}
-unfolding allBelow anyBelow countBelow sumBelow firstBelow eachBelow joinBelow settingsInRange digitOf validId commonSuffix lowDigits withNode hasNode setSize tableOf withTable qualified entrySize append ownTable hasNewId slotSound entrySound levelSound inSystemSound joiningSound copyingSound waitingSound pendingSound notifiedSound notifyingSound statusSound requestLimit noticesSound countsSound allZero stateRestZero tablesRestZero tableSound unusedZero sound founded nextHop veryHopsWithin lastOf answerOf lookup arrivesIn isLost countPairs surveyCounts howMany entryWhole levelWhole nodeWhole consistent firstShort verdict imId lengthRight sameEntry risesFrom recOrdered recAllowed recOwnerFirst ownHasRecord ownHaveRecords loadRecord loaded firstTrue foundRefusal readRefusal recordPlace stateRefusal lookupRefusal verdictRefusal refusedAt taken unlessRefused foundCall readCall lookupCall surveyCall verdictCall dirty founding reading verdictOn lookupOn surveyOn headOfE1 rec E1 E1Short three
+unfolding allBelow anyBelow countBelow sumBelow firstBelow eachBelow joinBelow settingsInRange digitOf validId commonSuffix lowDigits withNode hasNode setSize tableOf withTable qualified entrySize entry append ownTable hasNewId slotSound entrySound levelSound inSystemSound joiningSound copyingSound waitingSound pendingSound notifiedSound notifyingSound statusSound requestLimit noticesSound countsSound allZero stateRestZero tablesRestZero tableSound unusedZero sound founded hopEntry frontmost nextHop veryHopsWithin lastOf answerOf lookup arrivesIn isLost isPair countPairs surveyCounts howMany entryWhole levelWhole nodeWhole consistent firstShort verdict imId lengthRight sameEntry risesFrom recOrdered recAllowed recOwnerFirst ownHasRecord ownHaveRecords loadRecord loaded firstTrue foundRefusal readRefusal recordPlace stateRefusal lookupRefusal verdictRefusal refusedAt taken unlessRefused foundCall readCall lookupCall surveyCall verdictCall dirty founding reading verdictOn lookupOn surveyOn headOfE1 rec E1 E1Short three deep
 computing = tt
 
 pub worked : Worked
@@ -34,3 +34,7 @@ damaged = record { below = refl; level = refl; unqualified = refl; number-first 
 pub masked : Masked
 unfolding suffixMask
 masked = record { digits-0 = refl; digits-1 = refl; digits-2 = refl; digits-3 = refl; digits-4 = refl; digits-5 = refl; digits-6 = refl; digits-7 = refl; digits-8 = refl }
+
+pub failed : Failed
+unfolding computing
+failed = record { none = refl; around = refl; itself = refl; nobody = refl }

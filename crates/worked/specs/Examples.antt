@@ -1,6 +1,6 @@
 -- P1 to P12 of document 01, "Trials at the edges", as one list about the book's definitions; the surveys of its images (document 02, Ticket 1); what
--- reading says of damaged ones (Ticket 2); and the nine suffix masks (Ticket 4).
-use Prim.Native.Nat.{ℕ}
+-- reading says of damaged ones (Ticket 2); the nine suffix masks (Ticket 4); and lookups around a failed node (Ticket 6).
+use Prim.Native.Nat.{ℕ, _+_, _^_}
 use mathlib.Core.Path.{_≡_}
 use mathlib.Core.List.{List, [], _∷_}
 use lib.ListN.{replicate}
@@ -24,11 +24,11 @@ reading im = readCall dirty im
 unfoldable pub verdictOn : Outcome → List ℕ
 verdictOn o = verdictCall (o .memory) .answer
 
-unfoldable pub lookupOn : Outcome → ℕ → ℕ → List ℕ
-lookupOn o u z = lookupCall (o .memory) u z .answer
+unfoldable pub lookupOn : Outcome → ℕ → ℕ → ℕ → List ℕ
+lookupOn o u z failed = lookupCall (o .memory) u z failed .answer
 
 unfoldable pub surveyOn : Outcome → List ℕ
-surveyOn o = surveyCall (o .memory) .answer
+surveyOn o = surveyCall (o .memory) 0 .answer
 
 -- the first sixteen bytes of E1 with this record count, before the records
 unfoldable pub headOfE1 : ℕ → List ℕ → List ℕ
@@ -53,6 +53,15 @@ unfoldable pub three : ℕ → List ℕ → List ℕ
 three count records =
     4 ∷ 1 ∷ 2 ∷ 2 ∷ 1 ∷ 3 ∷ 0 ∷ 0 ∷ 0 ∷ 0 ∷ 1 ∷ 0 ∷ 0 ∷ 0 ∷ 16 ∷ 0 ∷ 0 ∷ 0 ∷ count ∷ 0 ∷ records
 
+-- three nodes, 00, 01 and 11, with K 2: each table holds all that it must. The entry of node 1 for digit 1 holds node 2 and behind it node 3.
+unfoldable pub deep : List ℕ
+unfolding rec
+deep =
+    4 ∷ 1 ∷ 2 ∷ 2 ∷ 2 ∷ 3 ∷ 0 ∷ 0 ∷ 0 ∷ 0 ∷ 1 ∷ 0 ∷ 0 ∷ 0 ∷ 17 ∷ 0 ∷ 0 ∷ 0 ∷ 14 ∷ 0
+    ∷ rec 1 0 0 1 (rec 1 0 1 2 (rec 1 0 1 3 (rec 1 1 0 1
+    (rec 2 0 0 1 (rec 2 0 1 2 (rec 2 0 1 3 (rec 2 1 0 2 (rec 2 1 1 3
+    (rec 3 0 0 1 (rec 3 0 1 3 (rec 3 0 1 2 (rec 3 1 0 2 (rec 3 1 1 3 [])))))))))))))
+
 -- The list. An answer is the refusal and then the call's fields.
 pub record Worked : Type 0 where
   -- b 8, d 5: the common suffix of 10261 and five ids. Excluded: counting digits from the left (P1 would be 1, P4 2); counting every equal
@@ -73,9 +82,9 @@ pub record Worked : Type 0 where
   -- before the node, or numbers nodes from 0.
   pub p8 : verdictOn (reading E1Short) ≡ 0 ∷ 0 ∷ 1 ∷ 0 ∷ 1 ∷ []
   -- Excluded: a lookup that always arrives; one that counts a hop where it takes none; one that asks the destination's table.
-  pub p9 : lookupOn (reading E1Short) 1 2 ≡ 0 ∷ 0 ∷ 0 ∷ 1 ∷ []
+  pub p9 : lookupOn (reading E1Short) 1 2 0 ≡ 0 ∷ 0 ∷ 0 ∷ 1 ∷ []
   -- Excluded: a lookup that is always lost; a hop counted twice or not at all; one that answers where it started.
-  pub p10 : lookupOn (reading E1Short) 2 1 ≡ 0 ∷ 1 ∷ 1 ∷ 1 ∷ []
+  pub p10 : lookupOn (reading E1Short) 2 1 0 ≡ 0 ∷ 1 ∷ 1 ∷ 1 ∷ []
   -- b 2, d 2. Excluded: a digit compared with b by at most; no test of the digits.
   pub p11 : founding 2 2 1 0x2 .answer ≡ 7 ∷ []
   -- Excluded: no test of the bits above the digits.
@@ -123,3 +132,15 @@ pub record Masked : Type 0 where
   pub digits-6 : suffixMask 6 ≡ 0xffffff
   pub digits-7 : suffixMask 7 ≡ 0xfffffff
   pub digits-8 : suffixMask 8 ≡ 0xffffffff
+
+-- Lookups on `deep`; a set has bit u − 1 for node u.
+pub record Failed : Type 0 where
+  -- from node 1 to node 3, none failed: by node 2
+  pub none : lookupOn (reading deep) 1 3 0 ≡ 0 ∷ 1 ∷ 2 ∷ 3 ∷ []
+  -- node 2 failed, and number 64, which no node has: at once. Excluded: a lookup that takes a failed front; one that is lost where the first has failed;
+  -- one that counts those passed over as hops (2).
+  pub around : lookupOn (reading deep) 1 3 (2 ^ 63 + 2) ≡ 0 ∷ 1 ∷ 1 ∷ 3 ∷ []
+  -- the one node that is start and destination failed. Excluded: a lookup that has arrived before the set is asked.
+  pub itself : lookupOn (reading deep) 1 1 1 ≡ 21 ∷ 0 ∷ 0 ∷ 0 ∷ []
+  -- a number that no node has, and a failed start. Excluded: 21 judged before 9.
+  pub nobody : lookupOn (reading deep) 1 4 1 ≡ 9 ∷ 0 ∷ 0 ∷ 0 ∷ []

@@ -62,11 +62,26 @@ returns-4 c =
     let P = c .before .before .piece3 .ensures in
     (by-number _ _ 20 (c .before .before .before .before .before .match .keys4) _ _ _ _ P, omega (arith, P .ends))
 
+slice-aggregate-piece-4 : tie.Need-slice-aggregate-piece-4
+slice-aggregate-piece-4 c = search needs
+
+piece-requires-4 : tie.Need-piece-requires-4
+piece-requires-4 c κs = search needs
+
+same-length-5 : tie.Need-same-length-5
+same-length-5 c = search needs
+
 returns-5 : tie.Need-returns-5
 unfolding sentenceFrom17
 returns-5 c =
+    let P = c .before .before .piece4 .ensures in
+    (by-number _ _ 21 (c .before .before .before .before .before .match .keys5) _ _ _ _ P, omega (arith, P .ends))
+
+returns-6 : tie.Need-returns-6
+unfolding sentenceFrom17
+returns-6 c =
     let n = c .match .rest in
-    (no-sentence-from-17 _ _ _ (omega arith) _ (n .0 .0 .0 .1) (n .0 .0 .1) (n .0 .1) (n .1), omega arith)
+    (no-sentence-from-17 _ _ _ (omega arith) _ (n .0 .0 .0 .0 .1) (n .0 .0 .0 .1) (n .0 .0 .1) (n .0 .1) (n .1), omega arith)
 
 pub from-17-spec : {M : Type 1} → statement M
 from-17-spec =
@@ -87,4 +102,8 @@ from-17-spec =
     piece-requires-3
     same-length-4
     returns-4
-    returns-5)
+    slice-aggregate-piece-4
+    piece-requires-4
+    same-length-5
+    returns-5
+    returns-6)

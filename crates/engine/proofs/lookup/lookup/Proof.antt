@@ -16,7 +16,7 @@ unfolding lookupCall unlessRefused
 returns c = search refused-end
 
 lookup-requires : tie.Need-lookup-requires
-lookup-requires c κs = looks _ _ _ _ (c .before .refusal .ensures) (c .if1 .left)
+lookup-requires c κs = looks _ _ _ _ _ (c .before .refusal .ensures) (c .if1 .left)
 
 returns-2 : tie.Need-returns-2
 unfolding lookupCall

@@ -2,7 +2,7 @@
 use borrow.Author.Needs.{needs}
 use Rattle.model.specs.Refusals.{lookupRefusal}
 use Rattle.model.proofs.Refusals.{sentences, comparisons}
-use Rattle.refusals.proofs.State.{state-long, state-refused, state-later}
+use Rattle.refusals.proofs.State.{state-long, in-sets, state-refused, state-later}
 use Rattle.refusals.proofs.lookup.refusal.Statement.{statement}
 use Rattle.refusals.proofs.lookup.refusal.Tie as tie
 
@@ -27,9 +27,20 @@ returns-3 : tie.Need-returns-3
 unfolding lookupRefusal
 returns-3 c = search (state-later, sentences, comparisons)
 
+end-failed-requires : tie.Need-end-failed-requires
+end-failed-requires c κs =
+    let b = c .before .before in
+    let r = b .before .before in
+    let node = in-sets _ _ (r .before .state-refusal .ensures) (r .if1 .left) in
+    (node _ _ (b .before .is-node .ensures) (b .if2 .left), node _ _ (c .before .is-node2 .ensures) (c .if3 .left))
+
 returns-4 : tie.Need-returns-4
 unfolding lookupRefusal
 returns-4 c = search (state-later, sentences, comparisons)
+
+returns-5 : tie.Need-returns-5
+unfolding lookupRefusal
+returns-5 c = search (state-later, sentences, comparisons)
 
 pub refusal-spec : {M : Type 1} → statement M
 refusal-spec =
@@ -41,4 +52,6 @@ refusal-spec =
     returns-2
     is-node-requires-2
     returns-3
-    returns-4)
+    end-failed-requires
+    returns-4
+    returns-5)
