@@ -1,7 +1,7 @@
 /* A small rig: founds a network, lets seven nodes join it at the same time, delivers until all are in system, withdraws the join of one more that began by
- * the wrong gateway and begins it again, says what each join cost, looks nodes up, asks for the verdict and the hop survey, saves the network as an image
- * and reads it into other memory, after a look whether that holds a network already. README.md has the line that builds it; examples/rig.out is what it
- * prints. */
+ * the wrong gateway and begins it again, says what each join cost, looks nodes up, asks for the verdict and the hop survey, does both once more around a node
+ * that has failed, saves the network as an image and reads it into other memory, after a look whether that holds a network already. README.md has the line
+ * that builds it; examples/rig.out is what it prints. */
 #include <stdio.h>
 #include <stdlib.h>
 #include <string.h>
@@ -42,6 +42,7 @@ static const char *const refusals[] = {
     [OVERLAY_OWN_ENTRY] = "an own entry is absent or another's",
     [OVERLAY_NOT_HIGHEST] = "the node is not the highest-numbered",
     [OVERLAY_HAS_ATTACHED] = "the node has attached",
+    [OVERLAY_HAS_FAILED] = "the start or the destination has failed",
 };
 
 /* The refusal of an answer in words; a later version may have more. */
@@ -100,9 +101,10 @@ static unsigned settle(struct network *network, unsigned nodes)
     return all;
 }
 
-static void print_lookup(const struct network *network, unsigned from, unsigned to)
+/* A lookup around the failed nodes. */
+static void print_lookup(const struct network *network, unsigned from, unsigned to, uint64_t failed)
 {
-    uint64_t answer = taken("lookup", overlay_lookup(LENT(network), from, to));
+    uint64_t answer = taken("lookup", overlay_lookup(LENT(network), from, to, failed));
     printf("lookup from %u to %u: %s at node %u, hops %u\n", from, to,
            overlay_arrived(answer) ? "arrived" : "lost", overlay_last_node(answer), overlay_hops(answer));
 }
@@ -117,14 +119,26 @@ static void print_verdict(const struct network *network)
                overlay_short_digit(answer));
 }
 
-/* How many ordered pairs of different nodes arrive in so many hops, up to the digits of an id. */
-static void print_survey(const struct network *network, unsigned digits)
+/* How many ordered pairs of different nodes that have not failed arrive in so many hops, up to the digits of an id. */
+static void print_survey(const struct network *network, unsigned digits, uint64_t failed)
 {
     uint64_t counts[OVERLAY_SURVEY_COUNTS];
-    taken("survey", overlay_survey(LENT(network), counts));
+    taken("survey", overlay_survey(LENT(network), failed, counts));
     for (unsigned hops = 1; hops <= digits; hops++)
         printf("pairs with %u %s: %u\n", hops, hops == 1 ? "hop" : "hops", (unsigned)counts[hops - 1]);
     printf("lost pairs: %u\n", (unsigned)counts[OVERLAY_SURVEY_COUNTS - 1]);
+}
+
+/* What a node's failure does to the lookups of another. */
+static void fail(const struct network *network, unsigned failed, unsigned from, unsigned nodes)
+{
+    uint64_t set = overlay_only(failed);
+    printf("node %u fails\n", failed);
+    for (unsigned to = 1; to <= nodes; to++)
+        if (to != failed)
+            print_lookup(network, from, to, set);
+    print_refusal("a lookup to it", overlay_lookup(LENT(network), from, failed, set));
+    print_survey(network, 4, set);
 }
 
 /* What the join of each node cost. */
@@ -212,8 +226,9 @@ int main(void)
     print_costs(&first, nodes);
     print_verdict(&first);
     for (unsigned to = 1; to <= nodes; to++)
-        print_lookup(&first, nodes, to);
-    print_survey(&first, 4);
+        print_lookup(&first, nodes, to, 0);
+    print_survey(&first, 4, 0);
+    fail(&first, 2, nodes, nodes);
     save_and_read(&first, &second, nodes);
     print_verdict(&second);
     return 0;

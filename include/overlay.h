@@ -33,7 +33,7 @@ extern "C" {
 /* ---- version: of this header and of the archive that comes with it; CHANGES.md has a section for each */
 
 #define OVERLAY_VERSION_MAJOR 1
-#define OVERLAY_VERSION_MINOR 5
+#define OVERLAY_VERSION_MINOR 6
 
 /* ---- lengths */
 
@@ -69,6 +69,7 @@ extern "C" {
 #define OVERLAY_OWN_ENTRY 18             /* an own entry has no record, or doesn't start with its owner */
 #define OVERLAY_NOT_HIGHEST 19           /* the node isn't the highest-numbered one */
 #define OVERLAY_HAS_ATTACHED 20          /* the node is in system or notifying */
+#define OVERLAY_HAS_FAILED 21            /* the start or the destination of a lookup has failed */
 
 /* ---- calls */
 
@@ -95,16 +96,17 @@ uint64_t overlay_withdraw(uint64_t *state, size_t state_len, uint8_t *tables, si
 uint64_t overlay_deliver(uint64_t *state, size_t state_len, uint8_t *tables, size_t tables_len,
                          uint64_t sender, uint64_t receiver);
 
-/* Follows a lookup from one node to another, and changes nothing. Answers how it ended, by overlay_arrived, overlay_hops and
- * overlay_last_node. Refusals 1, 2, 9. */
+/* Follows a lookup from one node to another around the failed ones, and changes nothing. failed is a set of nodes: bit u - 1 for node u (overlay_only),
+ * 0 for none; a bit of a number that no node has means nothing. At each node the next hop is the frontmost of the entry that has not failed; where none is
+ * left the lookup is lost. Answers how it ended, by overlay_arrived, overlay_hops and overlay_last_node. Refusals 1, 2, 9, 21. */
 uint64_t overlay_lookup(const uint64_t *state, size_t state_len, const uint8_t *tables, size_t tables_len,
-                        uint64_t from, uint64_t to);
+                        uint64_t from, uint64_t to, uint64_t failed);
 
-/* Follows the lookup of every ordered pair of different nodes, and changes nothing but counts: counts[h - 1] is how many pairs arrive in h
- * hops, h from 1 to 8, and counts[8] how many are lost. All nine add up to n (n - 1) for n nodes; those for more hops than an id has digits are 0.
- * Answers the refusal alone; on a refusal counts are as they were. Refusals 1, 2. */
+/* Follows the lookup of every ordered pair of different nodes that have not failed, and changes nothing but counts: counts[h - 1] is how many pairs
+ * arrive in h hops, h from 1 to 8, and counts[8] how many are lost. failed is as of overlay_lookup. All nine add up to a (a - 1) for the a nodes that have
+ * not failed; those for more hops than an id has digits are 0. Answers the refusal alone; on a refusal counts are as they were. Refusals 1, 2. */
 uint64_t overlay_survey(const uint64_t *state, size_t state_len, const uint8_t *tables, size_t tables_len,
-                        uint64_t counts[OVERLAY_SURVEY_COUNTS]);
+                        uint64_t failed, uint64_t counts[OVERLAY_SURVEY_COUNTS]);
 
 /* Judges the tables, and changes nothing. Answers whether the network is K-consistent, by overlay_consistent; if not, the first entry that
  * falls short, by overlay_short_node, overlay_short_level and overlay_short_digit. Refusals 1, 2, 15. */
@@ -170,6 +172,14 @@ static inline unsigned overlay_short_digit(uint64_t answer) { return (unsigned)(
 
 /* Of write, bits 8 to 39: the length of the image in bytes. */
 static inline uint32_t overlay_image_length(uint64_t answer) { return (uint32_t)(answer >> 8 & 0xffffffff); }
+
+/* ---- sets of nodes, as failed of lookup and survey */
+
+/* The set of one node: bit node - 1. Sets are joined by |. A number that no node can have gives the empty set, 0. */
+static inline uint64_t overlay_only(uint64_t node)
+{
+    return node >= 1 && node <= OVERLAY_MOST_NODES ? (uint64_t)1 << (node - 1) : 0;
+}
 
 /* ---- the counts of a node, read off a sound state: what its join cost. They stay when the node is in system; found and read set them to
  * zero, and a join that is withdrawn and begun again counts anew. A number that no node has gives 0, however large it is. These two do not
