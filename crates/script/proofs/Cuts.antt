@@ -1,4 +1,4 @@
--- Laws of the words of a line, as the code cuts them off. Assumes nothing.
+-- Laws of the words of a text, as the code cuts them off. Assumes nothing.
 use Prim.Native.Nat.{ℕ, zero, suc, _-_, _≤_, _<_}
 use mathlib.Core.Path.{_≡_, sym, ap, _∙_}
 use mathlib.Core.List.{List}
@@ -6,7 +6,7 @@ use native.Mathlib.Omega.{arith}
 use lib.Dec.{eqb}
 use lib.ListN.{length, take, drop, length-drop}
 use lib.Seq.{take-all}
-use Rattle.script.specs.Words.{isBlank, isSolid, isHash, until, beforeComment, fromWord, toBlank, fromBlank, wordIn, word, isEmpty, ends}
+use Rattle.script.specs.Words.{isBlank, isSolid, isHash, until, beforeComment, fromWord, toBlank, fromBlank, firstWord, behindWord, isEmpty, wordless, afterWords, behind}
 use Rattle.script.proofs.Texts.{empty-is}
 
 -- the code's `&s[at..]`
@@ -19,27 +19,34 @@ pub from-word-is : (s : List ℕ) (at : ℕ) → at ≡ until isSolid s → take
 unfolding fromWord
 from-word-is s at e = from-place s at ∙ ap (λ (n : ℕ). drop n s) e
 
--- a turn of the loop passes a word
-pub word-goes : (k : ℕ) (text : List ℕ) (left : ℕ) (rest w : List ℕ) (at : ℕ) → wordIn k text ≡ wordIn left rest → 0 < left
-    → w ≡ fromWord rest → at ≡ until isBlank w → wordIn k text ≡ wordIn (left - 1) (take (length w - at) (drop at w))
-unfolding wordIn fromBlank
-word-goes k text zero rest w at e l p q = absurd (omega (arith, l))
-word-goes k text (suc left) rest w at e l p q =
-    let h : suc left - 1 ≡ left = omega arith in
-    rw h
-    (e ∙ ap (λ (v : List ℕ). wordIn left (drop (until isBlank v) v)) (sym p) ∙ ap (λ (n : ℕ). wordIn left (drop n w)) (sym q)
-    ∙ sym (ap (wordIn left) (from-place w at)))
+-- ---- the first word
 
-pub word-ends : (k : ℕ) (text : List ℕ) (left : ℕ) (rest w : List ℕ) (end : ℕ) → wordIn k text ≡ wordIn left rest → left ≤ 0
-    → w ≡ fromWord rest → end ≡ until isBlank w → take end w ≡ wordIn k text
-unfolding wordIn toBlank
-word-ends k text zero rest w end e l p q = rw q (sym (e ∙ ap (λ (v : List ℕ). take (until isBlank v) v) (sym p)))
-word-ends k text (suc left) rest w end e l p q = absurd (omega (arith, l))
+module _ (text w : List ℕ) (at : ℕ) (p : w ≡ fromWord text) (q : at ≡ until isBlank w) where
+  pub first-word-is : take at w ≡ firstWord text
+  unfolding firstWord toBlank
+  first-word-is = rw q (ap (λ (v : List ℕ). take (until isBlank v) v) p)
 
-pub word-is : (k : ℕ) (line : List ℕ) (end : ℕ) (r : List ℕ) → end ≡ until isHash line → r ≡ wordIn k (take end line) → r ≡ word k line
-unfolding word beforeComment
-word-is k line end r q e = e ∙ ap (λ (n : ℕ). wordIn k (take n line)) q
+  pub behind-word-is : take (length w - at) (drop at w) ≡ behindWord text
+  unfolding behindWord fromBlank
+  behind-word-is = from-place w at ∙ rw q (ap (λ (v : List ℕ). drop (until isBlank v) v) p)
 
-pub ends-is : (k : ℕ) (line r : List ℕ) → r ≡ word k line → eqb (length r) 0 ≡ ends k line
-unfolding ends
-ends-is k line r e = empty-is r ∙ ap isEmpty e
+pub wordless-is : (text w : List ℕ) → w ≡ firstWord text → eqb (length w) 0 ≡ wordless text
+unfolding wordless
+wordless-is text w e = empty-is w ∙ ap isEmpty e
+
+-- ---- the words behind
+
+module _ (k : ℕ) (text : List ℕ) (left : ℕ) (rest : List ℕ) (e : afterWords k text ≡ afterWords left rest) where
+  pub words-go : (r : List ℕ) → 0 < left → r ≡ behindWord rest → afterWords k text ≡ afterWords (left - 1) r
+  unfolding afterWords
+  words-go r l p =
+      let h : left ≡ suc (left - 1) = omega arith in
+      e ∙ ap (λ (n : ℕ). afterWords n rest) h ∙ ap (afterWords (left - 1)) (sym p)
+
+  pub words-end : left ≤ 0 → rest ≡ afterWords k text
+  unfolding afterWords
+  words-end l = let h : left ≡ 0 = omega arith in sym (e ∙ ap (λ (n : ℕ). afterWords n rest) h)
+
+pub behind-is : (k : ℕ) (line : List ℕ) (end : ℕ) (r : List ℕ) → end ≡ until isHash line → r ≡ afterWords k (take end line) → r ≡ behind k line
+unfolding behind beforeComment
+behind-is k line end r q e = e ∙ ap (λ (n : ℕ). afterWords k (take n line)) q

@@ -2,13 +2,13 @@
 use mathlib.Core.Path.{_≡_, refl}
 use Rattle.calls.specs.declared.Call.the-variants as call
 use Rattle.text.specs.Ascii.{ascii}
-use Rattle.script.specs.Words.{isBlank, isSolid, isHash, until, beforeComment, fromWord, toBlank, fromBlank, wordIn, word, isEmpty, ends, sameText, named}
-use Rattle.script.specs.Numbers.{digit, areDigits, valueFrom, isNumber, valueOf, numberOf, decimalOf, hexadecimalOf}
+use Rattle.script.specs.Words.{isBlank, isSolid, isHash, until, beforeComment, fromWord, toBlank, fromBlank, firstWord, behindWord, isEmpty, wordless, sameText, starts, afterWords, behind}
+use Rattle.script.specs.Numbers.{digit, areDigits, valueFrom, isNumber, valueOf, numberOf, hexadecimalOf}
 use Rattle.script.specs.Commands.{endsWith, ofNode, ofFile, found, begin, deliver, lookup, fileOrShown, commandOf}
 use Rattle.script.specs.declared.command.Command.the-variants.{Nothing, Unknown, Call, Save, Panel, Table}
 
 unfoldable computing : Unit {0}
-unfolding isBlank isSolid isHash until beforeComment fromWord toBlank fromBlank wordIn word isEmpty ends sameText named digit areDigits valueFrom isNumber valueOf numberOf decimalOf hexadecimalOf endsWith ofNode ofFile found begin deliver lookup fileOrShown commandOf
+unfolding isBlank isSolid isHash until beforeComment fromWord toBlank fromBlank firstWord behindWord isEmpty wordless sameText starts afterWords behind digit areDigits valueFrom isNumber valueOf numberOf hexadecimalOf endsWith ofNode ofFile found begin deliver lookup fileOrShown commandOf
 computing = tt
 
 pub founding : commandOf (ascii "found 16 8 4 0fFfffffF") ≡ Call (call.Found 16 8 4 4294967295)

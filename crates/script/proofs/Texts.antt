@@ -10,7 +10,7 @@ use borrow.Author.Tests.{eqb-true, eq-eqb, ne-eqb, le-leb, lt-leb}
 use Rattle.script.specs.declared.words.Mark.{Mark}
 use Rattle.script.specs.declared.words.Mark.the-variants.{Blank, Solid, Hash}
 use Rattle.script.specs.Marks.{marked}
-use Rattle.script.specs.Words.{isBlank, isSolid, isHash, isEmpty, sameText, word, named, part}
+use Rattle.script.specs.Words.{isBlank, isSolid, isHash, firstWord, isEmpty, sameText, starts, part}
 
 -- ---- blanks
 
@@ -68,9 +68,9 @@ same-is s t r h = go r (sameText s t) (λ e. ap (sameText s) (sym (h .0 e)) ∙ 
     go false true p q = q refl
     go false false p q = refl
 
-pub named-is : (line name w : List ℕ) (r : Bool) → w ≡ word 0 line → (r ≡ true → w ≡ name) × (w ≡ name → r ≡ true) → r ≡ named line name
-unfolding named
-named-is line name w r q h = same-is w name r h ∙ ap (λ (v : List ℕ). sameText v name) q
+pub starts-is : (text name w : List ℕ) (r : Bool) → w ≡ firstWord text → (r ≡ true → w ≡ name) × (w ≡ name → r ≡ true) → r ≡ starts text name
+unfolding starts
+starts-is text name w r q h = same-is w name r h ∙ ap (λ (v : List ℕ). sameText v name) q
 
 -- ---- no text
 

@@ -11,7 +11,7 @@ use lib.ListN.{length, getD, drop, drop-of-length-le}
 use lib.Seq.{drop-cons}
 use borrow.Author.Tests.{ltb-true, ltb-false, lt-ltb, le-ltb, le-leb, lt-leb}
 use Rattle.script.specs.Words.{isEmpty}
-use Rattle.script.specs.Numbers.{digit, areDigits, valueFrom, isNumber, valueOf, numberOf, decimalOf, hexadecimalOf, withDigit}
+use Rattle.script.specs.Numbers.{digit, areDigits, valueFrom, isNumber, valueOf, numberOf, hexadecimalOf, withDigit}
 use Rattle.script.specs.declared.numbers.Number.{Number}
 use Rattle.script.specs.declared.numbers.Number.the-variants as number
 use Rattle.script.specs.declared.numbers.Id.the-variants as ident
@@ -180,11 +180,7 @@ module _ (base : ℕ) (text : List ℕ) (n i d : ℕ) (x : Number) (e : numberOf
       sym
       (e ∙ ap (numberFrom base n) (drop-cons text i 0 l) ∙ number-none base n (getD text i 0) (drop (suc i) text) b (digit-next ∙ h))
 
--- ---- a word w, which the code has as r, as a number and as an id
-
-pub decimal-is : (w r : List ℕ) (x : Number) → r ≡ w → x ≡ numberOf 10 r → x ≡ decimalOf w
-unfolding decimalOf
-decimal-is w r x p e = e ∙ ap (numberOf 10) p
+-- ---- a word w, which the code has as r, as an id
 
 module _ (w r : List ℕ) (x : Number) (p : r ≡ w) (e : x ≡ numberOf 16 r) where
   read : x ≡ numberOf 16 w

@@ -38,7 +38,7 @@ valueOf base w = valueFrom base 0 w
 unfoldable pub numberOf : ℕ → List ℕ → Number
 numberOf base w = cond (isNumber base w && ltb (valueOf base w) 18446744073709551616) (number.Is (valueOf base w)) number.Not
 
-unfoldable pub decimalOf : List ℕ → Number
+abbrev pub decimalOf : List ℕ → Number
 decimalOf w = numberOf 10 w
 
 -- a word as an id: a number below 2^32 in hexadecimal

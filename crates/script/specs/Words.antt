@@ -37,22 +37,20 @@ toBlank text = take (until isBlank text) text
 unfoldable pub fromBlank : List ℕ → List ℕ
 fromBlank text = drop (until isBlank text) text
 
--- word k of a text without comment, from 0; empty where there is none
-unfoldable pub wordIn : ℕ → List ℕ → List ℕ
-wordIn zero text = toBlank (fromWord text)
-wordIn (suc k) text = wordIn k (fromBlank (fromWord text))
+-- a text's first word, empty where there is none, and what stands behind it
+unfoldable pub firstWord : List ℕ → List ℕ
+firstWord text = toBlank (fromWord text)
 
--- word k of a line, from 0; empty where there is none
-unfoldable pub word : ℕ → List ℕ → List ℕ
-word k line = wordIn k (beforeComment line)
+unfoldable pub behindWord : List ℕ → List ℕ
+behindWord text = fromBlank (fromWord text)
 
 unfoldable pub isEmpty : List ℕ → Bool
 isEmpty [] = true
 isEmpty (b ∷ bs) = false
 
--- a line has k words at most
-unfoldable pub ends : ℕ → List ℕ → Bool
-ends k line = isEmpty (word k line)
+-- a text has no word
+unfoldable pub wordless : List ℕ → Bool
+wordless text = isEmpty (firstWord text)
 
 -- two texts are the same
 unfoldable pub sameText : List ℕ → List ℕ → Bool
@@ -61,9 +59,30 @@ sameText [] (b ∷ t) = false
 sameText (a ∷ s) [] = false
 sameText (a ∷ s) (b ∷ t) = eqb a b && sameText s t
 
+-- a text's first word is this one
+unfoldable pub starts : List ℕ → List ℕ → Bool
+starts text name = sameText (firstWord text) name
+
+-- what stands behind the first k words of a text
+unfoldable pub afterWords : ℕ → List ℕ → List ℕ
+afterWords zero text = text
+afterWords (suc k) text = afterWords k (behindWord text)
+
+-- what stands behind the first k words of a line, up to its comment
+unfoldable pub behind : ℕ → List ℕ → List ℕ
+behind k line = afterWords k (beforeComment line)
+
+-- word k of a line, from 0; empty where there is none
+abbrev pub word : ℕ → List ℕ → List ℕ
+word k line = firstWord (behind k line)
+
+-- a line has k words at most
+abbrev pub ends : ℕ → List ℕ → Bool
+ends k line = wordless (behind k line)
+
 -- a line's first word is this one
-unfoldable pub named : List ℕ → List ℕ → Bool
-named line name = sameText (word 0 line) name
+abbrev pub named : List ℕ → List ℕ → Bool
+named line name = starts (behind 0 line) name
 
 -- the bytes from a place to another, where the text has both in this order; else none
 unfoldable pub part : List ℕ → ℕ → ℕ → List ℕ

@@ -61,11 +61,18 @@ fn value(text: &[u8], base: u64) -> Number
     Number::Is(n)
 }
 
+// A word as a number in decimal.
+pub fn decimal_of(text: &[u8]) -> Number
+    ensures { λ r. ⌜ r ≡ decimalOf (now (text .entry)) ⌝ }
+{
+    value(text, 10)
+}
+
 // Word k as a number in decimal.
 pub fn decimal(line: &[u8], k: u64) -> Number
     ensures { λ r. ⌜ r ≡ decimalOf (word k (now (line .entry))) ⌝ }
 {
-    value(word(line, k), 10)
+    decimal_of(word(line, k))
 }
 
 // Word k as an id, a number of 32 bits in hexadecimal.

@@ -3,7 +3,7 @@
 ghost use mathlib.Core.Path.{_≡_};
 ghost use Prim.Native.Nat.{_≤_};
 ghost use lib.ListN.{length};
-ghost use Rattle.script.specs.Words.{isBlank, until, fromWord, wordIn, word, ends, named, part};
+ghost use Rattle.script.specs.Words.{isBlank, until, fromWord, firstWord, behindWord, wordless, starts, afterWords, behind, word, ends, named, part};
 ghost use Rattle.script.specs.Marks.{marked};
 
 pub fn part(s: &[u8], from: usize, to: usize) -> &[u8]
@@ -68,41 +68,77 @@ fn from_word(text: &[u8]) -> &[u8]
     &text[at..]
 }
 
-// Word k of a text without comment.
-fn word_in(text: &[u8], k: u64) -> &[u8]
-    ensures { λ r. ⌜ now r ≡ wordIn k (now (text .entry)) ⌝ }
+// A text's first word, empty where there is none.
+pub fn first_word(text: &[u8]) -> &[u8]
+    ensures { λ r. ⌜ now r ≡ firstWord (now (text .entry)) ⌝ }
+{
+    let word = from_word(text);
+    let end = until(word, Mark::Blank);
+    &word[..end]
+}
+
+// What stands behind a text's first word.
+pub fn behind_word(text: &[u8]) -> &[u8]
+    ensures { λ r. ⌜ now r ≡ behindWord (now (text .entry)) ⌝ }
+{
+    let word = from_word(text);
+    let at = until(word, Mark::Blank);
+    &word[at..]
+}
+
+// The text has no word.
+pub fn wordless(text: &[u8]) -> bool
+    ensures { λ r. ⌜ r ≡ wordless (now (text .entry)) ⌝ }
+{
+    first_word(text).len() == 0
+}
+
+// The text's first word is this one.
+pub fn starts(text: &[u8], name: &[u8]) -> bool
+    ensures { λ r. ⌜ r ≡ starts (now (text .entry)) (now (name .entry)) ⌝ }
+{
+    check::same(first_word(text), name)
+}
+
+// What stands behind the first k words of a text.
+fn after_words(text: &[u8], k: u64) -> &[u8]
+    ensures { λ r. ⌜ now r ≡ afterWords k (now (text .entry)) ⌝ }
 {
     let mut rest = text;
     let mut left = k;
     while left > 0 {
-        let word = from_word(rest);
-        let at = until(word, Mark::Blank);
-        rest = &word[at..];
+        let next = behind_word(rest);
+        rest = next;
         left -= 1;
     }
-    let word = from_word(rest);
-    let end = until(word, Mark::Blank);
-    &word[..end]
+    rest
+}
+
+// What stands behind the first k words of the line, up to its comment.
+pub fn behind(line: &[u8], k: u64) -> &[u8]
+    ensures { λ r. ⌜ now r ≡ behind k (now (line .entry)) ⌝ }
+{
+    let end = until(line, Mark::Hash);
+    after_words(&line[..end], k)
 }
 
 // Word k of the line, from 0.
 pub fn word(line: &[u8], k: u64) -> &[u8]
     ensures { λ r. ⌜ now r ≡ word k (now (line .entry)) ⌝ }
 {
-    let end = until(line, Mark::Hash);
-    word_in(&line[..end], k)
+    first_word(behind(line, k))
 }
 
 // The line has k words at most.
 pub fn ends(line: &[u8], k: u64) -> bool
     ensures { λ r. ⌜ r ≡ ends k (now (line .entry)) ⌝ }
 {
-    word(line, k).len() == 0
+    wordless(behind(line, k))
 }
 
 // The line's first word is this one.
 pub fn named(line: &[u8], name: &[u8]) -> bool
     ensures { λ r. ⌜ r ≡ named (now (line .entry)) (now (name .entry)) ⌝ }
 {
-    check::same(word(line, 0), name)
+    starts(behind(line, 0), name)
 }

@@ -1,5 +1,4 @@
--- `decimal`: in base 10. Assumes nothing.
-use Rattle.script.proofs.Values.{decimal-is}
+-- `decimal`: of word k. Assumes nothing.
 use borrow.Author.Needs.{needs}
 use Rattle.script.proofs.numbers.decimal.Statement.{statement}
 use Rattle.script.proofs.numbers.decimal.Tie as tie
@@ -7,11 +6,11 @@ use Rattle.script.proofs.numbers.decimal.Tie as tie
 word-requires : tie.Need-word-requires
 word-requires c κs = search needs
 
-value-requires : tie.Need-value-requires
-value-requires c κs = search needs
+decimal-of-requires : tie.Need-decimal-of-requires
+decimal-of-requires c κs = search needs
 
 returns : tie.Need-returns
-returns c = search decimal-is
+returns c = cc
 
 pub decimal-spec : {M : Type 1} → statement M
-decimal-spec = tie.close (tie.spec word-requires value-requires returns)
+decimal-spec = tie.close (tie.spec word-requires decimal-of-requires returns)

@@ -1,17 +1,16 @@
--- `named`: by the library. Assumes nothing.
-use Rattle.script.proofs.Texts.{named-is}
+-- `named`: of the whole line. Assumes nothing.
 use borrow.Author.Needs.{needs}
 use Rattle.script.proofs.words.named.Statement.{statement}
 use Rattle.script.proofs.words.named.Tie as tie
 
-word-requires : tie.Need-word-requires
-word-requires c κs = search needs
+behind-requires : tie.Need-behind-requires
+behind-requires c κs = search needs
 
-same-requires : tie.Need-same-requires
-same-requires c κs = search needs
+starts-requires : tie.Need-starts-requires
+starts-requires c κs = search needs
 
 returns : tie.Need-returns
-returns c = search named-is
+returns c = cc
 
 pub named-spec : {M : Type 1} → statement M
-named-spec = tie.close (tie.spec word-requires same-requires returns)
+named-spec = tie.close (tie.spec behind-requires starts-requires returns)

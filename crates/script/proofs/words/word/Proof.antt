@@ -1,21 +1,16 @@
--- `word`: the words of what stands before the comment. Assumes nothing.
-use lib.Seq.{length-take-le}
-use Rattle.script.proofs.Cuts.{word-is}
+-- `word`: the first word behind k others. Assumes nothing.
 use borrow.Author.Needs.{needs}
 use Rattle.script.proofs.words.word.Statement.{statement}
 use Rattle.script.proofs.words.word.Tie as tie
 
-until-requires : tie.Need-until-requires
-until-requires c κs = tt
+behind-requires : tie.Need-behind-requires
+behind-requires c κs = search needs
 
-slice-aggregate-word-in : tie.Need-slice-aggregate-word-in
-slice-aggregate-word-in c = search (needs, length-take-le)
-
-word-in-requires : tie.Need-word-in-requires
-word-in-requires c κs = tt
+first-word-requires : tie.Need-first-word-requires
+first-word-requires c κs = search needs
 
 returns : tie.Need-returns
-returns c = search word-is
+returns c = cc
 
 pub word-spec : {M : Type 1} → statement M
-word-spec = tie.close (tie.spec until-requires slice-aggregate-word-in word-in-requires returns)
+word-spec = tie.close (tie.spec behind-requires first-word-requires returns)
