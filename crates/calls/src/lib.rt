@@ -10,9 +10,10 @@ pub enum Call {
     Withdraw(u64),
     // sender, receiver
     Deliver(u64, u64),
-    // from, to
-    Lookup(u64, u64),
-    Survey,
+    // from, to, the set of failed nodes
+    Lookup(u64, u64, u64),
+    // the set of failed nodes
+    Survey(u64),
     Verdict,
     // to the memory that is lent for output
     Write,

@@ -1,11 +1,13 @@
 -- Laws of the words of a text, as the code cuts them off. Assumes nothing.
 use Prim.Native.Nat.{ℕ, zero, suc, _-_, _≤_, _<_}
 use mathlib.Core.Path.{_≡_, sym, ap, _∙_}
+use mathlib.Core.Bool.{false}
 use mathlib.Core.List.{List}
 use native.Mathlib.Omega.{arith}
 use lib.Dec.{eqb}
-use lib.ListN.{length, take, drop, length-drop}
+use lib.ListN.{length, take, drop, length-take, length-drop}
 use lib.Seq.{take-all}
+use borrow.Author.Tests.{eqb-false}
 use Rattle.script.specs.Words.{isBlank, isSolid, isHash, until, beforeComment, fromWord, toBlank, fromBlank, firstWord, behindWord, isEmpty, wordless, afterWords, behind}
 use Rattle.script.proofs.Texts.{empty-is}
 
@@ -50,3 +52,17 @@ module _ (k : ℕ) (text : List ℕ) (left : ℕ) (rest : List ℕ) (e : afterWo
 pub behind-is : (k : ℕ) (line : List ℕ) (end : ℕ) (r : List ℕ) → end ≡ until isHash line → r ≡ afterWords k (take end line) → r ≡ behind k line
 unfolding behind beforeComment
 behind-is k line end r q e = e ∙ ap (λ (n : ℕ). afterWords k (take n line)) q
+
+-- ---- a word takes a byte at least
+
+drop-shorter : (m : ℕ) (s : List ℕ) → isEmpty (take m s) ≡ false → length (drop m s) < length s
+drop-shorter m s h =
+    let n : length (take m s) ≡ 0 → ⊥ = eqb-false (length (take m s)) 0 (empty-is (take m s) ∙ h) in
+    simp length-drop (omega (arith, simp length-take at n))
+
+pub word-takes : (text : List ℕ) → wordless text ≡ false → length (behindWord text) < length text
+unfolding wordless firstWord behindWord toBlank fromBlank fromWord
+word-takes text h =
+    let l : length (behindWord text) < length (fromWord text) = drop-shorter (until isBlank (fromWord text)) (fromWord text) h in
+    let g : length (fromWord text) ≤ length text = simp length-drop (omega arith) in
+    omega arith

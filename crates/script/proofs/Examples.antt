@@ -1,14 +1,17 @@
 -- Lines and their commands, by computation.
+use Prim.Native.Nat.{_+_, _^_}
 use mathlib.Core.Path.{_≡_, refl}
 use Rattle.calls.specs.declared.Call.the-variants as call
+use Rattle.model.specs.Memory.{hasNode, addNode}
 use Rattle.text.specs.Ascii.{ascii}
 use Rattle.script.specs.Words.{isBlank, isSolid, isHash, until, beforeComment, fromWord, toBlank, fromBlank, firstWord, behindWord, isEmpty, wordless, sameText, starts, afterWords, behind}
 use Rattle.script.specs.Numbers.{digit, areDigits, valueFrom, isNumber, valueOf, numberOf, hexadecimalOf}
-use Rattle.script.specs.Commands.{endsWith, ofNode, ofFile, found, begin, deliver, lookup, fileOrShown, commandOf}
+use Rattle.script.specs.Failed.{addNumber, addWords, failedIn, failedOf}
+use Rattle.script.specs.Commands.{endsWith, ofNode, ofFile, found, begin, deliver, lookup, survey, fileOrShown, commandOf}
 use Rattle.script.specs.declared.command.Command.the-variants.{Nothing, Unknown, Call, Save, Panel, Table}
 
 unfoldable computing : Unit {0}
-unfolding isBlank isSolid isHash until beforeComment fromWord toBlank fromBlank firstWord behindWord isEmpty wordless sameText starts afterWords behind digit areDigits valueFrom isNumber valueOf numberOf hexadecimalOf endsWith ofNode ofFile found begin deliver lookup fileOrShown commandOf
+unfolding isBlank isSolid isHash until beforeComment fromWord toBlank fromBlank firstWord behindWord isEmpty wordless sameText starts afterWords behind digit areDigits valueFrom isNumber valueOf numberOf hexadecimalOf hasNode addNode addNumber addWords failedIn failedOf endsWith ofNode ofFile found begin deliver lookup survey fileOrShown commandOf
 computing = tt
 
 pub founding : commandOf (ascii "found 16 8 4 0fFfffffF") ≡ Call (call.Found 16 8 4 4294967295)
@@ -23,9 +26,33 @@ pub commented : commandOf (ascii "  deliver\t2 1# and so on\r") ≡ Call (call.D
 unfolding computing
 commented = refl
 
-pub surveying : commandOf (ascii "survey") ≡ Call call.Survey
+pub surveying : commandOf (ascii "survey") ≡ Call (call.Survey 0)
 unfolding computing
 surveying = refl
+
+pub failed-nodes : commandOf (ascii "lookup 1 2 without 3 64") ≡ Call (call.Lookup 1 2 (2 ^ 2 + 2 ^ 63))
+unfolding computing
+failed-nodes = refl
+
+pub failed-twice : commandOf (ascii "survey without 7 7 # c") ≡ Call (call.Survey (2 ^ 6))
+unfolding computing
+failed-twice = refl
+
+pub numbers-of-no-node : commandOf (ascii "lookup 1 2 without 0 65") ≡ Call (call.Lookup 1 2 0)
+unfolding computing
+numbers-of-no-node = refl
+
+pub failed-no-number : commandOf (ascii "survey without x") ≡ Unknown
+unfolding computing
+failed-no-number = refl
+
+pub without-nothing : commandOf (ascii "lookup 1 2 without") ≡ Unknown
+unfolding computing
+without-nothing = refl
+
+pub without-left-out : commandOf (ascii "lookup 1 2 3") ≡ Unknown
+unfolding computing
+without-left-out = refl
 
 pub empty-line : commandOf (ascii " # verdict") ≡ Nothing
 unfolding computing

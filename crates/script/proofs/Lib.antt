@@ -3,5 +3,6 @@ pub mod Runs
 pub mod Texts
 pub mod Cuts
 pub mod Values
+pub mod FailedNodes
 pub mod Parsed
 pub mod Examples

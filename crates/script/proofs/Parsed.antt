@@ -5,9 +5,10 @@ use mathlib.Core.Bool.{Bool, true, false}
 use mathlib.Core.List.{List}
 use Rattle.calls.specs.declared.Call.the-variants as call
 use Rattle.text.specs.Ascii.{ascii}
-use Rattle.script.specs.Words.{word, ends, named}
+use Rattle.script.specs.Words.{behind, word, ends, named}
 use Rattle.script.specs.Numbers.{decimalOf, hexadecimalOf}
-use Rattle.script.specs.Commands.{endsWith, ofNode, ofFile, found, begin, withdraw, deliver, lookup, table, fileOrShown, commandOf}
+use Rattle.script.specs.Failed.{failedOf}
+use Rattle.script.specs.Commands.{endsWith, ofNode, ofFile, found, begin, withdraw, deliver, lookup, survey, table, fileOrShown, commandOf}
 use Rattle.script.specs.declared.numbers.Number.{Number}
 use Rattle.script.specs.declared.numbers.Number.the-variants as number
 use Rattle.script.specs.declared.numbers.Id.{Id}
@@ -77,9 +78,14 @@ module _ (line : List ℕ) (a : Number) (p : a ≡ decimalOf (word 1 line)) wher
         unfolding deliver
         deliver-is x e = rw (sym p ∙ q, sym p₂ ∙ q₂) e
 
-        pub lookup-is : (x : Command) → x ≡ endsWith 3 line (Call (call.Lookup n m)) → x ≡ lookup line
-        unfolding lookup
-        lookup-is x e = rw (sym p ∙ q, sym p₂ ∙ q₂) e
+        module _ (text : List ℕ) (f : Number) (e₃ : text ≡ behind 3 line) (p₃ : f ≡ failedOf text) where
+          pub lookup-last : f ≡ number.Not → Unknown ≡ lookup line
+          unfolding lookup
+          lookup-last h = rw (sym p ∙ q, sym p₂ ∙ q₂, ← e₃, sym p₃ ∙ h)
+
+          pub lookup-is : (l : ℕ) → f ≡ number.Is l → Call (call.Lookup n m l) ≡ lookup line
+          unfolding lookup
+          lookup-is l h = rw (sym p ∙ q, sym p₂ ∙ q₂, ← e₃, sym p₃ ∙ h)
 
         module _ (c : Number) (p₃ : c ≡ decimalOf (word 3 line)) where
           pub found-third : c ≡ number.Not → Unknown ≡ found line
@@ -108,6 +114,15 @@ module _ (line : List ℕ) (a : Id) (p : a ≡ hexadecimalOf (word 1 line)) wher
     pub begin-is : (m : ℕ) (x : Command) → b ≡ number.Is m → x ≡ endsWith 3 line (Call (call.Begin n m)) → x ≡ begin line
     unfolding begin
     begin-is m x q₂ e = rw (sym p ∙ q, sym p₂ ∙ q₂) e
+
+module _ (line text : List ℕ) (f : Number) (e : text ≡ behind 1 line) (p : f ≡ failedOf text) where
+  pub survey-none : f ≡ number.Not → Unknown ≡ survey line
+  unfolding survey
+  survey-none h = rw (← e, sym p ∙ h)
+
+  pub survey-is : (l : ℕ) → f ≡ number.Is l → Call (call.Survey l) ≡ survey line
+  unfolding survey
+  survey-is l h = rw (← e, sym p ∙ h)
 
 -- ---- the name of a command
 
@@ -167,7 +182,7 @@ module _ (line : List ℕ) where
               lookup-named x h e = rw (sym e₀ ∙ q₀, sym p ∙ q, sym p₂ ∙ q₂, sym p₃ ∙ q₃, sym p₄ ∙ q₄, sym p₅ ∙ h) e
 
               module _ (q₅ : d ≡ false) (s : Bool) (p₆ : s ≡ named line (ascii "survey")) where
-                pub survey-named : (x : Command) → s ≡ true → x ≡ endsWith 1 line (Call call.Survey) → x ≡ commandOf line
+                pub survey-named : (x : Command) → s ≡ true → x ≡ survey line → x ≡ commandOf line
                 unfolding commandOf
                 survey-named x h e = rw (sym e₀ ∙ q₀, sym p ∙ q, sym p₂ ∙ q₂, sym p₃ ∙ q₃, sym p₄ ∙ q₄, sym p₅ ∙ q₅, sym p₆ ∙ h) e
 

@@ -4,10 +4,10 @@ use mathlib.Core.Bool.{cond}
 use mathlib.Core.List.{List}
 use Rattle.calls.specs.declared.Call.the-variants as call
 use Rattle.text.specs.Ascii.{ascii}
-use Rattle.script.specs.Words.{word, ends, named}
-use Rattle.script.specs.Numbers.{decimalOf, hexadecimalOf}
+use Rattle.script.specs.Words.{behind, word, ends, named}
+use Rattle.script.specs.Numbers.{ifNumber, decimalOf, hexadecimalOf}
+use Rattle.script.specs.Failed.{failedOf}
 use Rattle.script.specs.declared.numbers.Number.{Number}
-use Rattle.script.specs.declared.numbers.Number.the-variants as number
 use Rattle.script.specs.declared.numbers.Id.{Id}
 use Rattle.script.specs.declared.numbers.Id.the-variants as ident
 use Rattle.script.specs.declared.command.Command.{Command}
@@ -16,8 +16,7 @@ use Rattle.script.specs.declared.command.Command.the-variants.{Nothing, 
 -- what is made of a number or an id; where there is none, the line is not understood
 
 abbrev pub ofNumber : Number → (ℕ → Command) → Command
-ofNumber (number.Is n) make = make n
-ofNumber number.Not make = Unknown
+ofNumber x make = ifNumber x make Unknown
 
 abbrev pub ofId : Id → (ℕ → Command) → Command
 ofId (ident.Is n) make = make n
@@ -30,6 +29,10 @@ withNumber k line make = ofNumber (decimalOf (word k line)) make
 
 abbrev pub withId : ℕ → List ℕ → (ℕ → Command) → Command
 withId k line make = ofId (hexadecimalOf (word k line)) make
+
+-- the same of the failed nodes that the words from k on name
+abbrev pub withFailed : ℕ → List ℕ → (ℕ → Command) → Command
+withFailed k line make = ofNumber (failedOf (behind k line)) make
 
 -- a command, where the line has k words at most; a word too many is not understood
 unfoldable pub endsWith : ℕ → List ℕ → Command → Command
@@ -54,7 +57,10 @@ unfoldable pub deliver : List ℕ → Command
 deliver line = withNumber 1 line (λ sender. withNumber 2 line (λ receiver. endsWith 3 line (Call (call.Deliver sender receiver))))
 
 unfoldable pub lookup : List ℕ → Command
-lookup line = withNumber 1 line (λ from. withNumber 2 line (λ to. endsWith 3 line (Call (call.Lookup from to))))
+lookup line = withNumber 1 line (λ from. withNumber 2 line (λ to. withFailed 3 line (λ failed. Call (call.Lookup from to failed))))
+
+unfoldable pub survey : List ℕ → Command
+survey line = withFailed 1 line (λ failed. Call (call.Survey failed))
 
 abbrev pub table : List ℕ → Command
 table line = ofNode line Table
@@ -80,7 +86,7 @@ commandOf line =
     (cond (named line (ascii "withdraw")) (withdraw line)
     (cond (named line (ascii "deliver")) (deliver line)
     (cond (named line (ascii "lookup")) (lookup line)
-    (cond (named line (ascii "survey")) (endsWith 1 line (Call call.Survey))
+    (cond (named line (ascii "survey")) (survey line)
     (cond (named line (ascii "verdict")) (endsWith 1 line (Call call.Verdict))
     (cond (named line (ascii "sound")) (endsWith 1 line (Call call.Sound))
     (fileOrShown line)))))))))

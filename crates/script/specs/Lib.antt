@@ -2,4 +2,5 @@
 pub mod Words
 pub mod Marks
 pub mod Numbers
+pub mod Failed
 pub mod Commands

@@ -48,3 +48,8 @@ hexadecimalOf w = cond (isNumber 16 w && ltb (valueOf 16 w) 4294967296) (ident.I
 -- a number with one more digit behind it, where it stays below 2^64
 unfoldable pub withDigit : ℕ → ℕ → ℕ → Number
 withDigit base n d = cond (ltb d base && ltb (n * base + d) 18446744073709551616) (number.Is (n * base + d)) number.Not
+
+-- what is made of a number, or of none
+abbrev pub ifNumber : {A : Type 0} → Number → (ℕ → A) → A → A
+ifNumber (number.Is n) make none = make n
+ifNumber number.Not make none = none

@@ -1,10 +1,12 @@
 // A line of the script as a command.
 ghost use mathlib.Core.Path.{_≡_};
-ghost use Rattle.script.specs.Commands.{endsWith, ofFile, found, begin, withdraw, deliver, lookup, table, fileOrShown, commandOf};
+ghost use Rattle.script.specs.Commands.{endsWith, ofFile, found, begin, withdraw, deliver, lookup, survey, table, fileOrShown, commandOf};
+use crate::failed::failed_of;
 use crate::numbers::Id;
 use crate::numbers::Number;
 use crate::numbers::decimal;
 use crate::numbers::hexadecimal;
+use crate::words::behind;
 use crate::words::ends;
 use crate::words::named;
 use calls::Call;
@@ -92,7 +94,19 @@ fn lookup(line: &[u8]) -> Command
     let Number::Is(to) = decimal(line, 2) else {
         return Command::Unknown;
     };
-    ends_with(line, 3, Command::Call(Call::Lookup(from, to)))
+    let Number::Is(failed) = failed_of(behind(line, 3)) else {
+        return Command::Unknown;
+    };
+    Command::Call(Call::Lookup(from, to, failed))
+}
+
+fn survey(line: &[u8]) -> Command
+    ensures { λ r. ⌜ r ≡ survey (now (line .entry)) ⌝ }
+{
+    let Number::Is(failed) = failed_of(behind(line, 1)) else {
+        return Command::Unknown;
+    };
+    Command::Call(Call::Survey(failed))
 }
 
 fn table(line: &[u8]) -> Command
@@ -156,7 +170,7 @@ pub fn parsed(line: &[u8]) -> Command
         return lookup(line);
     }
     if named(line, b"survey") {
-        return ends_with(line, 1, Command::Call(Call::Survey));
+        return survey(line);
     }
     if named(line, b"verdict") {
         return ends_with(line, 1, Command::Call(Call::Verdict));

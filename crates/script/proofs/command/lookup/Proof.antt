@@ -1,5 +1,5 @@
 -- `lookup`: its words in order. Assumes nothing.
-use Rattle.script.proofs.Parsed.{lookup-first, lookup-second, lookup-is}
+use Rattle.script.proofs.Parsed.{lookup-first, lookup-second, lookup-last, lookup-is}
 use borrow.Author.Needs.{needs}
 use Rattle.script.proofs.command.lookup.Statement.{statement}
 use Rattle.script.proofs.command.lookup.Tie as tie
@@ -28,11 +28,23 @@ enum-told-2 c = search needs
 returns-2 : tie.Need-returns-2
 returns-2 c = search lookup-second
 
-ends-with-requires : tie.Need-ends-with-requires
-ends-with-requires c κs = search needs
+behind-requires : tie.Need-behind-requires
+behind-requires c κs = search needs
+
+failed-of-requires : tie.Need-failed-of-requires
+failed-of-requires c κs = search needs
+
+enum-known-failed : tie.Need-enum-known-failed
+enum-known-failed c = search needs
+
+enum-told-3 : tie.Need-enum-told-3
+enum-told-3 c = search needs
 
 returns-3 : tie.Need-returns-3
-returns-3 c = search lookup-is
+returns-3 c = search lookup-last
+
+returns-4 : tie.Need-returns-4
+returns-4 c = search lookup-is
 
 pub lookup-spec : {M : Type 1} → statement M
 lookup-spec =
@@ -46,5 +58,9 @@ lookup-spec =
     enum-known-to
     enum-told-2
     returns-2
-    ends-with-requires
-    returns-3)
+    behind-requires
+    failed-of-requires
+    enum-known-failed
+    enum-told-3
+    returns-3
+    returns-4)

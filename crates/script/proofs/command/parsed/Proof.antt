@@ -76,8 +76,8 @@ slice-aggregate-named-6 c = search needs
 named-requires-6 : tie.Need-named-requires-6
 named-requires-6 c κs = search needs
 
-ends-with-requires : tie.Need-ends-with-requires
-ends-with-requires c κs = search needs
+survey-requires : tie.Need-survey-requires
+survey-requires c κs = search needs
 
 returns-7 : tie.Need-returns-7
 returns-7 c = search survey-named
@@ -88,8 +88,8 @@ slice-aggregate-named-7 c = search needs
 named-requires-7 : tie.Need-named-requires-7
 named-requires-7 c κs = search needs
 
-ends-with-requires-2 : tie.Need-ends-with-requires-2
-ends-with-requires-2 c κs = search needs
+ends-with-requires : tie.Need-ends-with-requires
+ends-with-requires c κs = search needs
 
 returns-8 : tie.Need-returns-8
 returns-8 c = search verdict-named
@@ -100,8 +100,8 @@ slice-aggregate-named-8 c = search needs
 named-requires-8 : tie.Need-named-requires-8
 named-requires-8 c κs = search needs
 
-ends-with-requires-3 : tie.Need-ends-with-requires-3
-ends-with-requires-3 c κs = search needs
+ends-with-requires-2 : tie.Need-ends-with-requires-2
+ends-with-requires-2 c κs = search needs
 
 returns-9 : tie.Need-returns-9
 returns-9 c = search sound-named
@@ -140,15 +140,15 @@ parsed-spec =
     returns-6
     slice-aggregate-named-6
     named-requires-6
-    ends-with-requires
+    survey-requires
     returns-7
     slice-aggregate-named-7
     named-requires-7
-    ends-with-requires-2
+    ends-with-requires
     returns-8
     slice-aggregate-named-8
     named-requires-8
-    ends-with-requires-3
+    ends-with-requires-2
     returns-9
     file-or-shown-requires
     returns-10)
