@@ -1,2 +1,3 @@
 -- Laws of what the code over one table computes.
 pub mod Gathered
+pub mod Fronts

@@ -4,6 +4,7 @@ use Prim.Native.Nat.{ℕ, _≤_, _<_}
 use mathlib.Core.List.{List}
 use lib.ListN.{length}
 use Rattle.model.specs.Memory.{tablesLength}
+use Rattle.model.specs.Tables.{slotAt}
 
 -- entry (i, j) of depth K stands in T
 pub record Entry (T : List ℕ) (K i j : ℕ) : Type 0 where
@@ -11,6 +12,10 @@ pub record Entry (T : List ℕ) (K i j : ℕ) : Type 0 where
   pub depth : K ≤ 4
   pub level : i < 8
   pub digit : j < 16
+
+-- its slots hold numbers that nodes can have, or 0
+abbrev pub Numbers : List ℕ → ℕ → ℕ → ℕ → Type 0
+Numbers T K i j = (k : ℕ) → k < K → slotAt T i j k ≤ 64
 
 -- x's table stands in t
 pub record Lent (t : List ℕ) (x : ℕ) : Type 0 where

@@ -3,8 +3,11 @@
 ghost use mathlib.Core.Path.{_≡_};
 ghost use Prim.Native.Nat.{_≤_, _<_};
 ghost use Rattle.model.specs.Loops.{allBelow};
+ghost use Rattle.model.specs.Lookup as book;
 ghost use Rattle.model.specs.Tables as tables;
-ghost use Rattle.tables.specs.Places.{Entry};
+ghost use Rattle.tables.specs.Places.{Entry, Numbers};
+ghost use Rattle.tables.specs.Front.{bookFront};
+use state::sets::has;
 
 // How many nodes the entry holds: the slots before its first empty one.
 pub fn size(table: &[u8], depth: usize, i: usize, j: usize) -> usize
@@ -44,6 +47,41 @@ pub fn first(table: &[u8], i: usize, j: usize) -> usize
     ensures { λ r. ⌜ r ≡ tables.firstOf (now (table .entry)) i j ⌝ }
 {
     table[64 * i + 4 * j] as usize
+}
+
+// The frontmost node of the entry that has not failed, 0 where none is left, and how many failed ones stand in front of it.
+pub struct Front {
+    pub node: usize,
+    pub passed_over: usize,
+}
+
+pub fn frontmost(table: &[u8], depth: usize, i: usize, j: usize, failed: u64) -> Front
+    requires { ⌜ Entry (now table) depth i j ⌝ }
+    requires { ⌜ Numbers (now table) depth i j ⌝ }
+    ensures { λ r. ⌜ bookFront r ≡ book.frontmost failed (tables.entry depth (now (table .entry)) i j) ⌝ }
+{
+    let entry = 64 * i + 4 * j;
+    let mut k = 0;
+    while k < depth {
+        let node = table[entry + k] as usize;
+        if node == 0 {
+            return Front {
+                node: 0,
+                passed_over: k,
+            };
+        }
+        if !has(failed, node) {
+            return Front {
+                node,
+                passed_over: k,
+            };
+        }
+        k += 1;
+    }
+    Front {
+        node: 0,
+        passed_over: depth,
+    }
 }
 
 // All four slots are empty, those from the depth on too: asked at once, since most entries of a table are.
