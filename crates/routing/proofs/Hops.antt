@@ -1,71 +1,103 @@
--- One hop as the code takes it, over what it has read: the ids a of u and b of z, the settings' digits d, their common suffix m.
+-- One hop as the code takes it, over what it has read: the ids a of u and b of z, the settings' digits d and depth K, their common suffix m.
 -- Assumes nothing.
 use Prim.Native.Nat.{ℕ, _-_, _≤_, _<_}
 use mathlib.Core.Path.{_≡_, sym, ap, subst, _∙_}
 use mathlib.Core.Logic.{_≢_}
 use mathlib.Core.List.{List}
+use native.Mathlib.Decide.{ℕ-discrete}
 use native.Mathlib.Omega.{arith}
+use lib.ListN.{length}
 use Rattle.model.specs.Ids.{digitOf, commonSuffix}
-use Rattle.model.specs.Memory.{digits, idOf, tableOf}
-use Rattle.model.specs.Tables.{firstOf}
+use Rattle.model.specs.Memory.{digits, depth, idOf, tableOf}
+use Rattle.model.specs.Tables.{slotPlace, slotAt, entry}
 use Rattle.model.specs.Nodes.{suffixOf}
 use Rattle.model.specs.Lookup as book
-use Rattle.model.specs.Lookup.{nextHop}
+use Rattle.model.specs.Lookup.{NextHop, hopEntry, frontmost, nextHop}
 use Rattle.model.proofs.Status.{IsNode}
-use Rattle.model.proofs.Sound.{Sound}
+use Rattle.model.proofs.Sound.{Sound, standing}
 use Rattle.model.proofs.SoundNodes.{suffix-below}
-use Rattle.model.proofs.Lookup.{oneHopMore, hop-node, left-falls, lookup-hop, hops-bound}
+use Rattle.model.proofs.Lookup.{oneHopMore, lostAt, loses-is, hop-node, left-falls, lookup-hop, hops-bound}
+use Rattle.tables.specs.Places.{Entry, Numbers}
 use Rattle.routing.specs.declared.answer.Lookup.{Lookup}
 use Rattle.routing.specs.Answer.{bookLookup}
 
--- the first of the entry at the common suffix
-pub reads-next : (s t T : List ℕ) (u z d a b m j r : ℕ) → a ≡ idOf s u → b ≡ idOf s z → d ≡ digits s → m ≡ commonSuffix d a b
-    → T ≡ tableOf t u → j ≡ digitOf b m → r ≡ firstOf T m j → r ≡ nextHop s t u z
-unfolding nextHop
-reads-next s t T u z d a b m j r ea eb ed em eT ej er = let w : m ≡ suffixOf s u z = cc in cc
+-- the frontmost of the entry at the common suffix
+pub reads-next : (s t T : List ℕ) (failed u z d K a b m j : ℕ) (r : NextHop) → a ≡ idOf s u → b ≡ idOf s z → d ≡ digits s → K ≡ depth s
+    → m ≡ commonSuffix d a b → T ≡ tableOf t u → j ≡ digitOf b m → r ≡ frontmost failed (entry K T m j) → r ≡ nextHop s t failed u z
+unfolding nextHop hopEntry
+reads-next s t T failed u z d K a b m j r ea eb ed eK em eT ej er = let w : m ≡ suffixOf s u z = cc in cc
 
--- two nodes have no common suffix of all digits
-pub level-below : (s t : List ℕ) → Sound s t → (u z : ℕ) → IsNode s u → IsNode s z → u ≢ z → (d a b m : ℕ) → a ≡ idOf s u → b ≡ idOf s z
-    → d ≡ digits s → m ≡ commonSuffix d a b → m < 8
-level-below s t S u z nu nz ne d a b m ea eb ed em =
+-- that entry stands in the table, since two nodes have no common suffix of all digits
+pub entry-stands : (s t : List ℕ) → Sound s t → (u z : ℕ) → IsNode s u → IsNode s z → u ≢ z → (T : List ℕ) (d K a b m j : ℕ) → a ≡ idOf s u
+    → b ≡ idOf s z → d ≡ digits s → K ≡ depth s → m ≡ commonSuffix d a b → length T ≡ 512 → j < 16 → Entry T K m j
+entry-stands s t S u z nu nz ne T d K a b m j ea eb ed eK em long low =
     let w : m ≡ suffixOf s u z = cc in
-    omega (arith, suffix-below s t S u z nu nz (λ e. ne (sym e)), S .settings .digits-most)
+    record {
+      long = omega arith;
+      depth = omega (arith, S .settings .depth-most);
+      level = omega (arith, suffix-below s t S u z nu nz (λ e. ne (sym e)), S .settings .digits-most);
+      digit = low;
+    }
 
--- a lookup from u to z hops to v
-pub record Hop (s t : List ℕ) (u z v : ℕ) : Type 0 where
+-- and holds numbers of nodes
+pub numbers : (s t : List ℕ) → Sound s t → (u : ℕ) → IsNode s u → (T : List ℕ) → T ≡ tableOf t u → (K i j : ℕ) → Entry T K i j → Numbers T K i j
+numbers s t S u nu T e K i j E k h = go (ℕ-discrete (slotAt T i j k) 0)
+  where
+    place : slotPlace i j k < 512
+    place = omega (arith, E .depth, E .level, E .digit)
+
+    same : slotAt T i j k ≡ slotAt (tableOf t u) i j k
+    same = ap (λ (T : List ℕ). slotAt T i j k) e
+
+    go : Dec (slotAt T i j k ≡ 0) → slotAt T i j k ≤ 64
+    go (yes none) = omega arith
+    go (no some) =
+        omega (arith, S .few, same, standing s (S .settings) u (tableOf t u) (S .tables u nu) (slotPlace i j k) place (λ none. some (same ∙ none)) .0)
+
+-- where the next-hop rule names no node, a lookup is lost
+pub loses-here : (s t : List ℕ) (failed u z : ℕ) (r : NextHop) → u ≢ z → r ≡ nextHop s t failed u z → r .node ≡ 0
+    → lostAt u ≡ book.lookup s t failed u z
+loses-here s t failed u z r ne next none =
+    sym (loses-is s t failed u z ne (ap (λ (r : NextHop). r .node) (sym next) ∙ none))
+
+-- a lookup from u to z hops to the node of r
+pub record Hop (s t : List ℕ) (failed u z : ℕ) (r : NextHop) : Type 0 where
   pub sound : Sound s t
   pub from : IsNode s u
   pub to : IsNode s z
   pub apart : u ≢ z
-  pub next : v ≡ nextHop s t u z
-  pub some : v ≢ 0
+  pub next : r ≡ nextHop s t failed u z
+  pub some : r .node ≢ 0
 
-module _ (s t : List ℕ) (u z v : ℕ) (h : Hop s t u z v) where
-  filled : nextHop s t u z ≢ 0
-  filled e = h .some (h .next ∙ e)
+module _ (s t : List ℕ) (failed u z : ℕ) (r : NextHop) (h : Hop s t failed u z r) where
+  at : nextHop s t failed u z .node ≡ r .node
+  at = ap (λ (r : NextHop). r .node) (sym (h .next))
 
-  pub next-node : IsNode s v
+  filled : nextHop s t failed u z .node ≢ 0
+  filled e = h .some (sym at ∙ e)
+
+  pub next-node : IsNode s (r .node)
   next-node =
-      subst (IsNode s) (sym (h .next)) (hop-node s t (h .sound) u z (h .from) (h .to) (h .apart) filled .0)
+      subst (IsNode s) at (hop-node s t (h .sound) failed u z (h .from) (h .to) (h .apart) filled .0)
 
   -- the measure of the recursion
-  pub falls : digits s - suffixOf s v z < digits s - suffixOf s u z
+  pub falls : digits s - suffixOf s (r .node) z < digits s - suffixOf s u z
   falls =
-      subst (λ (v : ℕ). digits s - suffixOf s v z < digits s - suffixOf s u z) (sym (h .next))
-      (left-falls s t (h .sound) z (h .to) u (h .from) (h .apart) filled)
+      subst (λ (v : ℕ). digits s - suffixOf s v z < digits s - suffixOf s u z) at
+      (left-falls s t (h .sound) failed z (h .to) u (h .from) (h .apart) filled)
 
-  -- the lookup from u is that from v with one hop more
-  pub hop-is : book.lookup s t u z ≡ oneHopMore (book.lookup s t v z)
+  -- the lookup from u is that from the next node with one hop more
+  pub hop-is : book.lookup s t failed u z ≡ oneHopMore (book.lookup s t failed (r .node) z)
   hop-is =
-      lookup-hop s t (h .sound) z (h .to) u (h .from) (h .apart) filled
-      ∙ ap (λ (v : ℕ). oneHopMore (book.lookup s t v z)) (sym (h .next))
+      lookup-hop s t (h .sound) failed z (h .to) u (h .from) (h .apart) filled
+      ∙ ap (λ (v : ℕ). oneHopMore (book.lookup s t failed v z)) at
 
-  -- r is what the lookup from the next node has answered
-  module _ (r : Lookup) (further : bookLookup r ≡ book.lookup s t v z) where
-    pub few-hops : r .hops ≤ 8
+  -- l is what the lookup from the next node has answered
+  module _ (l : Lookup) (further : bookLookup l ≡ book.lookup s t failed (r .node) z) where
+    pub few-hops : l .hops ≤ 8
     few-hops =
-        let e : r .hops ≡ book.lookup s t v z .hops = ap (λ (l : book.Lookup). l .hops) further in
-        omega (arith, hops-bound s t (h .sound) z (h .to) v next-node, h .sound .settings .digits-most)
+        let e : l .hops ≡ book.lookup s t failed (r .node) z .hops = ap (λ (l : book.Lookup). l .hops) further in
+        omega (arith, hops-bound s t (h .sound) failed z (h .to) (r .node) next-node, h .sound .settings .digits-most)
 
-    pub one-hop-more : oneHopMore (bookLookup r) ≡ book.lookup s t u z
+    pub one-hop-more : oneHopMore (bookLookup l) ≡ book.lookup s t failed u z
     one-hop-more = ap oneHopMore further ∙ sym hop-is

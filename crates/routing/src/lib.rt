@@ -1,4 +1,4 @@
-// Lookup by suffix routing, on a sound state.
+// Lookup by suffix routing, on a sound state. `failed` is the set of failed nodes; a number in it that no node has means nothing.
 pub mod answer;
 
 ghost use mathlib.Core.Path.{_≡_};
@@ -6,6 +6,7 @@ ghost use mathlib.Core.Logic.{_≢_};
 ghost use Rattle.model.specs.Lookup as book;
 ghost use Rattle.model.proofs.Status.{IsNode};
 ghost use Rattle.model.proofs.Sound.{Sound};
+ghost use Rattle.tables.specs.Front.{bookFront};
 ghost use Rattle.routing.specs.Answer.{bookLookup};
 use crate::answer::Lookup;
 use ident::common_suffix;
@@ -13,30 +14,33 @@ use ident::digit;
 use state::record;
 use state::settings;
 use tables::entry;
+use tables::entry::Front;
 use tables::part;
 
-// Where a lookup at u goes next: to the first node of u's entry for z at the level of their common suffix; 0 if that entry is empty.
-pub fn next_hop(state: &[u64], tables: &[u8], u: usize, z: usize) -> usize
+// Where a lookup at u goes next: to the frontmost node that has not failed of u's entry for z at the level of their common suffix; 0 if none is
+// left. And how many failed ones it passes over.
+pub fn next_hop(state: &[u64], tables: &[u8], u: usize, z: usize, failed: u64) -> Front
     requires { ⌜ Sound (now state) (now tables) ⌝ }
     requires { ⌜ IsNode (now state) u ⌝ }
     requires { ⌜ IsNode (now state) z ⌝ }
     requires { ⌜ u ≢ z ⌝ }
-    ensures { λ r. ⌜ r ≡ book.nextHop (now (state .entry)) (now (tables .entry)) u z ⌝ }
+    ensures { λ r. ⌜ bookFront r ≡ book.nextHop (now (state .entry)) (now (tables .entry)) failed u z ⌝ }
 {
     let from = record::id(state, u) as u32;
     let to = record::id(state, z) as u32;
-    let digits = settings::load(state).digits;
-    let m = common_suffix(digits, from, to);
-    entry::first(part::lent(tables, u), m, digit(to, m))
+    let s = settings::load(state);
+    let m = common_suffix(s.digits, from, to);
+    let table = part::lent(tables, u);
+    entry::frontmost(table, s.depth, m, digit(to, m), failed)
 }
 
 // A lookup that starts at its destination has arrived. One with no next hop is lost where it is. Any other is the lookup from the next hop, with
 // one hop more.
-pub fn lookup(state: &[u64], tables: &[u8], u: usize, z: usize) -> Lookup
+pub fn lookup(state: &[u64], tables: &[u8], u: usize, z: usize, failed: u64) -> Lookup
     requires { ⌜ Sound (now state) (now tables) ⌝ }
     requires { ⌜ IsNode (now state) u ⌝ }
     requires { ⌜ IsNode (now state) z ⌝ }
-    ensures { λ r. ⌜ bookLookup r ≡ book.lookup (now (state .entry)) (now (tables .entry)) u z ⌝ }
+    ensures { λ r. ⌜ bookLookup r ≡ book.lookup (now (state .entry)) (now (tables .entry)) failed u z ⌝ }
 {
     if u == z {
         return Lookup {
@@ -45,7 +49,7 @@ pub fn lookup(state: &[u64], tables: &[u8], u: usize, z: usize) -> Lookup
             last: u,
         };
     }
-    let next = next_hop(state, tables, u, z);
+    let next = next_hop(state, tables, u, z, failed).node;
     if next == 0 {
         return Lookup {
             arrived: false,
@@ -53,7 +57,7 @@ pub fn lookup(state: &[u64], tables: &[u8], u: usize, z: usize) -> Lookup
             last: u,
         };
     }
-    let further = lookup(state, tables, next, z);
+    let further = lookup(state, tables, next, z, failed);
     Lookup {
         arrived: further.arrived,
         hops: further.hops + 1,

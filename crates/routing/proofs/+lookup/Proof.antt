@@ -1,15 +1,16 @@
 -- `routing::lookup` meets its contract, by recursion from the next node: a hop leaves fewer digits to match, which is the measure, and
 -- each return is the definition's case. Assumes nothing.
 use Prim.Native.Nat.{ℕ, _-_, _<_}
-use mathlib.Core.Path.{sym, _∙_}
+use mathlib.Core.Path.{sym}
 use native.Mathlib.Omega.{arith}
 use borrow.Fn.Kinds.{In}
 use borrow.Fn.PlainCycle.{Measures, is, and}
 use borrow.Fn.PlainCycle as cycle
 use Rattle.model.specs.Memory.{digits}
 use Rattle.model.specs.Nodes.{suffixOf}
-use Rattle.model.proofs.Lookup.{arrives-is, loses-is}
-use Rattle.routing.proofs.Hops.{Hop, next-node, falls, few-hops, one-hop-more}
+use Rattle.model.proofs.Lookup.{arrives-is}
+use Rattle.tables.specs.Front.{bookFront}
+use Rattle.routing.proofs.Hops.{Hop, loses-here, next-node, falls, few-hops, one-hop-more}
 use Rattle.routing.proofs.lookup.Reads as lookup
 use Rattle.routing.proofs.lookup.Kinds as lookup-kinds
 use Rattle.routing.proofs.+lookup.Lts-lookup as lookup-lts
@@ -30,7 +31,7 @@ lookup-below t = and 2 lookup-kinds.ps (cycle.falls 2 lookup-kinds.ps _<_ μ-loo
 lookup-returns : (t : ℕ) → lookup-lts.Need-returns (next-hop.Asked, next-hop.Learnt, lookup-below t, lookup.Post) (lookup-at t) lookup.Post
 lookup-returns t c =
     let p = c .before .before .before in
-    sym (arrives-is _ _ (p .args .u) (p .args .z) (c .if1 .taken))
+    sym (arrives-is _ _ _ (p .args .u) (p .args .z) (c .if1 .taken))
 
 lookup-next-hop-requires : (t : ℕ) → lookup-lts.Need-next-hop-requires (next-hop.Asked, next-hop.Learnt, lookup-below t, lookup.Post) (lookup-at t) lookup.Post
 lookup-next-hop-requires t c κs =
@@ -38,15 +39,11 @@ lookup-next-hop-requires t c κs =
     (p .0, (p .1 .0, (p .1 .1, c .if1 .left)))
 
 lookup-returns-2 : (t : ℕ) → lookup-lts.Need-returns-2 (next-hop.Asked, next-hop.Learnt, lookup-below t, lookup.Post) (lookup-at t) lookup.Post
-lookup-returns-2 t c =
-    let p = c .before .before .before .before .before in
-    sym
-    (loses-is _ _ (p .args .u) (p .args .z) (c .before .before .if1 .left)
-    (sym (c .before .next-hop .ensures) ∙ c .if2 .taken))
+lookup-returns-2 t c = search loses-here
 
 -- past both tests
 hop : (t : ℕ) (c : lookup-lts.Else2 (next-hop.Asked, next-hop.Learnt, lookup-below t, lookup.Post) (lookup-at t) lookup.Post)
-    → let p = c .before .before .before .before .before .args in Hop (p .state .now) (p .tables .now) (p .u) (p .z) (c .before .next-hop .result)
+    → let p = c .before .before .before .before .before .args in Hop (p .state .now) (p .tables .now) (p .failed) (p .u) (p .z) (bookFront (c .before .next-hop .result))
 hop t c =
     let p = c .before .before .before .before .before .pre .1 in
     record {
@@ -61,18 +58,18 @@ hop t c =
 lookup-lookup-requires : (t : ℕ) → lookup-lts.Need-lookup-requires (next-hop.Asked, next-hop.Learnt, lookup-below t, lookup.Post) (lookup-at t) lookup.Post
 lookup-lookup-requires t c κs =
     let p = c .before .before .before .before .before .pre in
-    (omega (arith, p .0, falls _ _ _ _ _ (hop t c)), (p .1 .0, (next-node _ _ _ _ _ (hop t c), p .1 .1 .1)))
+    (omega (arith, p .0, falls _ _ _ _ _ _ (hop t c)), (p .1 .0, (next-node _ _ _ _ _ _ (hop t c), p .1 .1 .1)))
 
-lookup-add-t8 : (t : ℕ) → lookup-lts.Need-add-t8 (next-hop.Asked, next-hop.Learnt, lookup-below t, lookup.Post) (lookup-at t) lookup.Post
-lookup-add-t8 t c =
-    omega (arith, few-hops _ _ _ _ _ (hop t (c .before .before)) (c .before .lookup .result) (c .before .lookup .ensures))
+lookup-add-t10 : (t : ℕ) → lookup-lts.Need-add-t10 (next-hop.Asked, next-hop.Learnt, lookup-below t, lookup.Post) (lookup-at t) lookup.Post
+lookup-add-t10 t c =
+    omega (arith, few-hops _ _ _ _ _ _ (hop t (c .before .before)) (c .before .lookup .result) (c .before .lookup .ensures))
 
 lookup-returns-3 : (t : ℕ) → lookup-lts.Need-returns-3 (next-hop.Asked, next-hop.Learnt, lookup-below t, lookup.Post) (lookup-at t) lookup.Post
 lookup-returns-3 t c =
-    one-hop-more _ _ _ _ _ (hop t (c .before .before)) (c .before .lookup .result) (c .before .lookup .ensures)
+    one-hop-more _ _ _ _ _ _ (hop t (c .before .before)) (c .before .lookup .result) (c .before .lookup .ensures)
 
 pub +lookup-spec : {M : Type 1} → statement M
 +lookup-spec =
     close μ-lookup
     (λ t.
-    lookup-lts.spec (next-hop.Asked, next-hop.Learnt, lookup-below t, lookup.Post) (lookup-at t) lookup.Post (lookup-returns t) (lookup-next-hop-requires t) (lookup-returns-2 t) (lookup-lookup-requires t) (lookup-add-t8 t) (lookup-returns-3 t))
+    lookup-lts.spec (next-hop.Asked, next-hop.Learnt, lookup-below t, lookup.Post) (lookup-at t) lookup.Post (lookup-returns t) (lookup-next-hop-requires t) (lookup-returns-2 t) (lookup-lookup-requires t) (lookup-add-t10 t) (lookup-returns-3 t))

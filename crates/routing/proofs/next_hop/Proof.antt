@@ -1,9 +1,9 @@
--- `routing::next_hop` meets its contract: it reads the ids, their common suffix and the first of that entry, as the definition does.
+-- `routing::next_hop` meets its contract: it reads the ids, their common suffix and the frontmost of that entry, as the definition does.
 -- Assumes nothing.
 use native.Mathlib.Omega.{arith}
 use borrow.Author.Needs.{needs}
 use Rattle.model.proofs.Sound.{id-fits}
-use Rattle.routing.proofs.Hops.{reads-next, level-below}
+use Rattle.routing.proofs.Hops.{reads-next, entry-stands, numbers}
 use Rattle.routing.proofs.next_hop.Statement.{statement}
 use Rattle.routing.proofs.next_hop.Tie as tie
 
@@ -35,18 +35,8 @@ lent-requires c κs = search needs
 digit-requires : tie.Need-digit-requires
 digit-requires c κs = search needs
 
-first-requires : tie.Need-first-requires
-first-requires c κs =
-    let p = c .before .before .before .before .before .before .before .before in
-    record {
-      long = search needs;
-      depth = omega arith;
-      level =
-          level-below _ _ (p .pre .0) (p .args .u) (p .args .z) (p .pre .1 .0) (p .pre .1 .1 .0) (p .pre .1 .1 .1) _ _ _ _
-          (c .before .before .before .before .before .id .ensures) (c .before .before .before .before .id2 .ensures)
-          (c .before .before .before .load .ensures .digits) (c .before .before .common-suffix .ensures .0);
-      digit = c .digit .ensures .1;
-    }
+frontmost-requires : tie.Need-frontmost-requires
+frontmost-requires c κs = (search entry-stands, search (numbers, entry-stands))
 
 returns : tie.Need-returns
 returns c = search reads-next
@@ -63,5 +53,5 @@ next-hop-spec =
     common-suffix-requires
     lent-requires
     digit-requires
-    first-requires
+    frontmost-requires
     returns)
