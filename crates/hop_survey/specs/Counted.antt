@@ -8,6 +8,7 @@ use lib.ListN.{length, getD, set}
 use Rattle.model.specs.Loops.{eachBelow, node}
 use Rattle.model.specs.Memory.{nodeCount}
 use Rattle.model.specs.Lookup.{Lookup, lookup}
+use Rattle.model.specs.Survey.{isPair}
 
 -- nine counts, none above `most`
 pub record Room (most : ℕ) (C : List ℕ) : Type 0 where
@@ -22,10 +23,10 @@ placeOf r = cond (eqb (r .arrived) 1) (r .hops - 1) 8
 abbrev pub countAt : ℕ → List ℕ → List ℕ
 countAt p C = set C p (getD C p 0 + 1)
 
--- the pair of u and z, if they are different
-unfoldable pub countPair : List ℕ → List ℕ → ℕ → ℕ → List ℕ → List ℕ
-countPair s t u z C = cond (eqb u z) C (countAt (placeOf (lookup s t u z)) C)
+-- u and z, if they are a pair
+unfoldable pub countPair : List ℕ → List ℕ → ℕ → ℕ → ℕ → List ℕ → List ℕ
+countPair s t failed u z C = cond (isPair failed u z) (countAt (placeOf (lookup s t failed u z)) C) C
 
 -- the pairs from u
-unfoldable pub countFrom : List ℕ → List ℕ → ℕ → List ℕ → List ℕ
-countFrom s t u C = eachBelow (nodeCount s) (node (countPair s t u)) C
+unfoldable pub countFrom : List ℕ → List ℕ → ℕ → ℕ → List ℕ → List ℕ
+countFrom s t failed u C = eachBelow (nodeCount s) (node (countPair s t failed u)) C

@@ -12,11 +12,11 @@ use Rattle.hop_survey.proofs.count_from.Statement.{statement}
 use Rattle.hop_survey.proofs.count_from.Tie as tie
 
 abbrev Inv-loop : tie.InvT-loop
-Inv-loop state tables u counts₀ nodes k₀ counts k =
-    (k ≤ nodeCount state) × (counts ≡ eachBelow k (node (countPair state tables u)) counts₀)
+Inv-loop state tables u failed counts₀ nodes k₀ counts k =
+    (k ≤ nodeCount state) × (counts ≡ eachBelow k (node (countPair state tables failed u)) counts₀)
 
 abbrev μ-loop : tie.MeasureT-loop
-μ-loop state tables u counts₀ nodes k₀ counts k = nodeCount state - k
+μ-loop state tables u failed counts₀ nodes k₀ counts k = nodeCount state - k
 
 load-requires : tie.Need-load-requires Inv-loop μ-loop
 load-requires c κs = search needs
@@ -36,7 +36,7 @@ count-pair-requires c κs =
         p .1 .0,
         (
           record { low = omega arith; high = omega arith },
-          subst (Room 4160) (sym (l .inv .1)) (some-room _ _ (p .0) _ (p .1 .0) (l .k) (l .inv .0) _ (p .1 .1)),
+          subst (Room 4160) (sym (l .inv .1)) (some-room _ _ (p .0) _ _ (p .1 .0) (l .k) (l .inv .0) _ (p .1 .1)),
         ),
       ),
     )
@@ -55,7 +55,7 @@ loop-again c =
 returns : tie.Need-returns Inv-loop μ-loop
 returns c =
     let l = c .before .loop in
-    from-counted _ _ _ _ _ (each-ends _ _ _ (l .k) _ (l .inv .1) (l .inv .0) (omega arith))
+    from-counted _ _ _ _ _ _ (each-ends _ _ _ (l .k) _ (l .inv .1) (l .inv .0) (omega arith))
 
 pub count-from-spec : {M : Type 1} → statement M
 count-from-spec =

@@ -13,11 +13,11 @@ use Rattle.hop_survey.proofs.survey.Statement.{statement}
 use Rattle.hop_survey.proofs.survey.Tie as tie
 
 abbrev Inv-loop : tie.InvT-loop
-Inv-loop state tables nodes counts₀ k₀ counts k =
-    (k ≤ nodeCount state) × (counts ≡ eachBelow k (node (countFrom state tables)) (replicate 9 0))
+Inv-loop state tables failed nodes counts₀ k₀ counts k =
+    (k ≤ nodeCount state) × (counts ≡ eachBelow k (node (countFrom state tables failed)) (replicate 9 0))
 
 abbrev μ-loop : tie.MeasureT-loop
-μ-loop state tables nodes counts₀ k₀ counts k = nodeCount state - k
+μ-loop state tables failed nodes counts₀ k₀ counts k = nodeCount state - k
 
 load-requires : tie.Need-load-requires Inv-loop μ-loop
 load-requires c κs = search needs
@@ -32,7 +32,7 @@ count-from-requires : tie.Need-count-from-requires Inv-loop μ-loop
 count-from-requires c κs =
     let p = c .before .before .before .before .before .before .pre in
     let l = c .before .before .loop in
-    (p, (record { low = omega arith; high = omega arith }, subst (Room 4096) (sym (l .inv .1)) (rows-room _ _ p (l .k) (l .inv .0))))
+    (p, (record { low = omega arith; high = omega arith }, subst (Room 4096) (sym (l .inv .1)) (rows-room _ _ p _ (l .k) (l .inv .0))))
 
 add-k : tie.Need-add-k Inv-loop μ-loop
 add-k c = omega arith
@@ -48,7 +48,7 @@ loop-again c =
 returns : tie.Need-returns Inv-loop μ-loop
 returns c =
     let l = c .before .loop in
-    rows-are _ _ (c .before .before .before .before .before .pre) _ (each-ends _ _ _ (l .k) _ (l .inv .1) (l .inv .0) (omega arith))
+    rows-are _ _ (c .before .before .before .before .before .pre) _ _ (each-ends _ _ _ (l .k) _ (l .inv .1) (l .inv .0) (omega arith))
 
 pub survey-spec : {M : Type 1} → statement M
 survey-spec =
