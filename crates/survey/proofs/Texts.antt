@@ -26,7 +26,7 @@ module _ (o : List ℕ) (a : ℕ) (p : List ℕ) (e : ℕ) (q : List ℕ) (g : �
   count-lines-put d C P Q = put-then o a _ p e _ q g P Q
 
 -- the text of what the survey answers on m
-pub survey-put : (m : Memory) (r d : ℕ) (C o p : List ℕ) (e : ℕ) → leaves m (r ∷ C) ≡ surveyCall m → d ≡ digits (m .state)
+pub survey-put : (m : Memory) (r d : ℕ) (C o p : List ℕ) (e : ℕ) → leaves m (r ∷ C) ≡ surveyCall m 0 → d ≡ digits (m .state)
     → Put o 0 (surveyText d (r ∷ C)) p e → Put o 0 (surveyOf m) p e
 survey-put m r d C o p e f is P =
     subst (λ (l : List ℕ). Put o 0 l p e) (ap₂ (λ (d : ℕ) (o : Outcome). surveyText d (o .answer)) is f) P

@@ -101,8 +101,8 @@ returns-6 : tie.Need-returns-6
 unfolding step
 returns-6 c = (search plays, search output)
 
-enum-told-2 : tie.Need-enum-told-2
-enum-told-2 c = search needs
+enum-known-call-6 : tie.Need-enum-known-call-6
+enum-known-call-6 c = search needs
 
 survey-requires : tie.Need-survey-requires
 survey-requires c κs = search needs
@@ -117,8 +117,8 @@ returns-7 : tie.Need-returns-7
 unfolding step
 returns-7 c = (search plays, search output)
 
-enum-told-3 : tie.Need-enum-told-3
-enum-told-3 c = search needs
+enum-told-2 : tie.Need-enum-told-2
+enum-told-2 c = search needs
 
 verdict-requires : tie.Need-verdict-requires
 verdict-requires c κs = search needs
@@ -133,8 +133,8 @@ returns-8 : tie.Need-returns-8
 unfolding step
 returns-8 c = (search plays, search output)
 
-enum-told-4 : tie.Need-enum-told-4
-enum-told-4 c = search needs
+enum-told-3 : tie.Need-enum-told-3
+enum-told-3 c = search needs
 
 write-requires : tie.Need-write-requires
 write-requires c κs = search needs
@@ -152,8 +152,8 @@ returns-9 : tie.Need-returns-9
 unfolding step
 returns-9 c = (search plays, search output)
 
-enum-told-5 : tie.Need-enum-told-5
-enum-told-5 c = search needs
+enum-told-4 : tie.Need-enum-told-4
+enum-told-4 c = search needs
 
 sound-requires : tie.Need-sound-requires
 sound-requires c κs = search needs
@@ -202,23 +202,23 @@ play-spec =
     same-length-11
     same-length-12
     returns-6
-    enum-told-2
+    enum-known-call-6
     survey-requires
     same-length-13
     same-length-14
     returns-7
-    enum-told-3
+    enum-told-2
     verdict-requires
     same-length-15
     same-length-16
     returns-8
-    enum-told-4
+    enum-told-3
     write-requires
     same-length-17
     same-length-18
     same-length-19
     returns-9
-    enum-told-5
+    enum-told-4
     sound-requires
     same-length-20
     same-length-21
