@@ -1,16 +1,18 @@
 -- The frontmost node of an entry that has not failed, slot after slot. T is the table of one node. Assumes nothing.
 use Prim.Native.Nat.{ℕ, _+_, _≤_, _<_}
-use mathlib.Core.Path.{_≡_, sym, ap, subst, _∙_}
+use mathlib.Core.Path.{_≡_, refl, sym, ap, subst, _∙_}
 use mathlib.Core.Logic.{_≢_}
 use mathlib.Core.Bool.{Bool, true, false, not}
 use mathlib.Core.List.{List}
-use native.Mathlib.Decide.{decLt}
+use native.Mathlib.Decide.{decLt, ℕ-discrete}
 use native.Mathlib.Omega.{arith}
 use lib.ListN.{length, getD, List·getD-eq-default}
-use borrow.Author.Tests.{not-true, not-false}
+use lib.Dec.{eqb}
+use borrow.Author.Tests.{eqb-true, not-true, not-false}
 use Rattle.model.specs.Memory.{hasNode}
-use Rattle.model.specs.Tables.{slotPlace, slotAt, entrySize, entry}
+use Rattle.model.specs.Tables.{slotPlace, slotAt, entrySize, entry, firstOf}
 use Rattle.model.specs.Lookup.{frontmost}
+use Rattle.model.proofs.Sets.{has-none}
 use Rattle.model.proofs.Tables.{entry-length, entry-at}
 use Rattle.model.proofs.TableSteps.{size-goes, size-leaves, size-ends}
 use Rattle.model.proofs.NextHop.{front-is}
@@ -68,3 +70,18 @@ module _ (failed K : ℕ) (T : List ℕ) (i j : ℕ) where
       front-past l g =
           let w : k ≡ K = omega arith in
           subst (λ (n : ℕ). record { node = 0; passedOver = n } ≡ frontmost failed (entry K T i j)) w (ended (w ∙ size-ends K T i j k (p .within) g))
+
+-- where none has failed it is the first
+pub front-first : (failed K : ℕ) (T : List ℕ) (i j : ℕ) → Entry T K i j → 1 ≤ K → (r : Bool) → r ≡ eqb failed 0 → r ≡ true → (v : ℕ) → v ≡ firstOf T i j
+    → record { node = v; passedOver = 0 } ≡ frontmost failed (entry K T i j)
+front-first failed K T i j E some r q h v is = ap (λ (v : ℕ). record { node = v; passedOver = 0 }) is ∙ go (ℕ-discrete (firstOf T i j) 0)
+  where
+    none : Passed failed K T i j 0
+    none = passed-none failed K T i j
+
+    left : false ≡ hasNode failed (firstOf T i j)
+    left = sym (ap (λ (f : ℕ). hasNode f (firstOf T i j)) (eqb-true failed 0 (sym q ∙ h)) ∙ has-none (firstOf T i j))
+
+    go : Dec (firstOf T i j ≡ 0) → record { node = firstOf T i j; passedOver = 0 } ≡ frontmost failed (entry K T i j)
+    go (yes e) = ap (λ (v : ℕ). record { node = v; passedOver = 0 }) e ∙ front-empty failed K T i j 0 none E e
+    go (no ne) = front-found failed K T i j 0 none E (omega arith) ne false left refl

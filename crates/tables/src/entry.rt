@@ -8,6 +8,7 @@ ghost use Rattle.model.specs.Tables as tables;
 ghost use Rattle.tables.specs.Places.{Entry, Numbers};
 ghost use Rattle.tables.specs.Front.{bookFront};
 use state::sets::has;
+use state::sets::is_empty;
 
 // How many nodes the entry holds: the slots before its first empty one.
 pub fn size(table: &[u8], depth: usize, i: usize, j: usize) -> usize
@@ -55,11 +56,19 @@ pub struct Front {
     pub passed_over: usize,
 }
 
+// With none failed it is the first: a case of its own, which a caller's loop asks once for all its turns.
 pub fn frontmost(table: &[u8], depth: usize, i: usize, j: usize, failed: u64) -> Front
     requires { ⌜ Entry (now table) depth i j ⌝ }
     requires { ⌜ Numbers (now table) depth i j ⌝ }
+    requires { ⌜ 1 ≤ depth ⌝ }
     ensures { λ r. ⌜ bookFront r ≡ book.frontmost failed (tables.entry depth (now (table .entry)) i j) ⌝ }
 {
+    if is_empty(failed) {
+        return Front {
+            node: first(table, i, j),
+            passed_over: 0,
+        };
+    }
     let entry = 64 * i + 4 * j;
     let mut k = 0;
     while k < depth {

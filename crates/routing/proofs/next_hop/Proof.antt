@@ -36,7 +36,7 @@ digit-requires : tie.Need-digit-requires
 digit-requires c κs = search needs
 
 frontmost-requires : tie.Need-frontmost-requires
-frontmost-requires c κs = (search entry-stands, search (numbers, entry-stands))
+frontmost-requires c κs = (search entry-stands, (search (numbers, entry-stands), omega arith))
 
 returns : tie.Need-returns
 returns c = search reads-next

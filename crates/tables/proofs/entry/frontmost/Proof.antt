@@ -1,8 +1,9 @@
 -- `frontmost`: the slots before `k` hold failed nodes. Assumes nothing.
 use Prim.Native.Nat.{_≤_, _-_}
 use native.Mathlib.Omega.{arith}
+use borrow.Author.Needs.{needs}
 use Rattle.model.specs.Tables.{slotPlace}
-use Rattle.tables.proofs.Fronts.{Passed, passed-none, passed-more, front-found, front-empty, front-past}
+use Rattle.tables.proofs.Fronts.{Passed, passed-none, passed-more, front-found, front-empty, front-past, front-first}
 use Rattle.tables.proofs.entry.frontmost.Statement.{statement}
 use Rattle.tables.proofs.entry.frontmost.Tie as tie
 
@@ -11,6 +12,15 @@ Inv-loop table depth i j failed entry k₀ k = (k ≤ depth) × Passed failed de
 
 abbrev μ-loop : tie.MeasureT-loop
 μ-loop table depth i j failed entry k₀ k = depth - k
+
+is-empty-requires : tie.Need-is-empty-requires Inv-loop μ-loop
+is-empty-requires c κs = search needs
+
+first-requires : tie.Need-first-requires Inv-loop μ-loop
+first-requires c κs = search needs
+
+returns : tie.Need-returns Inv-loop μ-loop
+returns c = search front-first
 
 mul-entry : tie.Need-mul-entry Inv-loop μ-loop
 mul-entry c = omega arith
@@ -32,20 +42,20 @@ shared-slice-read-node c = omega arith
 
 cast-node : tie.Need-cast-node Inv-loop μ-loop
 cast-node c =
-    let a = c .before .before .before .before .args in
+    let a = c .before .before .before .before .before .before .args in
     omega (arith, c .shared-slice-known2 .given (slotPlace (a .i) (a .j) (c .before .before .loop .k)))
 
-returns : tie.Need-returns Inv-loop μ-loop
-returns c = search front-empty
+returns-2 : tie.Need-returns-2 Inv-loop μ-loop
+returns-2 c = search front-empty
 
 has-requires : tie.Need-has-requires Inv-loop μ-loop
 has-requires c κs =
-    let p = c .before .before .before .before .before .pre in
+    let p = c .before .before .before .before .before .before .before .pre in
     let k = c .before .before .before .loop .k in
-    record { first = omega (arith, c .if1 .left); last = p .1 k (c .before .before .loop-test .taken) }
+    record { first = omega (arith, c .if2 .left); last = p .1 .0 k (c .before .before .loop-test .taken) }
 
-returns-2 : tie.Need-returns-2 Inv-loop μ-loop
-returns-2 c = search front-found
+returns-3 : tie.Need-returns-3 Inv-loop μ-loop
+returns-3 c = search front-found
 
 add-k : tie.Need-add-k Inv-loop μ-loop
 add-k c = omega arith
@@ -56,8 +66,8 @@ loop-less c = omega arith
 loop-again : tie.Need-loop-again Inv-loop μ-loop
 loop-again c = (omega arith, search passed-more)
 
-returns-3 : tie.Need-returns-3 Inv-loop μ-loop
-returns-3 c = search front-past
+returns-4 : tie.Need-returns-4 Inv-loop μ-loop
+returns-4 c = search front-past
 
 pub frontmost-spec : {M : Type 1} → statement M
 frontmost-spec =
@@ -65,6 +75,9 @@ frontmost-spec =
     (tie.spec
     Inv-loop
     μ-loop
+    is-empty-requires
+    first-requires
+    returns
     mul-entry
     mul-entry-2
     add-entry
@@ -72,10 +85,10 @@ frontmost-spec =
     add-node
     shared-slice-read-node
     cast-node
-    returns
-    has-requires
     returns-2
+    has-requires
+    returns-3
     add-k
     loop-less
     loop-again
-    returns-3)
+    returns-4)
