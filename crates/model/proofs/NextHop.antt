@@ -69,9 +69,8 @@ module _ (failed : ℕ) (E : List ℕ) where
       (first-unique (length E) isLeft k (record { within = h; before = λ m l. ap not (before m l); holds = λ l. ap not (left l) }))
 
 -- with none failed it is the first
-pub front-first : (E : List ℕ) → frontmost 0 E .node ≡ getD E 0 0
-front-first E =
-    ap (λ (r : NextHop). r .node) (sym (front-is 0 E 0 (omega arith) (λ m l. absurd (omega arith)) (λ l. has-none (getD E 0 0))))
+pub front-first : (E : List ℕ) → record { node = getD E 0 0; passedOver = 0 } ≡ frontmost 0 E
+front-first E = front-is 0 E 0 (omega arith) (λ m l. absurd (omega arith)) (λ l. has-none (getD E 0 0))
 
 -- nodes that come behind others change no next hop
 pub front-behind : (failed : ℕ) (E E′ : List ℕ) → length E ≤ length E′ → ((k : ℕ) → k < length E → getD E′ k 0 ≡ getD E k 0)
@@ -153,5 +152,5 @@ module _ (s t : List ℕ) (S : Sound s t) (u z : ℕ) (nu : IsNode s u) (nz : Is
   pub hop-first : nextHop s t 0 u z .node ≡ firstOf (tableOf t u) (suffixOf s u z) (digitOf (idOf s z) (suffixOf s u z))
   unfolding nextHop hopEntry
   hop-first =
-      front-first (hopEntry s t u z)
+      ap (λ (r : NextHop). r .node) (sym (front-first (hopEntry s t u z)))
       ∙ entry-first (depth s) (tableOf t u) level digit (entry-fits s t S u level digit nu level-below digit-below) (S .settings .depth-least)

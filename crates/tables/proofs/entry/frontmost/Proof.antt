@@ -3,7 +3,7 @@ use Prim.Native.Nat.{_≤_, _-_}
 use native.Mathlib.Omega.{arith}
 use borrow.Author.Needs.{needs}
 use Rattle.model.specs.Tables.{slotPlace}
-use Rattle.tables.proofs.Fronts.{Passed, passed-none, passed-more, front-found, front-empty, front-past, front-first}
+use Rattle.tables.proofs.Fronts.{Passed, passed-none, passed-more, front-found, front-empty, front-past, first-front}
 use Rattle.tables.proofs.entry.frontmost.Statement.{statement}
 use Rattle.tables.proofs.entry.frontmost.Tie as tie
 
@@ -20,7 +20,7 @@ first-requires : tie.Need-first-requires Inv-loop μ-loop
 first-requires c κs = search needs
 
 returns : tie.Need-returns Inv-loop μ-loop
-returns c = search front-first
+returns c = search first-front
 
 mul-entry : tie.Need-mul-entry Inv-loop μ-loop
 mul-entry c = omega arith
