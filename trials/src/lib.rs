@@ -7,6 +7,7 @@
 //! - `script`: calls as lines of text, for failure reports and for running a case again.
 //! - `lent`: the memory that a caller lends, with guard space around what is lent.
 //! - `compare`: runs one script on two engines and finds the first difference.
+//! - `steps`: steps that trials of two engines are made of; `met`: how often a trial has met something.
 //! - `surveys`: what holds of every survey.
 //! - `withdrawals`: what holds of every withdrawal, and trials of it.
 //! - `panel`: what holds of each node's two counts.
@@ -23,11 +24,13 @@ pub mod compare;
 pub mod engine;
 pub mod fenced;
 pub mod lent;
+pub mod met;
 pub mod panel;
 pub mod paper;
 pub mod random;
 pub mod records;
 pub mod script;
 pub mod second;
+pub mod steps;
 pub mod surveys;
 pub mod withdrawals;

@@ -32,17 +32,6 @@ pub use in_order::in_order;
 pub use last::last;
 pub use undone::undone;
 
-use std::collections::BTreeMap;
+pub use crate::met::{met_enough, Met};
 
-/// How often a trial has met something.
-pub type Met = BTreeMap<&'static str, usize>;
-
-/// Has each of these been met so often?
-pub fn met_enough(met: &Met, times: usize, all: &[&str]) -> bool {
-    all.iter()
-        .all(|what| met.get(what).is_some_and(|&met| met >= times))
-}
-
-fn meet(met: &mut Met, what: &'static str) {
-    *met.entry(what).or_default() += 1;
-}
+use crate::met::meet;

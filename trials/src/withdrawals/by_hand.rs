@@ -1,11 +1,11 @@
 //! Withdrawals with their answers, worked out by hand.
 
-use super::steps::expect;
+use super::steps::{called, expect};
 use crate::compare::{same_network, Pair};
 use crate::engine::Engine;
 use crate::lent::Lent;
 use crate::panel::ALL_STATUSES;
-use crate::script::{Call, Line, Script};
+use crate::script::{Line, Script};
 
 /// After all lines of `ALL_STATUSES` node 5 copies, before its last one node 4 waits, and after seven of them node 3 notifies. Each line is a call
 /// with its answer, and leaves the memory that so many of those lines have left.
@@ -77,11 +77,4 @@ fn points(pair: &mut Pair) -> Result<Vec<Lent>, String> {
         Ok(pair.memory().clone())
     };
     script.lines.iter().map(play).collect()
-}
-
-fn called(text: &str) -> Call {
-    match text.parse() {
-        Ok(Line::Call(call)) => call,
-        other => unreachable!("{text}: {other:?}"),
-    }
 }
