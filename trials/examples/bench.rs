@@ -57,12 +57,13 @@ fn use_of(nodes: usize, image: &[u8], rng: &mut Rng) -> Vec<Call> {
     let numbers = 1..=nodes as u64;
     let calls = numbers.flat_map(|to| {
         let from = rng.between(1, nodes as u64);
-        let looked = Call::Lookup { from, to };
+        let failed = 0;
+        let looked = Call::Lookup { from, to, failed };
         [
             looked,
             Call::Sound,
             Call::Verdict,
-            Call::Survey,
+            Call::Survey { failed },
             Call::Write,
         ]
     });

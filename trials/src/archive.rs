@@ -59,6 +59,7 @@ pub mod interface {
             tables_len: usize,
             from: u64,
             to: u64,
+            failed: u64,
         ) -> u64;
 
         pub fn overlay_verdict(
@@ -90,6 +91,7 @@ pub mod interface {
             state_len: usize,
             tables: *const u8,
             tables_len: usize,
+            failed: u64,
             counts: *mut u64,
         ) -> u64;
     }
@@ -141,10 +143,10 @@ impl Engine for Archive {
         unsafe { interface::overlay_deliver(state, words, tables, bytes, sender, receiver) }
     }
 
-    fn lookup(&self, state: &mut [u64], tables: &mut [u8], from: u64, to: u64) -> u64 {
+    fn lookup(&self, state: &mut [u64], tables: &mut [u8], from: u64, to: u64, failed: u64) -> u64 {
         let (words, bytes) = (state.len(), tables.len());
         let (state, tables) = (state.as_mut_ptr(), tables.as_mut_ptr());
-        unsafe { interface::overlay_lookup(state, words, tables, bytes, from, to) }
+        unsafe { interface::overlay_lookup(state, words, tables, bytes, from, to, failed) }
     }
 
     fn verdict(&self, state: &mut [u64], tables: &mut [u8]) -> u64 {
@@ -160,9 +162,16 @@ impl Engine for Archive {
         }
     }
 
-    fn survey(&self, state: &mut [u64], tables: &mut [u8], counts: &mut Counts) -> u64 {
+    fn survey(
+        &self,
+        state: &mut [u64],
+        tables: &mut [u8],
+        failed: u64,
+        counts: &mut Counts,
+    ) -> u64 {
         let (words, bytes) = (state.len(), tables.len());
         let (state, tables) = (state.as_mut_ptr(), tables.as_mut_ptr());
-        unsafe { interface::overlay_survey(state, words, tables, bytes, counts.as_mut_ptr()) }
+        let counts = counts.as_mut_ptr();
+        unsafe { interface::overlay_survey(state, words, tables, bytes, failed, counts) }
     }
 }

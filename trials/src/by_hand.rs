@@ -1,7 +1,8 @@
 //! Images made by hand, and the counts of some surveys, worked out by hand.
 
 use crate::paper::{e1_short, E1};
-use crate::random::{head, with_records};
+use crate::random::{all_nodes, head, with_records};
+use crate::script::set_of;
 use crate::second::{digit, Counts, Settings};
 
 /// An image of nodes that know only themselves, and of the further records (node, level, digit, neighbor).
@@ -17,13 +18,15 @@ pub fn image(settings: [u8; 3], ids: &[u32], more: &[[u8; 4]]) -> Vec<u8> {
     with_records(&head(settings, ids), &records)
 }
 
-/// An image with the counts of its survey.
+/// An image with the counts of its survey while these nodes have failed.
 pub struct Surveyed {
     pub name: &'static str,
     pub image: Vec<u8>,
+    pub failed: u64,
     pub counts: Counts,
 }
 
+/// While nobody has failed.
 pub fn surveyed() -> Vec<Surveyed> {
     let cases = [
         ("E1", E1.to_vec(), [2, 0, 0, 0, 0, 0, 0, 0, 0]),
@@ -57,9 +60,56 @@ pub fn surveyed() -> Vec<Surveyed> {
     let case = |(name, image, counts)| Surveyed {
         name,
         image,
+        failed: 0,
         counts,
     };
     cases.map(case).into()
+}
+
+/// Some of these, and `five`, while nodes have failed, or numbers that no node has.
+#[rustfmt::skip]
+pub fn surveyed_without() -> Vec<Surveyed> {
+    let cases = surveyed();
+    let image = |name: &str| cases.iter().find(|case| case.name == name).expect(name).image.clone();
+    let five = |failed: &[u64], [one, two, three, lost]: [u64; 4]| {
+        ("five", five(), set_of(failed), [one, two, three, 0, 0, 0, 0, 0, lost])
+    };
+    let cases = [
+        five(&[], [13, 6, 1, 0]),
+        five(&[1], [8, 4, 0, 0]),
+        five(&[2], [9, 3, 0, 0]),
+        five(&[3], [9, 3, 0, 0]),
+        five(&[2, 3], [5, 1, 0, 0]),
+        five(&[2, 3, 4], [1, 0, 0, 1]),
+        five(&[1, 2, 3, 4], [0, 0, 0, 0]),
+        five(&[6, 64], [13, 6, 1, 0]),
+        ("E1", image("E1"), set_of(&[2]), [0; 9]),
+        ("E1", image("E1"), u64::MAX, [0; 9]),
+        ("E1", image("E1"), !3, [2, 0, 0, 0, 0, 0, 0, 0, 0]),
+        ("one node", image("one node"), 1, [0; 9]),
+        // Four nodes below and four above; from below nobody comes past node 4.
+        ("chain", image("chain"), set_of(&[5]), [6, 4, 2, 0, 0, 0, 0, 0, 44]),
+        ("chain", image("chain"), set_of(&[1, 9]), [6, 5, 4, 3, 2, 1, 0, 0, 21]),
+        ("64 alone", image("64 alone"), !3, [0, 0, 0, 0, 0, 0, 0, 0, 2]),
+        ("64 alone", image("64 alone"), all_nodes(32), [0, 0, 0, 0, 0, 0, 0, 0, 992]),
+        // Nobody goes through node 64, the digits of which are all 3: to it come 3, 12 and 48 in one to three hops, and from it 9, 27 and 27.
+        ("64 of base 4", image("64 of base 4"), 1 << 63, [564, 1689, 1653, 0, 0, 0, 0, 0, 0]),
+    ];
+    let case = |(name, image, failed, counts)| Surveyed { name, image, failed, counts };
+    cases.map(case).into()
+}
+
+/// Five nodes with entries of up to three, each entry in rising order. From node 1 every other is reached by one of 2, 3 and 4.
+#[rustfmt::skip]
+pub fn five() -> Vec<u8> {
+    const NEIGHBORS: [[u8; 4]; 19] = [
+        [1, 0, 1, 2], [1, 0, 1, 3], [1, 0, 1, 4],
+        [2, 0, 0, 1], [2, 1, 1, 3], [2, 1, 1, 5], [2, 2, 1, 4],
+        [3, 0, 0, 1], [3, 1, 0, 2], [3, 1, 0, 4], [3, 2, 1, 5],
+        [4, 0, 0, 1], [4, 1, 1, 3], [4, 1, 1, 5], [4, 2, 0, 2],
+        [5, 0, 0, 1], [5, 1, 0, 2], [5, 1, 0, 4], [5, 2, 0, 3],
+    ];
+    image([2, 3, 3], &[0x000, 0x001, 0x011, 0x101, 0x111], &NEIGHBORS)
 }
 
 /// Node n's neighbor is n + 1, for the one digit more that it has right.

@@ -1,11 +1,13 @@
 //! One script on two engines: every answer, every byte of memory, output and counts after every call, what any
-//! engine must leave alone, what a refusal may have beside its number, that a survey adds up, that a withdrawn node is
-//! gone, and that each node's two counts are those of the history.
+//! engine must leave alone, what a refusal may have beside its number, that a lookup is between nodes that have not failed
+//! and not too long, that a survey adds up, that a withdrawn node is gone, and that each node's two counts are those of the
+//! history.
 
 use std::fmt::{self, Display, Formatter};
 use std::ops::Range;
 
 use crate::engine::Engine;
+use crate::failures::fits;
 use crate::lent::Lent;
 use crate::panel::History;
 use crate::script::{Call, Line, Script};
@@ -69,18 +71,28 @@ impl<'a> Pair<'a> {
         self.differ(answer, other)?;
         let after = &self.memories[0];
         left_alone(line, answer, &self.before, after)?;
-        match line {
-            Line::Call(Call::Survey) if answer == 0 => {
-                adds_up(after.used_state(), after.used_counts())?;
-            }
-            Line::Call(Call::Withdraw { node }) if answer & 0xff == 0 => {
-                is_gone(*node, answer, &self.before, after)?;
-            }
-            _ => {}
+        if let Line::Call(call) = line {
+            self.may_answer(call, answer)?;
         }
         self.history.note(line, answer, after.used_state());
         self.history.stands_in(after.used_state())?;
         Ok(answer)
+    }
+
+    /// What any engine must keep to in what it answers.
+    fn may_answer(&self, call: &Call, answer: u64) -> Result<(), String> {
+        let (before, after) = (&self.before, &self.memories[0]);
+        let taken = answer & 0xff == 0;
+        match call {
+            Call::Lookup { from, to, failed } if taken => {
+                fits(after.used_state(), [*from, *to], *failed, answer)
+            }
+            Call::Survey { failed } if taken => {
+                adds_up(after.used_state(), *failed, after.used_counts())
+            }
+            Call::Withdraw { node } if taken => is_gone(*node, answer, before, after),
+            _ => Ok(()),
+        }
     }
 
     /// Puts words and bytes at the start of both memories; each node starts with the counts that it has there.
@@ -151,7 +163,7 @@ fn may_write(call: &Call, answer: u64) -> Parts {
             out: 0..(answer >> 8) as usize,
             ..NOTHING
         },
-        Call::Survey => Parts {
+        Call::Survey { .. } => Parts {
             counts: 0..LOST + 1,
             ..NOTHING
         },

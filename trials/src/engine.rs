@@ -2,7 +2,8 @@
 
 use crate::second::{self, Answer, Counts};
 
-/// The ten calls. Memory is lent for writing even where a call must not write, so that a trial sees it if one does.
+/// The ten calls. Memory is lent for writing even where a call must not write, so that a trial sees it if one does. In a set of failed
+/// nodes bit u − 1 stands for node u.
 pub trait Engine {
     fn name(&self) -> &str;
 
@@ -18,13 +19,14 @@ pub trait Engine {
 
     fn deliver(&self, state: &mut [u64], tables: &mut [u8], sender: u64, receiver: u64) -> u64;
 
-    fn lookup(&self, state: &mut [u64], tables: &mut [u8], from: u64, to: u64) -> u64;
+    fn lookup(&self, state: &mut [u64], tables: &mut [u8], from: u64, to: u64, failed: u64) -> u64;
 
     fn verdict(&self, state: &mut [u64], tables: &mut [u8]) -> u64;
 
     fn write(&self, state: &mut [u64], tables: &mut [u8], out: &mut [u8]) -> u64;
 
-    fn survey(&self, state: &mut [u64], tables: &mut [u8], counts: &mut Counts) -> u64;
+    fn survey(&self, state: &mut [u64], tables: &mut [u8], failed: u64, counts: &mut Counts)
+        -> u64;
 }
 
 /// The second engine.
@@ -68,8 +70,8 @@ impl Engine for Second {
         second::deliver(state, tables, sender, receiver).pack()
     }
 
-    fn lookup(&self, state: &mut [u64], tables: &mut [u8], from: u64, to: u64) -> u64 {
-        second::lookup(state, tables, from, to).pack()
+    fn lookup(&self, state: &mut [u64], tables: &mut [u8], from: u64, to: u64, failed: u64) -> u64 {
+        second::lookup(state, tables, from, to, failed).pack()
     }
 
     fn verdict(&self, state: &mut [u64], tables: &mut [u8]) -> u64 {
@@ -80,8 +82,14 @@ impl Engine for Second {
         second::write(state, tables, out).pack()
     }
 
-    fn survey(&self, state: &mut [u64], tables: &mut [u8], counts: &mut Counts) -> u64 {
-        let answer = second::survey(state, tables);
+    fn survey(
+        &self,
+        state: &mut [u64],
+        tables: &mut [u8],
+        failed: u64,
+        counts: &mut Counts,
+    ) -> u64 {
+        let answer = second::survey(state, tables, failed);
         if answer.refusal == 0 {
             *counts = answer.counts;
         }

@@ -194,9 +194,9 @@ impl Engine for FencedArchive {
         })
     }
 
-    fn lookup(&self, state: &mut [u64], tables: &mut [u8], from: u64, to: u64) -> u64 {
+    fn lookup(&self, state: &mut [u64], tables: &mut [u8], from: u64, to: u64, failed: u64) -> u64 {
         self.looking(state, tables, &|words, n, bytes, m| unsafe {
-            interface::overlay_lookup(words, n, bytes, m, from, to)
+            interface::overlay_lookup(words, n, bytes, m, from, to, failed)
         })
     }
 
@@ -216,10 +216,16 @@ impl Engine for FencedArchive {
         answer
     }
 
-    fn survey(&self, state: &mut [u64], tables: &mut [u8], counts: &mut Counts) -> u64 {
+    fn survey(
+        &self,
+        state: &mut [u64],
+        tables: &mut [u8],
+        failed: u64,
+        counts: &mut Counts,
+    ) -> u64 {
         let fenced = Fenced::new(self.0, counts);
         let answer = self.looking(state, tables, &|words, n, bytes, m| unsafe {
-            interface::overlay_survey(words, n, bytes, m, fenced.pointer())
+            interface::overlay_survey(words, n, bytes, m, failed, fenced.pointer())
         });
         fenced.put_back(counts);
         answer

@@ -71,13 +71,13 @@ impl Lent {
             Call::Begin { id, gateway } => engine.begin(state, tables, *id, *gateway),
             Call::Withdraw { node } => engine.withdraw(state, tables, *node),
             Call::Deliver { sender, receiver } => engine.deliver(state, tables, *sender, *receiver),
-            Call::Lookup { from, to } => engine.lookup(state, tables, *from, *to),
+            Call::Lookup { from, to, failed } => engine.lookup(state, tables, *from, *to, *failed),
             Call::Verdict => engine.verdict(state, tables),
             Call::Write => engine.write(state, tables, &mut self.out[..self.lend.out]),
             Call::Sound => engine.sound(state, tables),
-            Call::Survey => {
+            Call::Survey { failed } => {
                 let counts = self.counts.first_chunk_mut().expect("there is enough");
-                engine.survey(state, tables, counts)
+                engine.survey(state, tables, *failed, counts)
             }
         }
     }

@@ -9,12 +9,13 @@
 //! - `compare`: runs one script on two engines and finds the first difference.
 //! - `steps`: steps that trials of two engines are made of; `met`: how often a trial has met something.
 //! - `surveys`: what holds of every survey.
+//! - `failures`: what holds of lookups and surveys around failed nodes.
 //! - `withdrawals`: what holds of every withdrawal, and trials of it.
 //! - `panel`: what holds of each node's two counts.
 //! - `paper`: the images of document 01.
 //! - `by_hand`: other images, some with the counts of their survey.
 //! - `records`: images with bad records, and what reading must answer to each.
-//! - `random`: seeded settings, ids, runs, states and images, good and bad.
+//! - `random`: seeded settings, ids, runs, states, images, good and bad, and sets of failed nodes.
 //!
 //! `TRIALS_COUNT=50 TRIALS_SEED=1000000 cargo test --release` plays 50 times as many cases, with other seeds.
 
@@ -22,6 +23,7 @@ pub mod archive;
 pub mod by_hand;
 pub mod compare;
 pub mod engine;
+pub mod failures;
 pub mod fenced;
 pub mod lent;
 pub mod met;

@@ -12,7 +12,7 @@ mod damaged;
 mod history;
 mod literal;
 
-pub use bounds::{around, Bounds};
+pub use bounds::{around, matched, Bounds};
 pub use by_hand::{by_hand, Join, Step};
 pub use damaged::{hold, reached, Held, Kind, Reached, SETTINGS};
 pub use history::History;

@@ -1,4 +1,4 @@
-//! A small seeded generator, and from it settings, ids, runs, states and images.
+//! A small seeded generator, and from it settings, ids, runs, states, images and sets of failed nodes.
 
 mod calls;
 mod damage;
@@ -6,6 +6,7 @@ mod ids;
 mod images;
 mod runs;
 mod seeds;
+mod sets;
 mod states;
 
 pub use calls::judging_calls;
@@ -17,6 +18,7 @@ pub use images::{
 };
 pub use runs::{run, run_from_built, run_in};
 pub use seeds::seeds;
+pub use sets::{all_nodes, failed_set};
 pub use states::{built_state, reached_state, set_up_built, some_state};
 
 /// Splitmix64.

@@ -7,10 +7,12 @@
 //! withdraw 2               node
 //! deliver 2 1              sender, receiver
 //! lookup 1 2               from, to
+//! lookup 1 2 without 3 5   the same while nodes 3 and 5 have failed; numbers outside 1 to 64 mean nothing
 //! verdict
 //! write
 //! sound                    what sentences 1 and 2 say of the memory
 //! survey
+//! survey without 3         the same while node 3 has failed
 //! lend 520 32768 23816     words of state, bytes of tables and of output lent from here on
 //! word 12 5                state word 12 becomes 5 (hexadecimal), by the caller's hand
 //! byte 300 7               table byte 300 becomes 7 (hexadecimal), by the caller's hand
@@ -20,6 +22,8 @@ use std::fmt::{self, Display, Formatter};
 use std::num::ParseIntError;
 use std::str::FromStr;
 
+use crate::second::NodeSet;
+
 #[derive(Clone, Debug, PartialEq, Eq)]
 pub enum Call {
     Found { settings: [u64; 3], id: u32 },
@@ -27,11 +31,20 @@ pub enum Call {
     Begin { id: u32, gateway: u64 },
     Withdraw { node: u64 },
     Deliver { sender: u64, receiver: u64 },
-    Lookup { from: u64, to: u64 },
+    Lookup { from: u64, to: u64, failed: u64 },
     Verdict,
     Write,
     Sound,
-    Survey,
+    Survey { failed: u64 },
+}
+
+/// These nodes as the calls take them: bit u − 1 for node u. Numbers outside 1 to 64 mean nothing.
+pub fn set_of(nodes: &[u64]) -> u64 {
+    let bit = |&node: &u64| match node {
+        1..=64 => 1 << (node - 1),
+        _ => 0,
+    };
+    nodes.iter().map(bit).fold(0, |set, bit| set | bit)
 }
 
 #[derive(Clone, Debug, PartialEq, Eq)]
@@ -75,13 +88,29 @@ impl Display for Call {
             Call::Begin { id, gateway } => write!(out, "begin {id:x} {gateway}"),
             Call::Withdraw { node } => write!(out, "withdraw {node}"),
             Call::Deliver { sender, receiver } => write!(out, "deliver {sender} {receiver}"),
-            Call::Lookup { from, to } => write!(out, "lookup {from} {to}"),
+            Call::Lookup { from, to, failed } => {
+                write!(out, "lookup {from} {to}")?;
+                write_failed(out, *failed)
+            }
             Call::Verdict => out.write_str("verdict"),
             Call::Write => out.write_str("write"),
             Call::Sound => out.write_str("sound"),
-            Call::Survey => out.write_str("survey"),
+            Call::Survey { failed } => {
+                out.write_str("survey")?;
+                write_failed(out, *failed)
+            }
         }
     }
+}
+
+/// The failed nodes behind a call, nothing if there are none.
+fn write_failed(out: &mut Formatter, failed: u64) -> fmt::Result {
+    if failed != 0 {
+        out.write_str(" without")?;
+    }
+    NodeSet(failed)
+        .iter()
+        .try_for_each(|node| write!(out, " {node}"))
 }
 
 impl Display for Line {
@@ -146,14 +175,17 @@ fn parse_line(words: &[&str]) -> Result<Option<Line>, ParseIntError> {
             sender: sender.parse()?,
             receiver: receiver.parse()?,
         },
-        ["lookup", from, to] => Call::Lookup {
+        ["lookup", from, to, ref without @ ..] if may_follow(without) => Call::Lookup {
             from: from.parse()?,
             to: to.parse()?,
+            failed: parse_failed(without)?,
         },
         ["verdict"] => Call::Verdict,
         ["write"] => Call::Write,
         ["sound"] => Call::Sound,
-        ["survey"] => Call::Survey,
+        ["survey", ref without @ ..] if may_follow(without) => Call::Survey {
+            failed: parse_failed(without)?,
+        },
         _ => return parse_memory_line(words),
     };
     Ok(Some(Line::Call(call)))
@@ -176,6 +208,18 @@ fn parse_memory_line(words: &[&str]) -> Result<Option<Line>, ParseIntError> {
         },
         _ => return Ok(None),
     }))
+}
+
+/// May these words stand behind a call that takes failed nodes?
+fn may_follow(words: &[&str]) -> bool {
+    matches!(words, [] | ["without", _, ..])
+}
+
+/// The nodes behind `without`.
+fn parse_failed(words: &[&str]) -> Result<u64, ParseIntError> {
+    let numbers = words.iter().skip(1).map(|word| word.parse());
+    let numbers: Vec<u64> = numbers.collect::<Result<_, _>>()?;
+    Ok(set_of(&numbers))
 }
 
 /// Pairs of hexadecimal digits.

@@ -23,7 +23,7 @@ const SURVEY: ImageProgram = ImageProgram {
 
 /// The lines of Ticket 1.
 fn lines(memory: &mut Lent) -> String {
-    assert_eq!(memory.call(&Second, &Call::Survey), 0);
+    assert_eq!(memory.call(&Second, &Call::Survey { failed: 0 }), 0);
     lines_of(memory.state[DIGITS] as usize, memory.used_counts())
 }
 

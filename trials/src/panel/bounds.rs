@@ -45,7 +45,7 @@ impl Bounds {
 }
 
 /// How many digits of two nodes' ids are equal, from the right.
-fn matched(state: &State, one: usize, other: usize) -> u64 {
+pub fn matched(state: &State, one: usize, other: usize) -> u64 {
     let (one, other) = (record(state, one)[0], record(state, other)[0]);
     let differs = |&level: &u64| (one ^ other) >> (4 * level) & 15 != 0;
     (0..state[DIGITS]).find(differs).unwrap_or(state[DIGITS])

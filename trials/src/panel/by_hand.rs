@@ -35,7 +35,10 @@ const JOINS: [(&str, &str); 7] = [
          sound          | 0/0 2/0
          write          | 0/0 2/0
          read 04        | 0/0 2/0
-         found 1 2 1 0  | 0/0 2/0",
+         found 1 2 1 0  | 0/0 2/0
+         lookup 1 2 without 2 | 0/0 2/0
+         lookup 1 2 without 3 | 0/0 2/0
+         survey without 2 | 0/0 2/0",
     ),
     // Node 4 is held, twice, until node 3 has its one notice answered, and has sent no more for it.
     (

@@ -1,6 +1,6 @@
 //! One call of each kind that judges the state first.
 
-use super::{bad_number, fresh_id, Rng};
+use super::{bad_number, failed_set, fresh_id, Rng};
 use crate::script::Call;
 use crate::second::network::Network;
 
@@ -23,12 +23,15 @@ pub fn judging_calls(rng: &mut Rng, network: &Network) -> [Call; 8] {
     let withdrawn = [highest, highest, highest + 1, highest + 1, node(rng)];
     [
         Call::Sound,
-        Call::Survey,
+        Call::Survey {
+            failed: failed_set(rng, count),
+        },
         Call::Verdict,
         Call::Write,
         Call::Lookup {
             from: node(rng),
             to: node(rng),
+            failed: failed_set(rng, count),
         },
         Call::Deliver { sender, receiver },
         Call::Begin {

@@ -1,9 +1,10 @@
 //! Random runs: a founding, then calls in any order with many joins in flight, a quarter of them bad.
 
-use super::{bad_id, bad_number, damaged_image, fresh_id, id, set_up_built, settings, Rng};
+use super::{bad_id, bad_number, damaged_image, failed_set, fresh_id, id};
+use super::{set_up_built, settings, Rng};
 use crate::engine::Second;
 use crate::lent::{Lent, ALL};
-use crate::script::{Call, Lend, Line, Script};
+use crate::script::{set_of, Call, Lend, Line, Script};
 use crate::second::memory::{STATE_WORDS, TABLE_BYTES};
 use crate::second::network::Network;
 use crate::second::Settings;
@@ -102,7 +103,7 @@ impl<'a> Maker<'a> {
             3 | 4 => self.look(Call::Verdict),
             5..=8 => self.lookup(),
             9 => self.look(Call::Sound),
-            10 => self.look(Call::Survey),
+            10 => self.survey(),
             11 | 12 => self.withdraw(),
             _ => self.deliver(),
         }
@@ -151,9 +152,27 @@ impl<'a> Maker<'a> {
         self.call(Call::Deliver { sender, receiver });
     }
 
+    /// Nodes that have failed, and perhaps numbers that no node has.
+    fn failed(&mut self) -> u64 {
+        let count = self.network().count();
+        failed_set(self.rng, count)
+    }
+
+    /// Mostly neither end has failed.
     fn lookup(&mut self) {
-        let (from, to) = (self.any(), self.any());
-        self.call(Call::Lookup { from, to });
+        let (from, to, set) = (self.any(), self.any(), self.failed());
+        let ends = set_of(&[from, to]);
+        let failed = if self.rng.once_in(4) {
+            set
+        } else {
+            set & !ends
+        };
+        self.call(Call::Lookup { from, to, failed });
+    }
+
+    fn survey(&mut self) {
+        let failed = self.failed();
+        self.call(Call::Survey { failed });
     }
 
     fn write(&mut self) {
@@ -175,7 +194,7 @@ impl<'a> Maker<'a> {
     }
 
     fn bad_call(&mut self) {
-        match self.rng.below(14) {
+        match self.rng.below(15) {
             0 => self.bad_founding(),
             1 => self.bad_reading(),
             2..=4 => self.bad_beginning(),
@@ -183,6 +202,7 @@ impl<'a> Maker<'a> {
             8 => self.bad_lookup(),
             9 => self.short_output(),
             10 | 11 => self.bad_withdrawal(),
+            12 => self.failed_lookup(),
             _ => self.short_memory(),
         }
     }
@@ -241,7 +261,16 @@ impl<'a> Maker<'a> {
         let count = self.network().count();
         let (any, bad) = (self.any(), bad_number(self.rng, count));
         let (from, to) = self.rng.pick(&[(any, bad), (bad, any), (bad, bad)]);
-        self.call(Call::Lookup { from, to });
+        let failed = self.failed() | self.rng.pick(&[0, set_of(&[any])]);
+        self.call(Call::Lookup { from, to, failed });
+    }
+
+    /// From a failed node, to one, or both.
+    fn failed_lookup(&mut self) {
+        let (any, other) = (self.any(), self.any());
+        let failed = self.failed() | set_of(&[any]);
+        let (from, to) = self.rng.pick(&[(any, other), (other, any), (any, any)]);
+        self.call(Call::Lookup { from, to, failed });
     }
 
     fn short_output(&mut self) {

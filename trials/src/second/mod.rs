@@ -30,7 +30,7 @@ pub use beginning::begin;
 pub use consistency::verdict;
 pub use delivering::deliver;
 pub use founding::found;
-pub use lookup::{lookup, very_hops};
+pub use lookup::{lookup, next_hop, very_hops, NextHop};
 pub use node_set::NodeSet;
 pub use reading::{read, LONGEST_READ};
 pub use refusal::Refusal;

@@ -22,11 +22,12 @@ pub enum Refusal {
     OwnEntry = 18,
     NotHighest = 19,
     HasAttached = 20,
+    HasFailed = 21,
 }
 
 impl Refusal {
     /// Every refusal, in the order of the numbers.
-    pub const ALL: [Refusal; 20] = [
+    pub const ALL: [Refusal; 21] = [
         Refusal::ShortMemory,
         Refusal::Unsound,
         Refusal::NotAnImage,
@@ -47,6 +48,7 @@ impl Refusal {
         Refusal::OwnEntry,
         Refusal::NotHighest,
         Refusal::HasAttached,
+        Refusal::HasFailed,
     ];
 
     /// How many numbers an answer may have: 0, and that of each refusal.

@@ -2,7 +2,7 @@
 
 use crate::engine::Second;
 use crate::lent::Lent;
-use crate::random::{bad_number, Rng};
+use crate::random::{bad_number, failed_set, Rng};
 use crate::script::Call;
 use crate::second::memory::record;
 
@@ -38,18 +38,21 @@ pub fn attaches(answer: u64) -> bool {
 pub fn looking(rng: &mut Rng, node: u64) -> Call {
     let other = rng.between(1, node);
     let bad = bad_number(rng, node as usize);
+    let failed = failed_set(rng, node as usize);
     match rng.below(12) {
         0 => Call::Sound,
-        1 => Call::Survey,
+        1 => Call::Survey { failed },
         2 => Call::Verdict,
         3 => Call::Write,
         4 => Call::Lookup {
             from: node,
             to: other,
+            failed,
         },
         5 => Call::Lookup {
             from: other,
             to: node,
+            failed,
         },
         6 => Call::Deliver {
             sender: node,

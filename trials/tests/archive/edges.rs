@@ -1,10 +1,11 @@
 //! The edges that document 01 lists, on both engines. Answers are packed: the refusal lowest, then a byte for each field.
 
 use trials::paper::{e1_short, E1};
-use trials::script::Call;
+use trials::random::Rng;
+use trials::script::{set_of, Call};
 use trials::second::Settings;
 
-use crate::support::Both;
+use crate::support::{full_image, Both};
 
 const CONSISTENT: u64 = 0x100;
 const COPIED: u64 = 0x100;
@@ -36,12 +37,50 @@ fn one_founded_node_and_e1_are_consistent() {
 fn verdict_and_lookups_of_short_e1() {
     let mut both = Both::read_in(&e1_short());
     assert_eq!(both.call(Call::Verdict), 1 << 16 | 1 << 32);
-    let lost = both.call(Call::Lookup { from: 1, to: 2 });
-    assert_eq!(lost, 1 << 24);
-    let arrived = both.call(Call::Lookup { from: 2, to: 1 });
-    assert_eq!(arrived, 0x100 | 1 << 16 | 1 << 24);
-    let at_once = both.call(Call::Lookup { from: 2, to: 2 });
-    assert_eq!(at_once, 0x100 | 2 << 24);
+    for failed in [0, !3] {
+        assert_eq!(both.lookup(1, 2, failed), 1 << 24);
+        assert_eq!(both.lookup(2, 1, failed), 0x100 | 1 << 16 | 1 << 24);
+        assert_eq!(both.lookup(2, 2, failed), 0x100 | 2 << 24);
+    }
+}
+
+/// No node, one, another, both, none of these alone and with both, and all numbers.
+const FAILED: [u64; 7] = [0, 1, 2, 3, !3, 1 << 63 | 3, u64::MAX];
+
+/// Whatever has failed: 9 goes before 21.
+#[test]
+fn a_number_that_no_node_has_is_refused_9_with_every_failed_set() {
+    let full = full_image(&mut Rng::new(2));
+    for (image, past) in [(E1.to_vec(), 3), (full, 65)] {
+        let mut both = Both::read_in(&image);
+        for bad in [0, past, past + 1, 257, (1 << 32) + 1, 1 << 63, u64::MAX] {
+            for failed in FAILED {
+                for (from, to) in [(bad, 1), (2, bad), (bad, bad)] {
+                    assert_eq!(both.lookup(from, to, failed), 9, "{from} {to} {failed:#x}");
+                }
+            }
+        }
+    }
+}
+
+/// Either end, or both, or the one node that is both.
+#[test]
+fn a_failed_end_is_refused_21() {
+    let full = full_image(&mut Rng::new(3));
+    for (image, nodes) in [(E1.to_vec(), 2), (e1_short(), 2), (full, 64)] {
+        let mut both = Both::read_in(&image);
+        for node in [1, 2, nodes] {
+            let alone = set_of(&[node]);
+            for failed in [alone, alone | !3, alone | 3, u64::MAX] {
+                for (from, to) in [(node, node), (node, 1), (1, node), (node, nodes), (2, node)] {
+                    assert_eq!(both.lookup(from, to, failed), 21);
+                }
+            }
+            for failed in [0, !alone] {
+                assert_eq!(both.lookup(node, node, failed), 0x100 | node << 24);
+            }
+        }
+    }
 }
 
 /// P11 and P12.
@@ -92,11 +131,7 @@ fn a_64th_node_joins_and_a_65th_is_refused() {
         assert_eq!(both.network().count(), 64);
         assert_eq!(both.call(Call::Verdict), CONSISTENT);
         assert_eq!(both.begin(ids[64], 1), 11);
-        let (from, to) = (1, 64);
-        assert_eq!(
-            both.call(Call::Lookup { from, to }) & 0xff00_ffff,
-            0x4000_0100
-        );
+        assert_eq!(both.lookup(1, 64, 0) & 0xff00_ffff, 0x4000_0100);
     }
 }
 

@@ -52,22 +52,29 @@ fn runs_agree_on_exact_memory() {
     }
 }
 
-/// One call of each kind.
-fn each_call() -> [Call; 10] {
+/// One call of each kind, and of those that take failed nodes one with some.
+fn each_call() -> [Call; 12] {
     let image = E1.to_vec();
     let settings = [2, 2, 1];
     let (sender, receiver) = (2, 1);
+    let lookup = |failed| Call::Lookup {
+        from: 1,
+        to: 2,
+        failed,
+    };
     [
         Call::Found { settings, id: 1 },
         Call::Read { image },
         Call::Begin { id: 2, gateway: 1 },
         Call::Withdraw { node: 2 },
         Call::Deliver { sender, receiver },
-        Call::Lookup { from: 1, to: 2 },
+        lookup(0),
+        lookup(!3),
         Call::Verdict,
         Call::Write,
         Call::Sound,
-        Call::Survey,
+        Call::Survey { failed: 0 },
+        Call::Survey { failed: !2 },
     ]
 }
 
@@ -87,7 +94,7 @@ fn around(fixed: usize) -> [usize; 6] {
 
 #[test]
 fn each_call_agrees_at_every_length() {
-    let mut taken = [0; 10];
+    let mut taken = [0; 12];
     for network in networks() {
         for state in around(STATE_WORDS) {
             for tables in around(TABLE_BYTES) {

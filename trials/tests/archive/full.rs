@@ -1,8 +1,8 @@
 //! Networks that grow to 64 nodes with joins in flight, saved and read on the way.
 
 use trials::panel::requests_word;
-use trials::random::{id, seeds, Rng};
-use trials::script::Call;
+use trials::random::{failed_set, id, seeds, Rng};
+use trials::script::{set_of, Call};
 use trials::second::memory::COUNT;
 use trials::second::{Settings, LOST};
 
@@ -37,8 +37,17 @@ fn look_up_each(both: &mut Both, rng: &mut Rng) {
     let count = both.network().count() as u64;
     for to in 1..=count {
         let from = rng.between(1, count);
-        both.call(Call::Lookup { from, to });
+        for failed in [0, failed_set(rng, count as usize)] {
+            both.lookup(from, to, failed);
+        }
     }
+}
+
+/// With one failed node fewer than an entry holds.
+fn some_fail(both: &mut Both, rng: &mut Rng) -> u64 {
+    let network = both.network();
+    let some = (1..network.settings.depth()).map(|_| rng.between(1, network.count() as u64));
+    both.survey(set_of(&some.collect::<Vec<_>>()))[LOST]
 }
 
 #[test]
@@ -53,8 +62,8 @@ fn networks_grow_to_64_nodes_saved_and_read_on_the_way() {
         for nodes in [rng.between(2, 20) as usize, 40, 64] {
             both.grow(&mut rng, nodes, in_flight);
             let consistent = both.call(Call::Verdict) == 0x100;
-            let lost = both.survey()[LOST];
-            assert!(!consistent || lost == 0, "seed {seed}: {lost} lost");
+            let lost = [both.survey(0)[LOST], some_fail(&mut both, &mut rng)];
+            assert!(!consistent || lost == [0, 0], "seed {seed}: {lost:?} lost");
             save_and_read(&mut both);
             look_up_each(&mut both, &mut rng);
         }

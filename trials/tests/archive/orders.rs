@@ -95,7 +95,7 @@ impl Walk {
             let network = Network::decode(self.pair.memory().used_state());
             let [verdict, written] =
                 [Call::Verdict, Call::Write].map(|call| self.call(place, &point, &call));
-            self.call(place, &point, &Call::Survey);
+            self.survey(place, &point);
             let judged = self.judge(&network, [verdict, written & 0xff]);
             judged.unwrap_or_else(|what| panic!("{}", self.report(place, what)));
             self.begin_each(place, &point, &network);
@@ -120,6 +120,14 @@ impl Walk {
             panic!("{}", self.report(place, what));
         }
         self.steps.len()
+    }
+
+    /// At one point in five with some set of failed nodes; at each with none.
+    fn survey(&mut self, place: usize, point: &Point) {
+        let some = (place % 5 == 0).then_some(place as u64 / 5 % (1 << MOST));
+        for failed in some.into_iter().chain([0]) {
+            self.call(place, point, &Call::Survey { failed });
+        }
     }
 
     /// What holds at every point, of which a survey was taken last: `ends` is the verdict's answer and the refusal of writing.

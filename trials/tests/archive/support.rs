@@ -140,9 +140,13 @@ impl Both {
         Network::decode(self.pair.memory().used_state())
     }
 
+    pub fn lookup(&mut self, from: u64, to: u64, failed: u64) -> u64 {
+        self.call(Call::Lookup { from, to, failed })
+    }
+
     /// The counts of a survey, which is taken.
-    pub fn survey(&mut self) -> Counts {
-        assert_eq!(self.call(Call::Survey), 0);
+    pub fn survey(&mut self, failed: u64) -> Counts {
+        assert_eq!(self.call(Call::Survey { failed }), 0);
         *self.memory().used_counts()
     }
 

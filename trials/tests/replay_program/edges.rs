@@ -420,7 +420,7 @@ fn name(line: &Line) -> &'static str {
             Command::Deliver { .. } => "deliver",
             Command::Lookup { .. } => "lookup",
             Command::Verdict => "verdict",
-            Command::Survey => "survey",
+            Command::Survey { .. } => "survey",
             Command::Sound => "sound",
             Command::Save { .. } => "save",
             Command::Load { .. } => "load",

@@ -1,14 +1,16 @@
 //! The language of scripts, read as docs/REPLAY.md has it.
 
+use trials::script::set_of;
+
 #[derive(Clone, Debug, PartialEq, Eq)]
 pub enum Command {
     Found { settings: [u64; 3], id: u32 },
     Begin { id: u32, gateway: u64 },
     Withdraw { node: u64 },
     Deliver { sender: u64, receiver: u64 },
-    Lookup { from: u64, to: u64 },
+    Lookup { from: u64, to: u64, failed: u64 },
     Verdict,
-    Survey,
+    Survey { failed: u64 },
     Sound,
     Save { file: Vec<u8> },
     Load { file: Vec<u8> },
@@ -59,12 +61,15 @@ fn command(words: &[&[u8]]) -> Option<Command> {
             sender: number(sender)?,
             receiver: number(receiver)?,
         },
-        [b"lookup", from, to] => Command::Lookup {
+        [b"lookup", from, to, ref without @ ..] => Command::Lookup {
             from: number(from)?,
             to: number(to)?,
+            failed: failed(without)?,
         },
         [b"verdict"] => Command::Verdict,
-        [b"survey"] => Command::Survey,
+        [b"survey", ref without @ ..] => Command::Survey {
+            failed: failed(without)?,
+        },
         [b"sound"] => Command::Sound,
         [b"save", file] => Command::Save { file: file.into() },
         [b"load", file] => Command::Load { file: file.into() },
@@ -74,6 +79,18 @@ fn command(words: &[&[u8]]) -> Option<Command> {
         [b"panel"] => Command::Panel,
         _ => return None,
     })
+}
+
+/// The failed nodes at the end of a line: none, or `without` and at least one number.
+fn failed(words: &[&[u8]]) -> Option<u64> {
+    match words {
+        [] => Some(0),
+        [b"without", nodes @ ..] if !nodes.is_empty() => {
+            let nodes: Option<Vec<u64>> = nodes.iter().map(|node| number(node)).collect();
+            nodes.map(|nodes| set_of(&nodes))
+        }
+        _ => None,
+    }
 }
 
 /// In decimal, of 64 bits.

@@ -35,7 +35,7 @@ const COMMANDS: [(&str, usize); 12] = [
 const SMALL: &str = "0 1 1 1 1 2 2 2 3 4 5 8 10 11 16 64 a saved0 image0";
 
 /// What may stand there too, and what mostly may not.
-const ODD: &str = "foun founds Found tabl surveys pane panels Panel withdra withdraws Withdraw withdrawal write verdict sound panel 17 65 257 f FF \
+const ODD: &str = "foun founds Found tabl surveys pane panels Panel withdra withdraws Withdraw withdrawal without without withou withouts Without write verdict sound panel 17 65 257 f FF \
     g 0x1 -1 +1 1.0 1, . .. ffffffff 100000000 \
     1ffffffff 9223372036854775808 18446744073709551615 18446744073709551616 18446744073709551617 \
     99999999999999999999 00000000000000000000000000000001 0000000000000000ffffffff";
@@ -55,11 +55,14 @@ fn agree(script: &[u8], files: &[File], case: &str) -> String {
     printed
 }
 
-/// Counts the answers by their first word.
+/// Counts the answers by their first word, and those that an end has failed.
 fn tally(counts: &mut BTreeMap<String, usize>, printed: &str) {
     for line in printed.lines().filter(|line| !line.starts_with(' ')) {
         let first = line.split([' ', ':']).next().expect("a word");
         *counts.entry(first.to_string()).or_default() += 1;
+        if line.starts_with("refused 21: ") {
+            *counts.entry("failed".into()).or_default() += 1;
+        }
     }
 }
 
@@ -67,7 +70,7 @@ fn tally(counts: &mut BTreeMap<String, usize>, printed: &str) {
 fn all_kinds(counts: &BTreeMap<String, usize>) -> bool {
     let kinds = [
         "found", "begin", "withdraw", "deliver", "lookup", "verdict", "survey", "sound", "save",
-        "load", "table", "node", "refused", "line",
+        "load", "table", "node", "refused", "failed", "line",
     ];
     kinds.iter().all(|&kind| counts.contains_key(kind))
 }
@@ -96,7 +99,7 @@ fn word(rng: &mut Rng) -> &'static str {
     rng.pick(&words.split_whitespace().collect::<Vec<_>>())
 }
 
-/// A command with about as many words as it has, or a word that is none.
+/// A command with about as many words as it has, or a word that is none; behind a lookup or a survey often failed nodes, or what looks like them.
 fn words(rng: &mut Rng) -> Vec<u8> {
     let (name, count) = rng.pick(&COMMANDS);
     let name = if rng.once_in(20) { word(rng) } else { name };
@@ -105,12 +108,27 @@ fn words(rng: &mut Rng) -> Vec<u8> {
         1 if count > 0 => count - 1,
         _ => count,
     };
+    let mut behind: Vec<&str> = (0..count).map(|_| word(rng)).collect();
+    let often = if matches!(name, "lookup" | "survey") {
+        2
+    } else {
+        30
+    };
+    if rng.once_in(often) {
+        let numbers = rng.pick(&[0, 1, 1, 2, 3, 8]);
+        behind.push(if rng.once_in(20) {
+            word(rng)
+        } else {
+            "without"
+        });
+        behind.extend((0..numbers).map(|_| word(rng)));
+    }
     let mut line = name.to_string();
-    for _ in 0..count {
+    for word in behind {
         let separator = rng.pick(&[" ", " ", " ", " ", " ", "\t", "  ", "\r"]);
         let separator = if rng.once_in(40) { "#" } else { separator };
         line += separator;
-        line += word(rng);
+        line += word;
     }
     line.into_bytes()
 }

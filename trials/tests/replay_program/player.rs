@@ -92,13 +92,14 @@ impl<'a> Player<'a> {
             Command::Deliver { sender, receiver } => {
                 said(Second.deliver(state, tables, *sender, *receiver), delivered)
             }
-            Command::Lookup { from, to } => {
-                said(Second.lookup(state, tables, *from, *to), looked_up)
+            Command::Lookup { from, to, failed } => {
+                let answer = Second.lookup(state, tables, *from, *to, *failed);
+                said(answer, looked_up)
             }
             Command::Verdict => said(Second.verdict(state, tables), judged),
-            Command::Survey => {
+            Command::Survey { failed } => {
                 let mut counts = Counts::default();
-                let answer = Second.survey(state, tables, &mut counts);
+                let answer = Second.survey(state, tables, *failed, &mut counts);
                 said(answer, |_| surveyed(state[DIGITS] as usize, &counts))
             }
             Command::Sound => {

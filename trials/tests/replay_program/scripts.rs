@@ -2,7 +2,7 @@
 
 use std::collections::BTreeMap;
 
-use trials::random::{bad_number, fresh_id, id, run, seeds, settings, Rng};
+use trials::random::{bad_number, failed_set, fresh_id, id, run, seeds, settings, Rng};
 use trials::script::{Call, Line as RunLine};
 
 use crate::language::{lines, Command, Line};
@@ -81,7 +81,7 @@ impl<'a> Maker<'a> {
 
     /// With a survey, a panel and the table of every node at the end.
     fn end(mut self) -> Made {
-        self.command(Command::Survey);
+        self.command(Command::Survey { failed: 0 });
         self.command(Command::Panel);
         for node in 0..=self.player.count() as u64 + 1 {
             self.command(Command::Table { node });
@@ -98,7 +98,7 @@ impl Maker<'_> {
             Command::Table { .. } => Some(("table", 1)),
             Command::Panel => Some(("panel", usize::MAX)),
             Command::Sound => Some(("sound", 1)),
-            Command::Survey => Some(("survey", 1)),
+            Command::Survey { .. } => Some(("survey", 1)),
             _ => None,
         };
         if let Some((name, most)) = looks {
@@ -116,14 +116,15 @@ impl Maker<'_> {
         for _ in 0..self.rng.below(5) {
             let (one, other) = (self.number(), self.number());
             let (from, to, sender, receiver) = (one, other, one, other);
+            let failed = failed_set(self.rng, 64);
             let file = b"early".to_vec();
             let commands = [
                 Command::Table { node: one },
                 Command::Panel,
                 Command::Sound,
                 Command::Verdict,
-                Command::Survey,
-                Command::Lookup { from, to },
+                Command::Survey { failed },
+                Command::Lookup { from, to, failed },
                 Command::Deliver { sender, receiver },
                 Command::Begin { id: 0, gateway: 1 },
                 Command::Withdraw { node: one },
@@ -171,9 +172,9 @@ impl Maker<'_> {
             Call::Begin { id, gateway } => Command::Begin { id, gateway },
             Call::Withdraw { node } => Command::Withdraw { node },
             Call::Deliver { sender, receiver } => Command::Deliver { sender, receiver },
-            Call::Lookup { from, to } => Command::Lookup { from, to },
+            Call::Lookup { from, to, failed } => Command::Lookup { from, to, failed },
             Call::Verdict => Command::Verdict,
-            Call::Survey => Command::Survey,
+            Call::Survey { failed } => Command::Survey { failed },
             Call::Sound => Command::Sound,
             Call::Write => Command::Save {
                 file: self.saved_name(),
@@ -215,7 +216,9 @@ impl Maker<'_> {
             self.command(Command::Sound);
         }
         if self.rng.once_in(10) {
-            self.command(Command::Survey);
+            let count = self.player.count().max(1);
+            let failed = failed_set(self.rng, count);
+            self.command(Command::Survey { failed });
         }
     }
 
@@ -267,9 +270,12 @@ fn command_words(rng: &mut Rng, command: &Command) -> Vec<Vec<u8>> {
         Command::Deliver { sender, receiver } => {
             vec!["deliver".into(), number(*sender), number(*receiver)]
         }
-        Command::Lookup { from, to } => vec!["lookup".into(), number(*from), number(*to)],
+        Command::Lookup { from, to, failed } => {
+            let words = vec!["lookup".into(), number(*from), number(*to)];
+            [words, without(rng, *failed)].concat()
+        }
         Command::Verdict => vec!["verdict".into()],
-        Command::Survey => vec!["survey".into()],
+        Command::Survey { failed } => [vec!["survey".into()], without(rng, *failed)].concat(),
         Command::Sound => vec!["sound".into()],
         Command::Save { file } => return vec![b"save".to_vec(), file.clone()],
         Command::Load { file } => return vec![b"load".to_vec(), file.clone()],
@@ -277,6 +283,27 @@ fn command_words(rng: &mut Rng, command: &Command) -> Vec<Vec<u8>> {
         Command::Panel => vec!["panel".into()],
     };
     texts.into_iter().map(String::into_bytes).collect()
+}
+
+/// The words of failed nodes: in any order, some twice, and at times with numbers that mean nothing. Of none mostly nothing.
+fn without(rng: &mut Rng, failed: u64) -> Vec<String> {
+    let nodes = (1..=64).filter(|node| failed >> (node - 1) & 1 == 1);
+    let mut numbers: Vec<u64> = nodes.collect();
+    if rng.once_in(4) {
+        let nothing = [0, 65, 100, 1 << 32, 1 << 63, u64::MAX];
+        numbers.extend((0..rng.between(1, 3)).map(|_| rng.pick(&nothing)));
+    }
+    if !numbers.is_empty() && rng.once_in(3) {
+        numbers.push(rng.pick(&numbers));
+    }
+    if rng.once_in(2) {
+        numbers.sort_by_cached_key(|_| rng.word());
+    }
+    let words = numbers
+        .iter()
+        .map(|number| format!("{}{number}", zeros(rng)));
+    let without = (!numbers.is_empty()).then_some("without".to_string());
+    without.into_iter().chain(words).collect()
 }
 
 /// Mostly none.
@@ -305,16 +332,20 @@ fn agree(made: Made, ours: &Folder, seed: u64, looks: &mut BTreeMap<String, usiz
     }
 }
 
+/// What random scripts must meet.
+const PRINTED: [&str; 6] = [
+    " at record ",
+    "withdraw: node ",
+    "refused 19: ",
+    "refused 20: ",
+    "refused 21: ",
+    "lookup: lost ",
+];
+
 #[test]
 fn random_scripts_print_what_the_second_engine_answers() {
     let mut looks = BTreeMap::new();
-    let mut printed = [
-        " at record ",
-        "withdraw: node ",
-        "refused 19: ",
-        "refused 20: ",
-    ]
-    .map(|words| (words, 0));
+    let mut printed = PRINTED.map(|words| (words, 0));
     for seed in seeds(0, 150) {
         let ours = Folder::new();
         let made = script(&mut Rng::new(seed), 200, &ours);

@@ -5,7 +5,7 @@ use trials::second::network::{Network, Node, Panel, Status};
 use trials::second::table::Table;
 use trials::second::{lent_and_sound, Counts, Refusal, LOST};
 
-const SENTENCES: [&str; 21] = [
+const SENTENCES: [&str; 22] = [
     "",
     "the lent memory is too short",
     "the state is not sound",
@@ -27,6 +27,7 @@ const SENTENCES: [&str; 21] = [
     "an own entry does not start with its owner",
     "the node is not the highest-numbered one",
     "the node is settled or notifying",
+    "the start or the destination has failed",
 ];
 
 /// Of 18 without a place.

@@ -6,13 +6,16 @@ use trials::script::Script;
 use trials::second::memory::COUNT;
 use trials::second::LOST;
 
-use crate::spoiled::{SpoilSurvey, SpoilWithdrawal, Spoiled, UNSPOILED};
+use crate::spoiled::{AfterLookup, SpoilLookup, SpoilSurvey, SpoilWithdrawal, Spoiled, UNSPOILED};
 
 const SCRIPT: &str = "found 2 2 1 0\nwrite\nlookup 1 1\nbegin 1 1\nbegin 1 1\nverdict\nsound\n\
                       read 04\nread 0401020201010000000002000100000101010001\nverdict\n\
                       begin 1 1\nsurvey\nlend 519 32768 0\nsurvey\nlend 520 32768 0\n\
                       read 0401020201010000000002000101000101000001\nread 040102020101000000000000\n\
-                      lend 536 32896 0\nwithdraw 3\nwithdraw 1\nwithdraw 2\nwithdraw 1\n";
+                      lend 536 32896 0\nwithdraw 3\nwithdraw 1\nwithdraw 2\nwithdraw 1\n\
+                      read 04010202010200000000010000000600010000010100010201010001020000010200010202010002\n\
+                      lookup 1 2 without 2\nlookup 1 3 without 1\nlookup 2 1 without 3 64\n\
+                      survey without 2\nsurvey without 64\n";
 
 /// The line of the first difference between two engines.
 fn first_difference(a: &dyn Engine, b: &dyn Engine) -> Option<usize> {
@@ -86,8 +89,8 @@ fn every_difference_is_seen() {
             verdict(|answer| if answer == 0x100 { 1 << 16 } else { answer }),
             10,
         ),
-        (lookup(|state, _| state[519] ^= 1), 3),
-        (lookup(|_, tables| tables[32_767] ^= 1), 3),
+        (lookup(|after| after.state[519] ^= 1), 3),
+        (lookup(|after| after.tables[32_767] ^= 1), 3),
         (write(|out| *out.last_mut().unwrap() ^= 1), 2),
         (write(|out| out[0] = 5), 2),
     ];
@@ -133,10 +136,76 @@ fn a_report_has_the_seed_and_the_script() {
     );
 }
 
-/// Line 12 surveys two nodes that do not know each other, line 14 is refused 1.
+/// Line 24 is refused 21, line 25 is refused 9, line 26 arrives in one hop.
+const WRONG_LOOKUPS: [(SpoilLookup, usize); 10] = [
+    (|after| instead(after, 21, 0x115), 24),
+    (
+        |after| after.state[519] ^= u64::from(after.answer == 21),
+        24,
+    ),
+    (
+        |after| after.tables[32_767] ^= u8::from(after.answer == 21),
+        24,
+    ),
+    // A failed destination is let pass.
+    (|after| instead(after, 21, ARRIVED + (1 << 24)), 24),
+    (|after| instead(after, 9, ARRIVED + (2 << 24)), 25),
+    // More hops than digits that differ.
+    (|after| instead(after, ARRIVED, ARRIVED + (2 << 16)), 26),
+    (|after| instead(after, ARRIVED, ARRIVED - 0x100), 26),
+    (|after| instead(after, ARRIVED, ARRIVED + (1 << 24)), 26),
+    (|after| instead(after, ARRIVED, 64 << 24), 26),
+    (|after| instead(after, ARRIVED, ARRIVED | 1 << 32), 26),
+];
+
+/// What line 26 is answered.
+const ARRIVED: u64 = 0x0101_0100;
+
+fn instead(after: &mut AfterLookup, answer: u64, wrong: u64) {
+    if after.answer == answer {
+        after.answer = wrong;
+    }
+}
+
+#[test]
+fn every_difference_of_a_lookup_is_seen() {
+    let numbers: [(SpoilLookup, usize); 6] = [
+        (|after| instead(after, 21, 9), 24),
+        (|after| instead(after, 21, 1 << 24), 24),
+        // 21 is judged before 9.
+        (|after| instead(after, 9, 21), 25),
+        // A number that no node has is taken for a node.
+        (|after| instead(after, ARRIVED, 9), 26),
+        (|after| instead(after, ARRIVED, 21), 26),
+        // One hop more for a node passed over.
+        (|after| instead(after, ARRIVED, ARRIVED + (1 << 16)), 26),
+    ];
+    for (number, (lookup, line)) in WRONG_LOOKUPS.into_iter().chain(numbers).enumerate() {
+        let engine = Spoiled {
+            lookup,
+            ..UNSPOILED
+        };
+        assert_eq!(first_difference(&engine, &Second), Some(line), "{number}");
+        assert_eq!(first_difference(&Second, &engine), Some(line), "{number}");
+    }
+}
+
+#[test]
+fn two_engines_with_the_same_fault_in_a_lookup_are_seen() {
+    for (number, (lookup, line)) in WRONG_LOOKUPS.into_iter().enumerate() {
+        let fault = || Spoiled {
+            lookup,
+            ..UNSPOILED
+        };
+        let found = first_difference(&fault(), &fault());
+        assert_eq!(found, Some(line), "{number}");
+    }
+}
+
+/// Line 12 surveys two nodes that do not know each other, line 14 is refused 1; in line 27 one of two has failed, in line 28 none.
 #[test]
 fn every_difference_of_a_survey_is_seen() {
-    let spoiled: [(SpoilSurvey, usize); 9] = [
+    let spoiled: [(SpoilSurvey, usize); 13] = [
         (|after| after.answer = 2, 12),
         (|after| after.answer |= 0x100, 12),
         (|after| *after.counts = after.before, 12),
@@ -146,6 +215,16 @@ fn every_difference_of_a_survey_is_seen() {
         (|after| after.tables[32_767] ^= 1, 12),
         (|after| after.answer *= 2, 14),
         (|after| after.counts[LOST] ^= after.answer, 14),
+        (|after| after.counts[0] += after.failed & 2, 27),
+        (|after| after.counts[LOST] += after.failed & 2, 27),
+        (
+            |after| after.answer += 21 * u64::from(after.failed == 2),
+            27,
+        ),
+        (
+            |after| after.counts[0] *= u64::from(after.failed >> 63 == 0),
+            28,
+        ),
     ];
     for (number, (survey, line)) in spoiled.into_iter().enumerate() {
         let engine = Spoiled {
@@ -159,12 +238,18 @@ fn every_difference_of_a_survey_is_seen() {
 
 #[test]
 fn two_engines_with_the_same_fault_in_a_survey_are_seen() {
-    let faults: [(SpoilSurvey, usize); 5] = [
+    let faults: [(SpoilSurvey, usize); 8] = [
         (|after| *after.counts = after.before, 12),
         (|after| after.counts[LOST] -= 1, 12),
         (|after| after.counts.swap(2, LOST), 12),
         (|after| after.state[518] ^= 1, 12),
         (|after| after.counts[LOST] ^= after.answer, 14),
+        (|after| after.counts[0] += after.failed & 2, 27),
+        (|after| after.counts[LOST] += after.failed & 2, 27),
+        (
+            |after| after.counts[0] *= u64::from(after.failed >> 63 == 0),
+            28,
+        ),
     ];
     for (number, (survey, line)) in faults.into_iter().enumerate() {
         let fault = || Spoiled {

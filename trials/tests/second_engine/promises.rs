@@ -1,25 +1,36 @@
 //! Demand 3 on the second engine's histories: how many requests a node sends from its latest beginning on, how long lookups
-//! are, that what a yes verdict found stays, that surveys add up, and that each node's counts are those of the history.
+//! are, that what a yes verdict found stays, that surveys add up, and that each node's counts are those of the history. Lookups
+//! and surveys are with failed nodes too.
 
 use trials::compare::{compare, Difference};
 use trials::engine::Second;
 use trials::lent::Lent;
 use trials::panel::History;
-use trials::random::{run, run_from_built, run_in, seeds, Rng};
-use trials::script::{Call, Line, Script};
+use trials::random::{all_nodes, failed_set, run, run_from_built, run_in, seeds, Rng};
+use trials::script::{set_of, Call, Line, Script};
 use trials::second::memory::Tables;
 use trials::second::network::Network;
-use trials::second::{lookup, sound, survey, verdict, very_hops, LookupAnswer, Settings, LOST};
+use trials::second::{lookup, sound, survey, verdict, very_hops};
+use trials::second::{Answer, LookupAnswer, NodeSet, Refusal, Settings, LOST};
 use trials::surveys::adds_up;
 
 /// What is known of a run from its history alone, and what must not change any more.
 struct Watch {
     history: History,
-    /// The very hops between every two nodes of the last point that passed the verdict.
-    kept: Vec<Vec<usize>>,
+    /// Of the last point that passed the verdict: between every two nodes, and between some with failed nodes.
+    kept: Vec<Kept>,
     /// Withdrawals after such a point, and numbers withdrawn and begun again.
     withdrawn: usize,
     begun_again: usize,
+    /// Lookups that were lost at such a point.
+    lost: usize,
+}
+
+/// A lookup and its very hops.
+struct Kept {
+    to: usize,
+    failed: u64,
+    hops: Vec<usize>,
 }
 
 impl Watch {
@@ -29,6 +40,7 @@ impl Watch {
             kept: vec![],
             withdrawn: 0,
             begun_again: 0,
+            lost: 0,
         }
     }
 
@@ -69,16 +81,19 @@ impl Watch {
         self.history.stands_in(state)?;
         let count = network.count() as u64;
         for _ in 0..3 {
-            let (from, to) = (rng.between(1, count), rng.between(1, count));
-            lookup_is_short(memory, &network, from, to)?;
+            let ends = [0; 2].map(|_| rng.between(1, count));
+            let failed = failed_set(rng, network.count());
+            lookup_is_short(memory, &network, ends, failed)?;
         }
         let passes = verdict(state, tables).consistent;
-        survey_fits(memory, passes)?;
+        for failed in [0, failed_set(rng, network.count())] {
+            survey_fits(memory, &network, failed, passes)?;
+        }
         if passes || rng.once_in(8) {
             self.hops_are_kept(memory, &network)?;
         }
         if passes {
-            self.keep_hops(&network, tables)?;
+            self.keep_hops(&network, tables, rng)?;
         }
         Ok(())
     }
@@ -98,64 +113,95 @@ impl Watch {
 
     /// (c) The very hops are what they were, and the answer is theirs.
     fn hops_are_kept(&self, memory: &Lent, network: &Network) -> Result<(), String> {
-        for hops in &self.kept {
-            let (from, to) = (hops[0], hops[hops.len() - 1]);
-            if !very_hops(network, memory.used_tables(), from, to).eq(hops.iter().copied()) {
-                return Err(format!("very hops from {from} to {to} were {hops:?}"));
+        for Kept { to, failed, hops } in &self.kept {
+            let (ends, set) = ([hops[0], *to], NodeSet(*failed));
+            if !very_hops(network, memory.used_tables(), ends, set).eq(hops.iter().copied()) {
+                return Err(format!("{ends:?} without {failed:#x} went {hops:?}"));
             }
         }
-        let Some(hops) = self.kept.last() else {
-            return Ok(());
-        };
-        let (from, to) = (hops[0] as u64, hops[hops.len() - 1] as u64);
-        let answer = lookup(&memory.state, &memory.tables, from, to);
-        let arrived = LookupAnswer {
-            refusal: 0,
-            arrived: true,
-            hops: hops.len() as u64 - 1,
-            last: to,
-        };
-        if answer != arrived {
-            return Err(format!("{from} to {to} went {hops:?}, now {answer:?}"));
+        let some = self.kept.iter().rev().step_by(self.kept.len() / 3 + 1);
+        for Kept { to, failed, hops } in some {
+            let (from, last) = (hops[0] as u64, hops[hops.len() - 1]);
+            let answer = lookup(&memory.state, &memory.tables, from, *to as u64, *failed);
+            let kept = LookupAnswer {
+                refusal: 0,
+                arrived: last == *to,
+                hops: hops.len() as u64 - 1,
+                last: last as u64,
+            };
+            if answer != kept {
+                return Err(format!("{from} to {to} went {hops:?}, now {answer:?}"));
+            }
         }
         Ok(())
     }
 
-    /// Where the network passes the verdict, every lookup arrives.
-    fn keep_hops(&mut self, network: &Network, tables: &Tables) -> Result<(), String> {
+    /// Where the network passes the verdict, every lookup arrives with fewer failed nodes than an entry holds.
+    fn keep_hops(
+        &mut self,
+        network: &Network,
+        tables: &Tables,
+        rng: &mut Rng,
+    ) -> Result<(), String> {
         let nodes = 1..=network.count();
         let pairs = nodes
             .clone()
-            .flat_map(|from| nodes.clone().map(move |to| (from, to)));
+            .flat_map(|from| nodes.clone().map(move |to| ([from, to], 0)));
+        let some = (0..40).map(|_| {
+            let ends = [0; 2].map(|_| 1 + rng.below(network.count()));
+            let set = failed_set(rng, network.count());
+            (ends, set & !set_of(&ends.map(|end| end as u64)))
+        });
+        let all: Vec<([usize; 2], u64)> = pairs.chain(some).collect();
         self.kept.clear();
-        for (from, to) in pairs {
-            let hops: Vec<usize> = very_hops(network, tables, from, to).collect();
-            if hops.last() != Some(&to) {
+        for ([from, to], failed) in all {
+            let hops = very_hops(network, tables, [from, to], NodeSet(failed));
+            let hops: Vec<usize> = hops.collect();
+            if hops.last() != Some(&to) && few(network, failed) {
                 return Err(format!("consistent, but {from} to {to} goes {hops:?}"));
             }
-            self.kept.push(hops);
+            self.lost += usize::from(hops.last() != Some(&to));
+            self.kept.push(Kept { to, failed, hops });
         }
         Ok(())
     }
 }
 
-/// (b) A lookup is not refused, and its hops are at most d less the digits already matched.
-fn lookup_is_short(memory: &Lent, network: &Network, from: u64, to: u64) -> Result<(), String> {
-    let answer = lookup(&memory.state, &memory.tables, from, to);
-    let matched = network.common_suffix(from as usize, to as usize);
-    if answer.refusal != 0 || answer.hops as usize + matched > network.settings.digits() {
-        return Err(format!("{from} to {to}, {matched} matched: {answer:?}"));
-    }
-    Ok(())
+/// Have fewer nodes failed than an entry holds?
+fn few(network: &Network, failed: u64) -> bool {
+    let failed = NodeSet(failed & all_nodes(network.count()));
+    failed.len() < network.settings.depth()
 }
 
-/// A survey is not refused and adds up, and where the network passes the verdict no pair is lost.
-fn survey_fits(memory: &Lent, passes: bool) -> Result<(), String> {
-    let answer = survey(&memory.state, &memory.tables);
-    if answer.refusal != 0 || passes && answer.counts[LOST] != 0 {
-        return Err(format!("{answer:?}, consistent: {passes}"));
+/// (b) A lookup is refused where an end has failed; else its hops are at most d less the digits already matched, and none of them is a failed node.
+fn lookup_is_short(
+    memory: &Lent,
+    network: &Network,
+    [from, to]: [u64; 2],
+    failed: u64,
+) -> Result<(), String> {
+    let answer = lookup(&memory.state, &memory.tables, from, to, failed);
+    let (ends, set) = ([from as usize, to as usize], NodeSet(failed));
+    let right = if ends.iter().any(|&end| set.contains(end)) {
+        answer == LookupAnswer::refused(Refusal::HasFailed)
+    } else {
+        let most = network.settings.digits() - network.common_suffix(ends[0], ends[1]);
+        let mut hops = very_hops(network, memory.used_tables(), ends, set);
+        answer.refusal == 0 && answer.hops as usize <= most && !hops.any(|hop| set.contains(hop))
+    };
+    right
+        .then_some(())
+        .ok_or_else(|| format!("{from} to {to} without {failed:#x}: {answer:?}"))
+}
+
+/// A survey is not refused and adds up; where the network passes the verdict and few nodes have failed no pair is lost.
+fn survey_fits(memory: &Lent, network: &Network, failed: u64, passes: bool) -> Result<(), String> {
+    let answer = survey(&memory.state, &memory.tables, failed);
+    let survives = passes && few(network, failed);
+    if answer.refusal != 0 || survives && answer.counts[LOST] != 0 {
+        return Err(format!("{answer:?} without {failed:#x}, {passes}"));
     }
-    adds_up(memory.used_state(), &answer.counts)
+    adds_up(memory.used_state(), failed, &answer.counts)
 }
 
 /// A script whose every point keeps the promises.
@@ -170,10 +216,10 @@ fn watch(seed: u64, script: &Script, rng: &mut Rng) -> Watch {
     watch
 }
 
-/// There are many withdrawals where hops are kept, and many numbers are given again.
+/// There are many withdrawals where hops are kept, many numbers are given again, and many lookups that are kept are lost.
 #[test]
 fn runs_keep_their_promises() {
-    let (mut withdrawn, mut begun_again) = (0, 0);
+    let (mut withdrawn, mut begun_again, mut lost) = (0, 0, 0);
     for seed in seeds(0, 250) {
         let mut rng = Rng::new(seed);
         let calls = rng.pick(&[50, 200, 1_000]);
@@ -181,9 +227,10 @@ fn runs_keep_their_promises() {
         let watched = watch(seed, &script, &mut rng);
         withdrawn += watched.withdrawn;
         begun_again += watched.begun_again;
+        lost += watched.lost;
     }
-    println!("{withdrawn} withdrawn, {begun_again} begun again");
-    assert!(withdrawn > 500 && begun_again > 500);
+    println!("{withdrawn} withdrawn, {begun_again} begun again, {lost} lost");
+    assert!(withdrawn > 500 && begun_again > 500 && lost > 500);
 }
 
 #[test]

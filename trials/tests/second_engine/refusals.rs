@@ -180,10 +180,19 @@ fn a_held_wait_stays_outstanding() {
 fn lookup_survey_verdict_and_writing_judge_in_order() {
     let mut trial = two_joins();
     for (from, to) in [(0, 1), (1, 0), (5, 1), (1, 5), (1 << 63, 1)] {
-        assert_eq!(trial.lookup(from, to).refusal, 9);
+        for failed in [0, 1, 1 << 4, u64::MAX] {
+            assert_eq!(trial.lookup(from, to, failed).refusal, 9);
+        }
     }
-    assert_eq!(trial.lookup(3, 4).refusal, 0);
-    assert_eq!(trial.survey().refusal, 0);
+    for (from, to, failed) in [(1, 2, 1), (1, 2, 2), (1, 2, 3), (3, 3, 4), (3, 4, u64::MAX)] {
+        assert_eq!(trial.lookup(from, to, failed).refusal, 21);
+    }
+    for failed in [0, 3, !(4 | 8)] {
+        assert_eq!(trial.lookup(3, 4, failed).refusal, 0);
+    }
+    for failed in [0, 1, 0xf, u64::MAX] {
+        assert_eq!(trial.survey(failed).refusal, 0);
+    }
     assert_eq!(trial.verdict().refusal, 15);
     assert_eq!(trial.write().refusal, 15);
     let mut trial = Trial::read_in(&E1);
@@ -212,8 +221,11 @@ fn memory_too_short_comes_first_and_unsound_next() {
         assert_eq!(second::begin(state, tables, 0, 0).refusal, refusal);
         assert_eq!(second::withdraw(state, tables, 0).refusal, refusal);
         assert_eq!(second::deliver(state, tables, 0, 0).refusal, refusal);
-        assert_eq!(second::lookup(state, tables, 0, 0).refusal, refusal);
-        assert_eq!(second::survey(state, tables).refusal, refusal);
+        for failed in [0, 1, u64::MAX] {
+            let looked_up = second::lookup(state, tables, 0, 0, failed);
+            assert_eq!(looked_up.refusal, refusal);
+            assert_eq!(second::survey(state, tables, failed).refusal, refusal);
+        }
         assert_eq!(second::verdict(state, tables).refusal, refusal);
         assert_eq!(second::write(state, tables, &mut out).refusal, refusal);
     }

@@ -27,7 +27,7 @@ fn calls_on_damaged_states_leave_alone_what_they_must() {
         let (mut script, memory) = run(&mut rng, 60);
         script.lines.push(damage(&mut rng, &memory));
         script.call(Call::Sound);
-        script.call(Call::Survey);
+        script.call(Call::Survey { failed: 0 });
         let node = memory.state[COUNT];
         script.call(Call::Withdraw { node });
         let (other, _) = run(&mut rng, 20);
@@ -54,7 +54,7 @@ const MET: [(&str, &[u64]); 9] = [
     ("begin", &[0, 1, 7, 8, 9, 11, 12]),
     ("withdraw", &[0, 1, 9, 19, 20]),
     ("deliver", &[0, 1, 9, 13, 14]),
-    ("lookup", &[0, 1, 9]),
+    ("lookup", &[0, 1, 9, 21]),
     ("verdict", &[0, 1, 15]),
     ("write", &[0, 1, 15, 16]),
     ("survey", &[0, 1]),
@@ -94,4 +94,26 @@ fn runs_meet_every_refusal_and_every_kind_of_delivery() {
     ];
     assert_eq!(kinds, BTreeSet::from(all));
     assert_eq!(most, 64);
+}
+
+/// Lookups that failed nodes turn another way, and lookups that they lose.
+#[test]
+fn runs_meet_lookups_around_failed_nodes() {
+    let (mut around, mut lost) = (0, 0);
+    for seed in 4_000..4_200 {
+        let (script, _) = run(&mut Rng::new(seed), 300);
+        let mut memory = Lent::noise();
+        for line in &script.lines {
+            let answer = memory.obey(&Second, line);
+            if let Line::Call(Call::Lookup { from, to, .. }) = *line {
+                let failed = 0;
+                let plain = memory.call(&Second, &Call::Lookup { from, to, failed });
+                let taken = answer & 0xff == 0 && answer != plain;
+                around += usize::from(taken && answer & 0x100 != 0);
+                lost += usize::from(taken && answer & 0x100 == 0);
+            }
+        }
+    }
+    println!("{around} around, {lost} lost");
+    assert!(around > 20 && lost > 20, "{around} around, {lost} lost");
 }

@@ -15,10 +15,23 @@ fn printed_scripts_are_parsed_back() {
 fn every_line_has_its_text() {
     let text =
         "found 2 2 1 a0\nbegin ff 18446744073709551615\nwithdraw 18446744073709551615\ndeliver 2 1\nlookup 1 2\nverdict\nwrite\n\
-                read 0401ff\nsound\nsurvey\nlend 520 32768 40\nword 12 ffffffffffffffff\nbyte 300 7\n";
+                read 0401ff\nsound\nsurvey\nlend 520 32768 40\nword 12 ffffffffffffffff\nbyte 300 7\n\
+                lookup 1 18446744073709551615 without 1 3 64\nsurvey without 2\n";
     let script: Script = text.parse().unwrap();
-    assert_eq!(script.lines.len(), 13);
+    assert_eq!(script.lines.len(), 15);
     assert_eq!(script.to_string(), text);
+}
+
+/// In any order, twice, and with numbers that mean nothing.
+#[test]
+fn failed_nodes_are_a_set() {
+    let parsed = |text: &str| text.parse::<Script>().unwrap().to_string();
+    let text = "lookup 1 2 without 64 0 3 65 3 18446744073709551615";
+    assert_eq!(parsed(text), "lookup 1 2 without 3 64\n");
+    assert_eq!(parsed("survey without 0 65"), "survey\n");
+    let all: Vec<String> = (1..=64).map(|node: u64| node.to_string()).collect();
+    let text = format!("survey without {}\n", all.join(" "));
+    assert_eq!(parsed(&text), text);
 }
 
 #[test]
@@ -36,6 +49,16 @@ fn other_lines_are_errors() {
         "withdraw a",
         "byte 3 100",
         "survey 1",
+        "survey without",
+        "survey with 1",
+        "survey without without",
+        "survey without 1 a",
+        "survey without 18446744073709551616",
+        "lookup 1 without 2",
+        "lookup 1 2 3",
+        "lookup 1 2 without",
+        "lookup 1 2 without -1",
+        "lookup 1 2 without 3 without 4",
     ] {
         assert!(text.parse::<Script>().is_err(), "{text}");
     }

@@ -13,7 +13,7 @@ pub struct Spoiled {
     pub begin: fn(&mut [u64], &mut [u8], u64) -> u64,
     pub withdraw: SpoilWithdrawal,
     pub deliver: SpoilDelivery,
-    pub lookup: fn(&mut [u64], &mut [u8]),
+    pub lookup: SpoilLookup,
     pub verdict: fn(u64) -> u64,
     pub write: fn(&mut [u8]),
     pub survey: SpoilSurvey,
@@ -44,12 +44,22 @@ pub struct AfterDelivery<'a> {
     pub refusal: u64,
 }
 
+pub type SpoilLookup = fn(&mut AfterLookup);
+
+/// Its memory and its answer.
+pub struct AfterLookup<'a> {
+    pub state: &'a mut [u64],
+    pub tables: &'a mut [u8],
+    pub answer: u64,
+}
+
 pub type SpoilSurvey = fn(&mut AfterSurvey);
 
-/// Its memory, its counts before and after it, and its answer.
+/// Its memory, what was passed, its counts before and after it, and its answer.
 pub struct AfterSurvey<'a> {
     pub state: &'a mut [u64],
     pub tables: &'a mut [u8],
+    pub failed: u64,
     pub before: Counts,
     pub counts: &'a mut Counts,
     pub answer: u64,
@@ -62,7 +72,7 @@ pub const UNSPOILED: Spoiled = Spoiled {
     begin: |_, _, answer| answer,
     withdraw: |_| {},
     deliver: |_| {},
-    lookup: |_, _| {},
+    lookup: |_| {},
     verdict: |answer| answer,
     write: |_| {},
     survey: |_| {},
@@ -142,9 +152,15 @@ impl Engine for Spoiled {
         answer
     }
 
-    fn lookup(&self, state: &mut [u64], tables: &mut [u8], from: u64, to: u64) -> u64 {
-        (self.lookup)(state, tables);
-        Second.lookup(state, tables, from, to)
+    fn lookup(&self, state: &mut [u64], tables: &mut [u8], from: u64, to: u64, failed: u64) -> u64 {
+        let answer = Second.lookup(state, tables, from, to, failed);
+        let mut after = AfterLookup {
+            state,
+            tables,
+            answer,
+        };
+        (self.lookup)(&mut after);
+        after.answer
     }
 
     fn verdict(&self, state: &mut [u64], tables: &mut [u8]) -> u64 {
@@ -157,12 +173,19 @@ impl Engine for Spoiled {
         answer
     }
 
-    fn survey(&self, state: &mut [u64], tables: &mut [u8], counts: &mut Counts) -> u64 {
+    fn survey(
+        &self,
+        state: &mut [u64],
+        tables: &mut [u8],
+        failed: u64,
+        counts: &mut Counts,
+    ) -> u64 {
         let before = *counts;
-        let answer = Second.survey(state, tables, counts);
+        let answer = Second.survey(state, tables, failed, counts);
         let mut after = AfterSurvey {
             state,
             tables,
+            failed,
             before,
             counts,
             answer,

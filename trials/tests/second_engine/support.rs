@@ -56,16 +56,16 @@ impl Trial {
         second::deliver(state, tables, sender, receiver)
     }
 
-    pub fn lookup(&self, from: u64, to: u64) -> LookupAnswer {
-        second::lookup(&self.memory.state, &self.memory.tables, from, to)
+    pub fn lookup(&self, from: u64, to: u64, failed: u64) -> LookupAnswer {
+        second::lookup(&self.memory.state, &self.memory.tables, from, to, failed)
     }
 
     pub fn verdict(&self) -> VerdictAnswer {
         second::verdict(&self.memory.state, &self.memory.tables)
     }
 
-    pub fn survey(&self) -> SurveyAnswer {
-        second::survey(&self.memory.state, &self.memory.tables)
+    pub fn survey(&self, failed: u64) -> SurveyAnswer {
+        second::survey(&self.memory.state, &self.memory.tables, failed)
     }
 
     pub fn write(&mut self) -> WriteAnswer {
