@@ -9,7 +9,7 @@
 //! - `compare`: runs one script on two engines and finds the first difference.
 //! - `steps`: steps that trials of two engines are made of; `met`: how often a trial has met something.
 //! - `surveys`: what holds of every survey.
-//! - `failures`: what holds of lookups and surveys around failed nodes.
+//! - `failures`: what holds of lookups and surveys around failed nodes, and trials of it.
 //! - `withdrawals`: what holds of every withdrawal, and trials of it.
 //! - `panel`: what holds of each node's two counts.
 //! - `paper`: the images of document 01.

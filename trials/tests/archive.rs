@@ -2,6 +2,8 @@
 
 #[path = "archive/edges.rs"]
 mod edges;
+#[path = "archive/failures.rs"]
+mod failures;
 #[path = "archive/fenced.rs"]
 mod fenced;
 #[path = "archive/founding.rs"]

@@ -4,6 +4,8 @@
 mod differences;
 #[path = "second_engine/edges.rs"]
 mod edges;
+#[path = "second_engine/failures.rs"]
+mod failures;
 #[path = "second_engine/images.rs"]
 mod images;
 #[path = "second_engine/panel.rs"]
