@@ -36,6 +36,8 @@ mod survey;
 mod withdrawing;
 #[path = "second_engine/wrong_counts.rs"]
 mod wrong_counts;
+#[path = "second_engine/wrong_failures.rs"]
+mod wrong_failures;
 #[path = "second_engine/wrong_turns.rs"]
 mod wrong_turns;
 #[path = "second_engine/wrong_withdrawals.rs"]

@@ -46,10 +46,13 @@ pub struct AfterDelivery<'a> {
 
 pub type SpoilLookup = fn(&mut AfterLookup);
 
-/// Its memory and its answer.
+/// Its memory, what was passed, and its answer.
 pub struct AfterLookup<'a> {
     pub state: &'a mut [u64],
     pub tables: &'a mut [u8],
+    pub from: u64,
+    pub to: u64,
+    pub failed: u64,
     pub answer: u64,
 }
 
@@ -157,6 +160,9 @@ impl Engine for Spoiled {
         let mut after = AfterLookup {
             state,
             tables,
+            from,
+            to,
+            failed,
             answer,
         };
         (self.lookup)(&mut after);
