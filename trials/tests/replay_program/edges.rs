@@ -263,6 +263,130 @@ survey: 2 pairs
     assert_eq!(printed(script), expected);
 }
 
+/// Node 1 has 2 and 3 for the digit that 2, 3 and 4 end with. Numbers that no node has mean nothing, and a number may stand twice.
+const FAILURES: &str = "\
+refused 2: the state is not sound
+refused 2: the state is not sound
+found: node 1
+refused 21: the start or the destination has failed
+lookup: arrived at 1 in 0 hops
+refused 9: a node number is 0 or above the number of nodes
+survey: 0 pairs
+  hops 1    0
+  hops 2    0
+  lost      0
+begin: node 2
+deliver: copied
+deliver: attached at level 0, settled
+begin: node 3
+deliver: copied
+deliver: attached at level 0
+deliver: notified, settled
+begin: node 4
+deliver: copied
+deliver: copied
+deliver: attached at level 1
+deliver: notified, settled
+lookup: arrived at 3 in 2 hops
+lookup: arrived at 3 in 1 hop
+lookup: arrived at 3 in 1 hop
+lookup: arrived at 3 in 1 hop
+lookup: arrived at 3 in 2 hops
+lookup: arrived at 4 in 2 hops
+lookup: arrived at 4 in 2 hops
+lookup: lost at 1 in 0 hops
+lookup: arrived at 1 in 1 hop
+refused 21: the start or the destination has failed
+refused 21: the start or the destination has failed
+refused 21: the start or the destination has failed
+survey: 12 pairs
+  hops 1   10 ##########################################
+  hops 2    2 #########
+  lost      0
+survey: 6 pairs
+  hops 1    5 ##########################################
+  hops 2    1 #########
+  lost      0
+survey: 2 pairs
+  hops 1    1 #########################
+  hops 2    0
+  lost      1 #########################
+survey: 0 pairs
+  hops 1    0
+  hops 2    0
+  lost      0
+survey: 12 pairs
+  hops 1   10 ##########################################
+  hops 2    2 #########
+  lost      0
+";
+
+#[test]
+fn lookups_and_surveys_around_failed_nodes() {
+    let script = b"\
+lookup 1 1 without 1\nsurvey without 1\nfound 4 2 2 0\nlookup 1 1 without 1\nlookup 1 1 without 2\n\
+lookup 1 2 without 1\nsurvey without 1\nbegin 1 1\ndeliver 2 1\ndeliver 2 1\nbegin 11 1\n\
+deliver 3 1\ndeliver 3 1\ndeliver 3 2\nbegin 21 1\ndeliver 4 1\ndeliver 4 2\ndeliver 4 2\n\
+deliver 4 3\nlookup 1 3\nlookup 1 3 without 2\nlookup 1 3 without 64 002 5 2 0 65 18446744073709551615\n\
+\tlookup\t1 3\rwithout 2#3\nlookup 1 3 without 4 64\nlookup 1 4\nlookup 1 4 without 2\n\
+lookup 1 4 without 3 2\nlookup 4 1 without 3 2\nlookup 1 4 without 1\nlookup 1 4 without 4\n\
+lookup 4 4 without 3 4\nsurvey\nsurvey without 2 2\nsurvey without 3 2\nsurvey without 1 2 3 4\n\
+survey without 0 5 64 65";
+    assert_eq!(printed(script), FAILURES);
+}
+
+/// `without` has at least one number behind it, and stands behind a lookup's two numbers or behind a survey alone.
+const NOT_UNDERSTOOD: [&str; 31] = [
+    "lookup 1 1 without",
+    "lookup 1 1 without # 1",
+    "lookup 1 1 without x",
+    "lookup 1 1 without 1 x",
+    "lookup 1 1 without -1",
+    "lookup 1 1 without +1",
+    "lookup 1 1 without 18446744073709551616",
+    "lookup 1 1 without 1 18446744073709551616",
+    "lookup 1 1 without without",
+    "lookup 1 1 without 1 without 2",
+    "lookup 1 1 without1",
+    "lookup 1 1 Without 1",
+    "lookup 1 1 with 1",
+    "lookup 1 1 1",
+    "lookup 1 without 1",
+    "lookup 1 without 1 1",
+    "lookup without 1",
+    "lookup without 1 1 1",
+    "survey without",
+    "survey without #1",
+    "survey without 1a",
+    "survey without 1,2",
+    "survey 1 without 1",
+    "survey with 1",
+    "survey 1",
+    "without 1",
+    "verdict without 1",
+    "sound without 1",
+    "panel without 1",
+    "table 1 without 1",
+    "deliver 1 1 without 1",
+];
+
+#[test]
+fn other_words_behind_a_lookup_or_a_survey_are_not_understood() {
+    for line in NOT_UNDERSTOOD {
+        let printed = printed(line.as_bytes());
+        assert_eq!(printed, "line 1: not understood\n", "{line}");
+    }
+    let zeros = "0".repeat(1_000);
+    for line in [
+        format!("survey without{}", " 1".repeat(10_000)),
+        format!("survey without {zeros}1"),
+        format!("lookup 1 1 without {zeros}"),
+    ] {
+        let printed = printed(line.as_bytes());
+        assert_eq!(printed, "refused 2: the state is not sound\n");
+    }
+}
+
 /// A section of docs/REPLAY.md: its first block is a script, and its second what is printed.
 fn blocks(heading: &str) -> [String; 2] {
     let page = fs::read_to_string(root().join("docs/REPLAY.md")).expect("the page");
