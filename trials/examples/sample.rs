@@ -1,14 +1,19 @@
-//! Writes the image of a network of 64 nodes that joined with many joins in flight to standard output: samples/network64.image.
+//! Writes the image of a sample to standard output: `cargo run --release --example sample depth3 > ../samples/depth3.image`.
+//!
+//! - `network64`: 64 nodes that joined with many joins in flight.
+//! - `depth3`: 24 nodes with entries of up to three, that joined one after another; any two of them may fail.
 
 use std::io::Write;
+use std::{env, io};
 
 use trials::engine::{Engine, Second};
+use trials::failures::joined;
 use trials::lent::Lent;
 use trials::random::{fresh_id, Rng};
 use trials::script::Call;
 use trials::second::network::Network;
 
-fn main() {
+fn network64() -> Lent {
     let mut rng = Rng::new(64);
     let mut memory = Lent::noise();
     memory.call(
@@ -25,7 +30,7 @@ fn main() {
             let id = fresh_id(&mut rng, &network).expect("there are more ids than nodes");
             memory.call(&Second, &Call::Begin { id, gateway: 1 });
         } else if outstanding.is_empty() {
-            break;
+            return memory;
         } else {
             let (sender, receiver) = rng.pick(&outstanding);
             memory.call(
@@ -37,10 +42,23 @@ fn main() {
             );
         }
     }
+}
+
+fn depth3() -> Lent {
+    joined(&mut Rng::new(1), [4, 4, 3], 24)
+}
+
+fn main() {
+    let name = env::args().nth(1);
+    let mut memory = match name.as_deref() {
+        Some("network64") => network64(),
+        Some("depth3") => depth3(),
+        _ => panic!("which sample: network64 or depth3?"),
+    };
     let mut image = vec![0; 65536];
     let answer = Second.write(&mut memory.state, &mut memory.tables, &mut image);
     assert_eq!(answer & 0xff, 0);
-    std::io::stdout()
+    io::stdout()
         .write_all(&image[..(answer >> 8) as usize])
         .unwrap();
 }
