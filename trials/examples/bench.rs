@@ -1,8 +1,9 @@
 //! Times the proved engine beside the second one on the same calls, in one run: `cargo run --release --example bench`.
 //!
 //! A network grows to its size with joins in flight, each of them begun, withdrawn and begun again; then nodes are looked up in it, and it is judged,
-//! surveyed and written, with the counts of its joins, and read back last, as reading sets these to zero. The two engines play this in turn for many
-//! rounds; a call counts with its shortest time over the rounds. The share of `sound` in a call is told by further rounds.
+//! surveyed and written, with the counts of its joins, and read back last, as reading sets these to zero. Lookups and surveys are also made while every
+//! fourth node has failed. The two engines play this in turn for many rounds; a call counts with its shortest time over the rounds. The share of
+//! `sound` in a call is told by further rounds.
 
 use std::hint::black_box;
 use std::time::Instant;
@@ -12,17 +13,28 @@ use trials::engine::{Engine, Second};
 use trials::lent::Lent;
 use trials::panel::panels;
 use trials::random::{fresh_id, Rng};
-use trials::script::Call;
+use trials::script::{set_of, Call};
 use trials::second::memory::{STATE_WORDS, TABLE_BYTES};
 use trials::second::network::Network;
 
 const ROUNDS: usize = 150;
 const IN_FLIGHT: usize = 4;
 
-/// Calls that judge the state first.
-const JUDGING: [&str; 7] = [
-    "begin", "withdraw", "deliver", "lookup", "verdict", "survey", "write",
+/// Calls that judge the state first; those `without` have failed nodes.
+const JUDGING: [&str; 9] = [
+    "begin",
+    "withdraw",
+    "deliver",
+    "lookup",
+    "lookup without",
+    "verdict",
+    "survey",
+    "survey without",
+    "write",
 ];
+
+/// Nodes 4, 8, 12, ..
+const EVERY_FOURTH: u64 = 0x8888_8888_8888_8888;
 
 /// A founding, then beginnings, each withdrawn and made again, and deliveries in any order until all nodes are in system.
 fn growth(settings: [u64; 3], nodes: usize, rng: &mut Rng) -> Vec<Call> {
@@ -52,18 +64,26 @@ fn growth(settings: [u64; 3], nodes: usize, rng: &mut Rng) -> Vec<Call> {
     }
 }
 
-/// Calls on the grown network: lookups of each node, and as many of the calls that need no arguments; then as many readings.
+/// The node, or the one before it if it has failed.
+fn left(node: u64) -> u64 {
+    node - u64::from(EVERY_FOURTH & set_of(&[node]) != 0)
+}
+
+/// Calls on the grown network: lookups of each node, and as many of the calls that need no ends; then as many readings.
 fn use_of(nodes: usize, image: &[u8], rng: &mut Rng) -> Vec<Call> {
     let numbers = 1..=nodes as u64;
     let calls = numbers.flat_map(|to| {
         let from = rng.between(1, nodes as u64);
-        let failed = 0;
-        let looked = Call::Lookup { from, to, failed };
+        let lookup = |from, to, failed| Call::Lookup { from, to, failed };
         [
-            looked,
+            lookup(from, to, 0),
+            lookup(left(from), left(to), EVERY_FOURTH),
             Call::Sound,
             Call::Verdict,
-            Call::Survey { failed },
+            Call::Survey { failed: 0 },
+            Call::Survey {
+                failed: EVERY_FOURTH,
+            },
             Call::Write,
         ]
     });
@@ -155,7 +175,14 @@ fn plain_pass(memory: &Lent) -> f64 {
 
 /// Where calls of this kind are.
 fn places(calls: &[Call], kind: &str) -> Vec<usize> {
-    let of_kind = |&place: &usize| calls[place].to_string().starts_with(kind);
+    let (name, failed) = match kind.strip_suffix(" without") {
+        Some(name) => (name, true),
+        None => (kind, false),
+    };
+    let of_kind = |&place: &usize| {
+        let text = calls[place].to_string();
+        text.starts_with(name) && text.contains("without") == failed
+    };
     (0..calls.len()).filter(of_kind).collect()
 }
 
@@ -168,13 +195,13 @@ fn print(calls: &[Call], proved: &Clock, second: &Clock) {
         let places = places(calls, kind);
         let (ours, theirs) = (proved.mean(&places), second.mean(&places));
         let ratio = ours / theirs;
-        println!("{kind:<12} {ours:>10.0} {theirs:>10.0} {ratio:>8.2} {share}");
+        println!("{kind:<14} {ours:>10.0} {theirs:>10.0} {ratio:>8.2} {share}");
     }
     let pass = plain_pass(&proved.memory);
     let passes = [proved, second].map(|clock| clock.mean(&places(calls, "sound")) / pass);
-    println!("{:<12} {pass:>10.0}", "plain pass");
+    println!("{:<14} {pass:>10.0}", "plain pass");
     println!(
-        "{:<12} {:>10.1} {:>10.1}",
+        "{:<14} {:>10.1} {:>10.1}",
         "sound/pass", passes[0], passes[1]
     );
 }
@@ -193,7 +220,7 @@ fn main() {
         let [base, digits, depth] = settings;
         println!("{nodes} nodes, b {base}, d {digits}, K {depth}");
         println!(
-            "{:>23} {:>10} {:>8} {:>8}",
+            "{:>25} {:>10} {:>8} {:>8}",
             "proved", "second", "ratio", "sound"
         );
         print(&calls, &proved, &second);
