@@ -7,7 +7,7 @@
 //! - `every_set`: every failed set of few nodes, between every two.
 //! - `any_set`: random sets in any state, with numbers that no node has.
 //! - `survived`: what fewer failed nodes than an entry holds leave of a network that passes the verdict, and what so many may take.
-//! - `kept`: lookups that later joins leave alone.
+//! - `kept`: lookups that later joins leave alone, and some that they do not.
 //! - `networks`: what these trials go through.
 
 mod any_set;
@@ -25,7 +25,7 @@ pub use by_hand::by_hand;
 pub use every_set::every_set;
 pub use fitting::fits;
 pub use in_order::in_order;
-pub use kept::kept;
+pub use kept::{changed, kept};
 pub use literal::{Literal, Way};
 pub use networks::{joined, small};
 pub use survived::survived;

@@ -1,6 +1,7 @@
 //! Where a network passes the verdict, a lookup between two of its nodes, with any nodes failed, arrived or lost, goes the same way ever after: later joins
-//! and withdrawals change neither its very hops nor its answer.
+//! and withdrawals change neither its very hops nor its answer. Where it does not, they may.
 
+use super::networks::shortened;
 use super::{joined, Literal, Way};
 use crate::compare::Pair;
 use crate::engine::Engine;
@@ -47,6 +48,24 @@ pub fn kept(a: &dyn Engine, b: &dyn Engine) -> Result<Met, String> {
         played.map_err(|what| format!("seed {seed}, {settings:?}: {what}"))?;
     }
     Ok(met)
+}
+
+/// In how many of so many networks that do not pass the verdict some lookup changes.
+pub fn changed(a: &dyn Engine, b: &dyn Engine) -> [usize; 2] {
+    let (mut changed, mut all) = (0, 0);
+    for (seed, (settings, nodes)) in seeds(3_500, 16).zip(NETWORKS.into_iter().cycle()) {
+        let mut rng = Rng::new(seed);
+        let whole = joined(&mut rng, settings, nodes);
+        let mut memory = shortened(&mut rng, &whole);
+        let mut pair = Pair::new(a, b);
+        pair.restore(&memory.state, &memory.tables);
+        if memory.call(a, &Call::Verdict) != 0x100 {
+            let played = play(&mut pair, [a, b], &mut rng, &mut Met::new());
+            changed += usize::from(played.is_err());
+            all += 1;
+        }
+    }
+    [changed, all]
 }
 
 /// Some of the lookups are tried after each step, and all at the end.

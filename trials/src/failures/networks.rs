@@ -24,11 +24,11 @@ const SMALL: [([u64; 3], usize); 8] = [
 /// Small networks by name: joined one node after another, with joins under way, with neighbors left out, and built from the clauses of soundness alone.
 pub fn small() -> Vec<(String, Lent)> {
     let mut all = vec![];
-    for (rng, (settings, nodes)) in (0..).map(Rng::new).zip(SMALL) {
-        let mut rng = rng;
-        let joined = joined(&mut rng, settings, nodes);
-        let short = [0; 2].map(|_| shortened(&mut rng, &joined));
-        let under_way = [0; 3].map(|_| under_way(&mut rng, settings, nodes));
+    for (seed, (settings, nodes)) in (0..).zip(SMALL) {
+        let rng = &mut Rng::new(seed);
+        let joined = joined(rng, settings, nodes);
+        let short = [0; 2].map(|_| shortened(rng, &joined));
+        let under_way = [0; 3].map(|_| under_way(rng, settings, nodes));
         all.push((format!("joined, {settings:?}"), joined));
         let short = short.map(|memory| (format!("shortened, {settings:?}"), memory));
         let under_way = under_way.map(|memory| (format!("under way, {settings:?}"), memory));
@@ -82,7 +82,7 @@ fn under_way(rng: &mut Rng, settings: [u64; 3], nodes: usize) -> Lent {
 }
 
 /// The same nodes with some neighbors left out, and the others of an entry in any order, but for an owner.
-fn shortened(rng: &mut Rng, whole: &Lent) -> Lent {
+pub fn shortened(rng: &mut Rng, whole: &Lent) -> Lent {
     let mut memory = whole.clone();
     let length = (memory.call(&Second, &Call::Write) >> 8) as usize;
     let (head, records) = parts(&memory.out[..length]).expect("an image with its counts");

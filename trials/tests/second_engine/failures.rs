@@ -1,7 +1,8 @@
 //! Lookups and surveys around failed nodes by the second engine, and its very hops beside the literal way.
 
 use trials::engine::Second;
-use trials::failures::{any_set, by_hand, every_set, in_order, kept, small, survived, Literal};
+use trials::failures::Literal;
+use trials::failures::{any_set, by_hand, changed, every_set, in_order, kept, small, survived};
 use trials::lent::Lent;
 use trials::met::met_enough;
 use trials::second::memory::COUNT;
@@ -71,6 +72,13 @@ fn later_joins_change_no_lookup_around_failed_nodes() {
     println!("{met:?}");
     let steps = ["begun", "withdrawn", "settled"];
     assert!(met_enough(&met, 20, &steps) && met_enough(&met, 500, &["arrived", "lost"]));
+}
+
+/// So the trial before this one would see it.
+#[test]
+fn later_joins_change_lookups_where_the_verdict_is_no() {
+    let [changed, all] = changed(&Second, &Second);
+    assert!(2 * changed > all && all > 8, "{changed} of {all}");
 }
 
 /// The very hops are the literal way, and the rule answers how many it passed over at each.
