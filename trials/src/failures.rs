@@ -8,10 +8,12 @@
 //! - `any_set`: random sets in any state, with numbers that no node has.
 //! - `survived`: what fewer failed nodes than an entry holds leave of a network that passes the verdict, and what so many may take.
 //! - `kept`: lookups that later joins leave alone, and some that they do not.
+//! - `cost`: what one failure costs in hops.
 //! - `networks`: what these trials go through.
 
 mod any_set;
 mod by_hand;
+mod cost;
 mod every_set;
 mod fitting;
 mod in_order;
@@ -22,6 +24,7 @@ mod survived;
 
 pub use any_set::any_set;
 pub use by_hand::by_hand;
+pub use cost::{cost, mean, Cost};
 pub use every_set::every_set;
 pub use fitting::fits;
 pub use in_order::in_order;

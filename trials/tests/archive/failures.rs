@@ -4,11 +4,14 @@ use std::fs;
 
 use trials::archive::Archive;
 use trials::engine::Second;
-use trials::failures::{any_set, by_hand, every_set, in_order, kept, survived, Literal};
+use trials::failures::{
+    any_set, by_hand, cost, every_set, in_order, kept, mean, survived, Literal,
+};
 use trials::fenced::{FencedArchive, Place};
+use trials::lent::Lent;
 use trials::script::{set_of, Call};
 use trials::second::memory::{COUNT, DEPTH};
-use trials::second::LOST;
+use trials::second::{Counts, LOST};
 
 use crate::support::Both;
 
@@ -78,4 +81,46 @@ fn every_single_failure_is_survived_on_the_sample_of_depth_3() {
         assert_eq!(counts.iter().sum::<u64>(), (nodes - 1) * (nodes - 2));
     }
     assert!(around > 100, "{around} lookups go another way");
+}
+
+/// A number with a comma before each three digits.
+fn grouped(number: u64) -> String {
+    match number {
+        0..=999 => number.to_string(),
+        _ => format!("{},{:03}", grouped(number / 1000), number % 1000),
+    }
+}
+
+/// A row of the page: pairs, those for 1 to 4 hops, lost, and the mean.
+fn row(name: &str, counts: &Counts) -> String {
+    let pairs: u64 = counts.iter().sum();
+    let [one, two, three, four, .., lost] = *counts;
+    let cells = [pairs, one, two, three, four, lost]
+        .map(grouped)
+        .join(" | ");
+    format!("| {name} | {cells} | {:.4} |", mean(counts))
+}
+
+#[test]
+fn one_failure_costs_what_the_page_says() {
+    let root = concat!(env!("CARGO_MANIFEST_DIR"), "/..");
+    let page = fs::read_to_string(format!("{root}/docs/FAILURES.md")).expect("the page");
+    for (sample, others) in [("network64", 62), ("depth3", 22)] {
+        let image = fs::read(format!("{root}/samples/{sample}.image")).expect(sample);
+        let mut memory = Lent::noise();
+        assert_eq!(memory.call(&Archive, &Call::Read { image }), 0);
+        let cost = cost(&Archive, &mut memory);
+        let worst = format!("node {} alone", cost.worst);
+        let rows = [
+            row("none", &cost.none.map(|count| count * others)),
+            row("each node alone", &cost.alone),
+            row("none", &cost.worst_before),
+            row(&worst, &cost.worst_failed),
+        ];
+        for row in rows {
+            assert!(page.contains(&row), "{sample}: {row}");
+        }
+        assert_eq!(cost.none[4..LOST].iter().sum::<u64>(), 0);
+        assert_eq!(cost.alone[4..LOST].iter().sum::<u64>(), 0);
+    }
 }
