@@ -5,7 +5,6 @@ use mathlib.Core.Logic.{_≢_}
 use mathlib.Core.Bool.{Bool, true, false, not}
 use mathlib.Core.List.{List, _∷_}
 use native.Mathlib.Omega.{arith}
-use lib.Dec.{eqb}
 use lib.ListN.{take}
 use Rattle.model.specs.Loops.{allBelow, firstBelow, countBelow, sumBelow, joinBelow, node}
 use Rattle.model.specs.Memory.{stateLength, base, digits, nodeCount, tableOf}

@@ -1,6 +1,6 @@
 -- A network that passes the verdict, with some of its nodes failed. An entry in which every node has failed is full, where a node that has not failed
 -- qualifies for it; so fewer failed nodes than K lose no lookup between others. Assumes nothing.
-use Prim.Native.Nat.{ℕ, zero, suc, _≤_, _<_, min}
+use Prim.Native.Nat.{ℕ, zero, suc, _≤_, _<_}
 use mathlib.Core.Path.{_≡_, refl, sym, ap, subst, _∙_}
 use mathlib.Core.Logic.{_≢_}
 use mathlib.Core.Bool.{true, false}

@@ -1,7 +1,7 @@
 -- Laws of sums below a number, and of counts as sums. Assumes nothing.
 use Prim.Native.Nat.{ℕ, zero, suc, _+_, _*_, _≤_, _<_}
 use mathlib.Core.Path.{_≡_, refl, sym, ap, ap₂, _∙_}
-use mathlib.Core.Bool.{Bool, true, false, not, cond}
+use mathlib.Core.Bool.{Bool, true, false, cond}
 use native.Mathlib.Nat.{mul-zero, zero-mul, suc-mul, le-step, lt-suc-self, le-antisymm}
 use native.Mathlib.Numerals.{add-one}
 use native.Mathlib.Decide.{le-ind}
@@ -33,7 +33,7 @@ sum-add zero f g = refl
 sum-add (suc n) f g = omega (arith, sum-add n f g)
 
 -- the same number each time
-pub sum-const : (n c : ℕ) (f : ℕ → ℕ) → ((k : ℕ) → k < n → f k ≡ c) → sumBelow n f ≡ n * c
+sum-const : (n c : ℕ) (f : ℕ → ℕ) → ((k : ℕ) → k < n → f k ≡ c) → sumBelow n f ≡ n * c
 unfolding sumBelow
 sum-const zero c f h = sym (zero-mul c)
 sum-const (suc n) c f h =
@@ -94,14 +94,3 @@ count-parts d n f g t h =
 pub count-only : (n : ℕ) (f : ℕ → Bool) (j : ℕ) → j < n → f j ≡ true → ((k : ℕ) → k < n → f k ≡ true → k ≡ j) → countBelow n f ≡ 1
 count-only n f j l e only =
     le-antisymm (count-one n f (λ p q lp lq ep eq. only p lp ep ∙ sym (only q lq eq))) (count-some n f j l e)
-
--- a test and its contrary
-pub count-rest : (n : ℕ) (f : ℕ → Bool) → countBelow n (λ k. not (f k)) + countBelow n f ≡ n
-unfolding countBelow
-count-rest zero f = refl
-count-rest (suc n) f = go (f n) (count-rest n f)
-  where
-    go : (b : Bool) → countBelow n (λ k. not (f k)) + countBelow n f ≡ n
-        → countBelow n (λ k. not (f k)) + cond (not b) 1 0 + (countBelow n f + cond b 1 0) ≡ suc n
-    go true e = omega arith
-    go false e = omega arith

@@ -1,18 +1,16 @@
 -- Lookups around failed nodes. Assumes nothing.
 use Prim.Native.Nat.{ℕ, _<_}
-use mathlib.Core.Path.{_≡_, refl, ap, subst, _∙_}
+use mathlib.Core.Path.{_≡_, refl, ap, _∙_}
 use mathlib.Core.Bool.{true, false}
-use mathlib.Core.List.{List, [], _∷_}
-use lib.ListN.{length, getD}
+use mathlib.Core.List.{List, []}
+use lib.ListN.{getD}
 use Rattle.model.specs.Memory.{Memory, depth, hasNode}
 use Rattle.model.specs.Lookup.{Lookup, endFailed}
-use Rattle.model.specs.Lookup as book
-use Rattle.model.specs.Survey.{surveyCounts}
 use Rattle.model.specs.Refusals.{lookupRefusal, stateRefusal}
-use Rattle.model.specs.Calls.{Outcome, refused, taken, unlessRefused, lookupFields, lookupCall, surveyCall}
+use Rattle.model.specs.Calls.{refused, taken, lookupFields, lookupCall, surveyCall}
 use Rattle.model.specs.Run.{isTaken}
 use Rattle.model.proofs.Bools.{or-none-left, or-none-right}
-use Rattle.model.proofs.Status.{IsNode, is-node, is-node-of}
+use Rattle.model.proofs.Status.{is-node, is-node-of}
 use Rattle.model.proofs.Sound.{Sound}
 use Rattle.model.proofs.NextHop.{Agreeing}
 use Rattle.model.proofs.Lookup.{path-left}
@@ -23,7 +21,7 @@ use Rattle.model.proofs.Alike.{LongAlike}
 use Rattle.model.proofs.AlikeLooking as looking
 use Rattle.model.proofs.AlikeRefusals as alike
 use Rattle.promise.specs.Promise.{Passes, NodeIn}
-use Rattle.promise.specs.Failures.{Around, failedNodes, SameOfNodes, Failures}
+use Rattle.promise.specs.Failures.{failedNodes, SameOfNodes, Failures}
 use Rattle.promise.proofs.Demand2.{verdict-sound}
 use Rattle.promise.proofs.Promise.{lookup-answer, passes-whole}
 

@@ -2,17 +2,16 @@
 use Prim.Native.Nat.{ℕ, zero, suc, _+_}
 use mathlib.Core.Path.{_≡_, refl, sym, ap, ap₂, _∙_}
 use mathlib.Core.Logic.{_≢_}
-use mathlib.Core.Bool.{Bool, false, not, _&&_, _||_, and-true}
-use mathlib.Core.List.{List, [], _∷_, _++_}
+use mathlib.Core.Bool.{Bool, false, not, _||_, and-true}
+use mathlib.Core.List.{List, [], _∷_}
 use native.Mathlib.Omega.{arith}
 use lib.Dec.{eqb}
 use borrow.Author.Tests.{eq-eqb, ne-eqb}
-use Rattle.model.specs.Loops.{countBelow, sumBelow}
-use Rattle.model.specs.Memory.{Memory, digits, nodeCount, hasNode}
-use Rattle.model.specs.Lookup.{Lookup, nextHop, veryHopsWithin, veryHops, answerOf, lookup, endFailed}
-use Rattle.model.specs.Survey.{arrivesIn, isLost, isPair, ofPair, countPairs, surveyCounts}
-use Rattle.model.specs.Refusals.{Sentence, firstTrue, areNodes, stateSentences, lookupRefusal, stateRefusal}
-use Rattle.model.specs.Calls.{Outcome, refused, taken, lookupFields, lookupCall, surveyCall}
+use Rattle.model.specs.Memory.{Memory, digits, nodeCount}
+use Rattle.model.specs.Lookup.{Lookup, nextHop, veryHopsWithin, answerOf, lookup, endFailed}
+use Rattle.model.specs.Survey.{arrivesIn, isLost, isPair, countPairs, surveyCounts}
+use Rattle.model.specs.Refusals.{firstTrue, lookupRefusal, stateRefusal}
+use Rattle.model.specs.Calls.{refused, taken, lookupFields, lookupCall, surveyCall}
 use Rattle.model.proofs.Loops.{count-same, sum-same}
 use Rattle.model.proofs.Sets.{has-none}
 use Rattle.model.proofs.Status.{IsNode}
@@ -21,7 +20,7 @@ use Rattle.model.proofs.NextHop.{hop-first}
 use Rattle.model.proofs.Lookup.{Step, arrives, loses, hops, step-of, arrives-path, loses-path, hops-path, hop-node}
 use Rattle.model.proofs.Taken.{state-taken, lookup-taken}
 use Rattle.model.proofs.Calls.{unless-same}
-use Rattle.promise.specs.NoneFailed.{firstHop, firstHopsWithin, firstHops, byFirst, byFirstRefusal, byFirstCall, pairsWhere, arrivedIn, wasLost, countsByFirst, surveyByFirstCall, NoneFailed}
+use Rattle.promise.specs.NoneFailed.{firstHop, firstHopsWithin, byFirst, byFirstRefusal, byFirstCall, pairsWhere, arrivedIn, wasLost, countsByFirst, surveyByFirstCall, NoneFailed}
 use Rattle.promise.proofs.Failures.{lookup-zero}
 
 -- ---- the very hops
