@@ -83,6 +83,15 @@ fn every_single_failure_is_survived_on_the_sample_of_depth_3() {
     assert!(around > 100, "{around} lookups go another way");
 }
 
+/// Here nodes 1, 2 and 3.
+#[test]
+fn as_many_failures_as_the_depth_lose_pairs_on_the_sample_of_depth_3() {
+    let path = concat!(env!("CARGO_MANIFEST_DIR"), "/../samples/depth3.image");
+    let mut both = Both::read_in(&fs::read(path).expect("the sample"));
+    let counts = both.survey(set_of(&[1, 2, 3]));
+    assert_eq!((counts[LOST], counts.iter().sum::<u64>()), (77, 420));
+}
+
 /// A number with a comma before each three digits.
 fn grouped(number: u64) -> String {
     match number {
