@@ -57,7 +57,7 @@ extern "C" {
 #define OVERLAY_IMAGE_COUNTS 6           /* no node count, or not 1 to 64; a length other than the counts say, or above 65,535 */
 #define OVERLAY_BAD_ID 7                 /* a digit not below the base, or a bit above the digits */
 #define OVERLAY_ID_TAKEN 8               /* the id is a node's already, or stands twice in the image */
-#define OVERLAY_NO_SUCH_NODE 9           /* no node has a number that the call or a record gives */
+#define OVERLAY_NO_SUCH_NODE 9           /* no node has a number that the call (not in failed) or a record gives */
 #define OVERLAY_RECORD_ORDER 10          /* a record's level or digit is out of range, or it is below the one before it */
 #define OVERLAY_FULL 11                  /* there are 64 nodes */
 #define OVERLAY_GATEWAY_NOT_IN_SYSTEM 12 /* the gateway isn't in system */

@@ -35,6 +35,7 @@ fn main() {
     );
     print("none", digits, &cost.none);
     print("each alone", digits, &cost.alone);
-    print(&format!("node {}", cost.worst), digits, &cost.worst_failed);
-    print("none, same", digits, &cost.worst_before);
+    let worst = cost.worst;
+    print(&format!("node {}", worst.node), digits, &worst.after);
+    print("none, same", digits, &worst.before);
 }

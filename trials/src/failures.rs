@@ -24,11 +24,11 @@ mod survived;
 
 pub use any_set::any_set;
 pub use by_hand::by_hand;
-pub use cost::{cost, mean, Cost};
+pub use cost::{cost, mean};
 pub use every_set::every_set;
 pub use fitting::fits;
 pub use in_order::in_order;
 pub use kept::{changed, kept};
 pub use literal::{Literal, Way};
 pub use networks::{joined, small};
-pub use survived::survived;
+pub use survived::{arrives, survived};

@@ -19,13 +19,19 @@ pub fn by_lookups(engine: &dyn Engine, memory: &mut Lent, failed: u64) -> Counts
     for from in nodes.clone() {
         for to in nodes.clone().filter(|&to| to != from) {
             let answer = memory.call(engine, &Call::Lookup { from, to, failed });
-            let [refusal, arrived, hops, ..] = answer.to_le_bytes();
-            assert_eq!(refusal, 0, "lookup {from} {to}");
-            let place = if arrived == 1 { hops.into() } else { LOST + 1 };
-            counts[place - 1] += 1;
+            assert_eq!(answer & 0xff, 0, "lookup {from} {to}");
+            counts[place(answer)] += 1;
         }
     }
     counts
+}
+
+/// Where a survey counts the pair of a lookup that is taken.
+pub fn place(answer: u64) -> usize {
+    match answer.to_le_bytes() {
+        [_, 1, hops, ..] => usize::from(hops) - 1,
+        _ => LOST,
+    }
 }
 
 /// Each ordered pair of different nodes that have not failed is counted once, and none has more hops than there are digits.

@@ -39,7 +39,8 @@ pub struct LookupAnswer {
     pub last: u64,
 }
 
-// A survey: how many ordered pairs of different nodes arrive in h hops, at place h − 1 for h from 1 to 8, and how many are lost, at place 8.
+// A survey: how many ordered pairs of different nodes that have not failed arrive in h hops, at place h − 1 for h from 1 to 8, and how many are
+// lost, at place 8.
 pub struct SurveyAnswer {
     pub refusal: u64,
     pub counts: [u64; 9],

@@ -28,7 +28,7 @@ impl Refusal {
     // a node has the id already, or two of the image have it
     pub const ID_TAKEN: u64 = 8;
 
-    // a number of the call, or of a record of the image, is no node's
+    // a number of the call, but for those of a set, or of a record of the image, is no node's
     pub const NO_SUCH_NODE: u64 = 9;
 
     // a record's level or digit is out of range, or it is below the one before it

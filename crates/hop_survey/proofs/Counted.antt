@@ -2,7 +2,7 @@
 use Prim.Native.Nat.{ℕ, _+_, _-_, _*_, _≤_, _<_}
 use mathlib.Core.Path.{_≡_, refl, sym, ap, subst, _∙_}
 use mathlib.Core.Logic.{_≢_, _⊎_, inl, inr}
-use mathlib.Core.Bool.{Bool, true, false, cond, not, _&&_, and-false}
+use mathlib.Core.Bool.{Bool, true, false, cond, not, _&&_}
 use mathlib.Core.List.{List}
 use native.Mathlib.Nat.{le-trans, mul-le-mul-right, add-zero}
 use native.Mathlib.Decide.{ℕ-discrete, decLt}
@@ -12,8 +12,8 @@ use lib.ListN.{length, getD, set, replicate, length-set, getD-replicate}
 use lib.Seq.{ext-getD, getD-set-same, getD-set-other}
 use borrow.Author.Tests.{eqb-true, eqb-false, eq-eqb, ne-eqb, not-true, not-false}
 use Rattle.model.specs.Loops.{sumBelow, eachBelow, node}
-use Rattle.model.specs.Memory.{digits, nodeCount, hasNode}
-use Rattle.model.specs.Lookup.{Lookup, lookup, NextHop, nextHop}
+use Rattle.model.specs.Memory.{digits, nodeCount}
+use Rattle.model.specs.Lookup.{Lookup, lookup, NextHop, nextHop, endFailed}
 use Rattle.model.specs.Nodes.{suffixOf}
 use Rattle.model.specs.Survey.{arrivesIn, isLost, isPair, ofPair, pairsFrom, countPairs, surveyCounts}
 use Rattle.model.proofs.Bools.{true-or-false, same-test, and-left}
@@ -57,14 +57,9 @@ module _ (failed u z : ℕ) where
   unfolding isPair
   pair-itself e = rw (eq-eqb u z e)
 
-  module _ (r : Bool) (from : r ≡ hasNode failed u) where
-    pub pair-from-failed : r ≡ true → false ≡ isPair failed u z
-    unfolding isPair
-    pair-from-failed e = rw (← from, e) (sym (and-false (not (eqb u z))))
-
-    pub pair-to : u ≢ z → r ≡ false → (q : Bool) → q ≡ hasNode failed z → not q ≡ isPair failed u z
-    unfolding isPair
-    pair-to ne e q to = rw (ne-eqb u z ne, ← from, e, ← to)
+  pub pair-left : u ≢ z → (r : Bool) → r ≡ endFailed failed u z → not r ≡ isPair failed u z
+  unfolding isPair
+  pair-left ne r e = rw (ne-eqb u z ne, e)
 
 -- the lookup from u to z is counted at place p
 abbrev lands : List ℕ → List ℕ → ℕ → ℕ → ℕ → ℕ → Bool

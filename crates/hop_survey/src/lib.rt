@@ -11,7 +11,7 @@ ghost use Rattle.model.proofs.Sound.{Sound};
 ghost use Rattle.state.specs.Loaded.{Numbered};
 ghost use Rattle.hop_survey.specs.Counted.{Room, placeOf, countPair, countFrom};
 use routing::next_hop;
-use state::sets::has;
+use state::sets::has_either;
 use state::settings;
 
 // Follows the lookup between two different nodes to its end, and answers where it is counted.
@@ -44,10 +44,7 @@ fn is_pair(u: usize, z: usize, failed: u64) -> bool
     if u == z {
         return false;
     }
-    if has(failed, u) {
-        return false;
-    }
-    !has(failed, z)
+    !has_either(failed, u, z)
 }
 
 // Two nodes, counted if they are such a pair.

@@ -16,7 +16,7 @@ use Rattle.model.specs.Image.{idBytes, entryRecords, levelRecords, nodeR
 use Rattle.model.proofs.Loops.{all-same, count-same, sum-same, first-same, join-same, first-fails}
 use Rattle.model.proofs.Status.{IsNode}
 use Rattle.model.proofs.Sound.{Sound}
-use Rattle.model.proofs.NextHop.{Agreeing, front-alike, entry-hop}
+use Rattle.model.proofs.NextHop.{Agreeing, front-same, entry-hop}
 use Rattle.model.proofs.Lookup.{Step, arrives, loses, hops, step-of, arrives-path, loses-path, hops-path, hop-node}
 use Rattle.model.proofs.Alike as same
 use Rattle.model.proofs.Alike.{LongAlike, base-same, digits-same, depth-same, id-same, alike-to, suffix-alike, table-same}
@@ -48,9 +48,9 @@ module _ (s t s′ t′ : List ℕ) (L : LongAlike s t s′ t′) (S : Sound s t
 
   module _ (failed failed′ : ℕ) (agree : Agreeing s failed failed′) where
     module _ (z : ℕ) (nz : IsNode s z) where
-      entry-alike : (u : ℕ) → IsNode s u → hopEntry s′ t′ u z ≡ hopEntry s t u z
+      hop-entry-same : (u : ℕ) → IsNode s u → hopEntry s′ t′ u z ≡ hopEntry s t u z
       unfolding hopEntry
-      entry-alike u nu =
+      hop-entry-same u nu =
           cc (
             depth-same s s′ a,
             suffix-alike (alike-to s s′ a) u z (few u (nu .high)) (few z (nz .high)),
@@ -61,9 +61,9 @@ module _ (s t s′ t′ : List ℕ) (L : LongAlike s t s′ t′) (S : Sound s t
       next-same : (u : ℕ) → IsNode s u → u ≢ z → nextHop s′ t′ failed′ u z .node ≡ nextHop s t failed u z .node
       unfolding nextHop
       next-same u nu ne =
-          ap (λ (E : List ℕ). frontmost failed′ E .node) (entry-alike u nu)
+          ap (λ (E : List ℕ). frontmost failed′ E .node) (hop-entry-same u nu)
           ∙ ap (λ (r : NextHop). r .node)
-          (front-alike failed failed′ (hopEntry s t u z) (λ k l. agree _ (entry-hop s t S u z nu nz ne k l .0)))
+          (front-same failed failed′ (hopEntry s t u z) (λ k l. agree _ (entry-hop s t S u z nu nz ne k l .0)))
 
       hops-same : (n u : ℕ) → IsNode s u → veryHopsWithin n s′ t′ failed′ u z ≡ veryHopsWithin n s t failed u z
       unfolding veryHopsWithin

@@ -89,10 +89,10 @@ abbrev pub Agreeing : List ℕ → ℕ → ℕ → Type 0
 Agreeing s failed failed′ = (x : ℕ) → IsNode s x → hasNode failed′ x ≡ hasNode failed x
 
 -- sets that say the same of some nodes have the same frontmost
-pub front-alike : (failed failed′ : ℕ) (E : List ℕ)
+pub front-same : (failed failed′ : ℕ) (E : List ℕ)
     → ((k : ℕ) → k < length E → hasNode failed′ (getD E k 0) ≡ hasNode failed (getD E k 0)) → frontmost failed′ E ≡ frontmost failed E
 unfolding frontmost
-front-alike failed failed′ E same =
+front-same failed failed′ E same =
     ap (λ (k : ℕ). record { node = getD E k 0; passedOver = k }) (first-same (length E) _ _ (λ k l. ap not (same k l)))
 
 -- ---- the entry that a lookup from u to z looks into, in a sound state

@@ -97,51 +97,51 @@ module _ (s t : List ℕ) (S : Sound s t) (failed u z : ℕ) (nu : IsNode s u) (
 -- ---- all pairs
 
 -- u has not failed
-abbrev pub stands : ℕ → ℕ → Bool
-stands failed u = not (hasNode failed u)
+abbrev isLeft : ℕ → ℕ → Bool
+isLeft failed u = not (hasNode failed u)
 
 -- how many nodes have not failed
-abbrev pub standing : List ℕ → ℕ → ℕ
-standing s failed = countNodes s (stands failed)
+abbrev notFailed : List ℕ → ℕ → ℕ
+notFailed s failed = countNodes s (isLeft failed)
 
 -- a node that has not failed makes pairs with the others that have not; another makes none
-from-one : (s : List ℕ) (failed u : ℕ) → IsNode s u → countNodes s (isPair failed u) ≡ cond (stands failed u) (standing s failed - 1) 0
+from-one : (s : List ℕ) (failed u : ℕ) → IsNode s u → countNodes s (isPair failed u) ≡ cond (isLeft failed u) (notFailed s failed - 1) 0
 unfolding isPair
 from-one s failed u nu = go (true-or-false (hasNode failed u))
   where
-    apart : hasNode failed u ≡ false → (z : ℕ) → isPair failed u z ≡ (stands failed z && not (eqb u z))
-    apart f z = rw (f) (and-comm (not (eqb u z)) (stands failed z))
+    apart : hasNode failed u ≡ false → (z : ℕ) → isPair failed u z ≡ (isLeft failed z && not (eqb u z))
+    apart f z = rw (f) (and-comm (not (eqb u z)) (isLeft failed z))
 
-    itself : hasNode failed u ≡ false → countBelow (nodeCount s) (λ k. stands failed (k + 1) && eqb u (k + 1)) ≡ 1
+    itself : hasNode failed u ≡ false → countBelow (nodeCount s) (λ k. isLeft failed (k + 1) && eqb u (k + 1)) ≡ 1
     itself f =
         let e : u - 1 + 1 ≡ u = omega (arith, nu .low) in
         count-only (nodeCount s) _ (u - 1) (omega (arith, nu .low, nu .high))
-        (subst (λ (v : ℕ). (stands failed v && eqb u v) ≡ true) (sym e) (and-intro _ _ (ap not f) (eq-eqb u u refl)))
-        (λ k l q. let w : u ≡ k + 1 = eqb-true u (k + 1) (and-right (stands failed (k + 1)) _ q) in omega arith)
+        (subst (λ (v : ℕ). (isLeft failed v && eqb u v) ≡ true) (sym e) (and-intro _ _ (ap not f) (eq-eqb u u refl)))
+        (λ k l q. let w : u ≡ k + 1 = eqb-true u (k + 1) (and-right (isLeft failed (k + 1)) _ q) in omega arith)
 
-    go : (hasNode failed u ≡ true) ⊎ (hasNode failed u ≡ false) → countNodes s (isPair failed u) ≡ cond (stands failed u) (standing s failed - 1) 0
+    go : (hasNode failed u ≡ true) ⊎ (hasNode failed u ≡ false) → countNodes s (isPair failed u) ≡ cond (isLeft failed u) (notFailed s failed - 1) 0
     go (inl f) = rw (f) (count-none (nodeCount s) _ (λ k l. rw (f) (and-false (not (eqb u (k + 1))))))
     go (inr f) =
         rw (f)
         (count-same (nodeCount s) _ _ (λ k l. apart f (k + 1))
-        ∙ omega (arith, itself f, count-split (nodeCount s) (node (stands failed)) (node (eqb u))))
+        ∙ omega (arith, itself f, count-split (nodeCount s) (node (isLeft failed)) (node (eqb u))))
 
 module _ (s t : List ℕ) (S : Sound s t) (failed : ℕ) where
   from-each : (u : ℕ) → IsNode s u
       → sumBelow (digits s) (λ k. pairsFrom s failed (arrivesIn s t failed (k + 1)) u) + pairsFrom s failed (isLost s t failed) u
-      ≡ cond (stands failed u) (standing s failed - 1) 0
+      ≡ cond (isLeft failed u) (notFailed s failed - 1) 0
   from-each u nu =
       count-parts (digits s) (nodeCount s) (λ k. node (ofPair failed (arrivesIn s t failed (k + 1)) u)) (node (ofPair failed (isLost s t failed) u)) (node (isPair failed u))
       (λ j l. pair-once s t S failed u (j + 1) nu (record { low = omega arith; high = omega arith }))
       ∙ from-one s failed u nu
 
   -- all counts together are a (a − 1) for the a nodes that have not failed
-  pub survey-total : sumBelow (digits s) (node (hopPairs s t failed)) + lostPairs s t failed ≡ standing s failed * (standing s failed - 1)
+  pub survey-total : sumBelow (digits s) (node (hopPairs s t failed)) + lostPairs s t failed ≡ notFailed s failed * (notFailed s failed - 1)
   unfolding countPairs
   survey-total =
       sum-parts (digits s) (nodeCount s) (λ k. node (pairsFrom s failed (arrivesIn s t failed (k + 1)))) (node (pairsFrom s failed (isLost s t failed)))
-      (λ k. cond (stands failed (k + 1)) (standing s failed - 1) 0) (λ j l. from-each (j + 1) (record { low = omega arith; high = omega arith }))
-      ∙ sum-where (nodeCount s) (standing s failed - 1) (node (stands failed))
+      (λ k. cond (isLeft failed (k + 1)) (notFailed s failed - 1) 0) (λ j l. from-each (j + 1) (record { low = omega arith; high = omega arith }))
+      ∙ sum-where (nodeCount s) (notFailed s failed - 1) (node (isLeft failed))
 
   -- no pair arrives in more than d hops
   pub none-beyond : (h : ℕ) → digits s < h → hopPairs s t failed h ≡ 0

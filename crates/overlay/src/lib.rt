@@ -66,7 +66,7 @@ pub extern "C" fn overlay_deliver(
     pack(answer.refusal, answer.kind, answer.level, answer.settled, 0)
 }
 
-// Lookup from one node to another. Answers whether it arrived, the hops and the last node.
+// Lookup from one node to another around the failed ones. Answers whether it arrived, the hops and the last node.
 #[no_mangle]
 pub extern "C" fn overlay_lookup(
     state: &[u64],
@@ -81,7 +81,8 @@ pub extern "C" fn overlay_lookup(
     pack(found.refusal, bit(found.arrived), found.hops, found.last, 0)
 }
 
-// The hop survey. Answers the refusal; where that is 0, counts are the pairs for 1 to 8 hops and the lost ones, else they stay.
+// The hop survey of the nodes that have not failed. Answers the refusal; where that is 0, counts are the pairs for 1 to 8 hops and the lost ones, else
+// they stay.
 #[no_mangle]
 pub extern "C" fn overlay_survey(
     state: &[u64],

@@ -1,5 +1,5 @@
 -- Where none has failed every answer is as without document 02, Ticket 6: that of document 01's lookup, which goes to the first node of an entry, and of
--- Ticket 1's survey by that lookup. Both stand here as they were.
+-- Ticket 1's survey by that lookup. The lookup stands here as it was, and what the survey counts in fewer definitions.
 use Prim.Native.Nat.{ℕ, zero, suc}
 use mathlib.Core.Path.{_≡_}
 use mathlib.Core.Bool.{Bool, true, cond, not, _&&_}

@@ -6,7 +6,7 @@ use mathlib.Core.Bool.{true, not}
 use mathlib.Core.List.{List, _∷_}
 use lib.ListN.{getD}
 use Rattle.model.specs.Loops.{sumBelow, node}
-use Rattle.model.specs.Memory.{Memory, digits, hasNode}
+use Rattle.model.specs.Memory.{Memory, digits, nodeCount, hasNode}
 use Rattle.model.specs.Nodes.{countNodes}
 use Rattle.model.specs.Survey.{hopPairs}
 use Rattle.model.specs.Calls.{surveyCall}
@@ -39,6 +39,8 @@ pub record AddsUp (m : Memory) (failed : ℕ) : Type 0 where
   pub all : sumBelow 8 (node (inHops m failed)) + lost m failed ≡ orderedPairs m failed
 
 pub record SurveyTotal : Type 0 where
+  -- where none has failed these are all nodes: n (n − 1)
+  pub everyone : (m : Memory) → notFailed m 0 ≡ nodeCount (m .state)
   pub adds-up : (m : Memory) (failed : ℕ) → isTaken (surveyCall m failed .answer) ≡ true → AddsUp m failed
   -- no survey in a run is refused
   pub in-runs : (m : Memory) (c : Call) (cs : List Call) (failed : ℕ) → isRun m c cs ≡ true → isTaken (surveyCall (play m (c ∷ cs)) failed .answer) ≡ true

@@ -1,24 +1,10 @@
 // The refusals of lookup.
 ghost use mathlib.Core.Path.{_≡_};
-ghost use Rattle.model.specs.Lookup.{endFailed};
 ghost use Rattle.model.specs.Refusals.{lookupRefusal};
 ghost use Rattle.state.specs.Lent.{memory};
-ghost use Rattle.state.specs.Loaded.{Numbered};
 use crate::sentences;
 use answers::refusal::Refusal;
 use state::sets;
-
-// The start or the destination has failed.
-fn end_failed(failed: u64, from: usize, to: usize) -> bool
-    requires { ⌜ Numbered from ⌝ }
-    requires { ⌜ Numbered to ⌝ }
-    ensures { λ r. ⌜ r ≡ endFailed failed from to ⌝ }
-{
-    if sets::has(failed, from) {
-        return true;
-    }
-    sets::has(failed, to)
-}
 
 pub fn refusal(state: &[u64], tables: &[u8], from: u64, to: u64, failed: u64) -> u64
     ensures { λ r. ⌜ r ≡ lookupRefusal (memory (now (state .entry)) (now (tables .entry))) from to failed ⌝ }
@@ -33,7 +19,7 @@ pub fn refusal(state: &[u64], tables: &[u8], from: u64, to: u64, failed: u64) ->
     if !sentences::is_node(state, to) {
         return Refusal::NO_SUCH_NODE;
     }
-    if end_failed(failed, from as usize, to as usize) {
+    if sets::has_either(failed, from as usize, to as usize) {
         return Refusal::HAS_FAILED;
     }
     0

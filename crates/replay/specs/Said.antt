@@ -25,7 +25,7 @@ orRefused number shown = cond (eqb number 0) shown (refusedText number 0)
 abbrev pub panelSaid : Memory → List ℕ
 panelSaid m = orRefused (stateRefusal m) (panelText (m .state))
 
--- `table`: the node's record and table, or the refusal that a lookup from the node to itself would have
+-- `table`: the node's record and table, or the refusal that a lookup from the node to itself, with none failed, would have
 abbrev pub tableSaid : Memory → ℕ → List ℕ
 tableSaid m x = orRefused (lookupRefusal m x x 0) (tableText (m .state) (m .tables) x)
 

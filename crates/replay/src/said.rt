@@ -17,6 +17,7 @@ use replay_calls::answer::Words;
 use replay_calls::one;
 use replay_words::answer;
 use script::command::Command;
+use state::sets;
 use state::settings;
 
 // A played call: how many bytes its words have, and its answer.
@@ -78,7 +79,7 @@ fn table(state: &[u64], tables: &[u8], x: u64, words: &mut [u8]) -> usize
     ensures { λ r. ⌜ Put (now (words .entry)) 0 (tableSaid (memory (now (state .entry)) (now (tables .entry))) x) (now (words .exit)) r ⌝ }
     ensures { λ r. ⌜ r ≤ 16384 ⌝ }
 {
-    let r = refusals::lookup::refusal(state, tables, x, x, 0);
+    let r = refusals::lookup::refusal(state, tables, x, x, sets::EMPTY);
     if r != 0 {
         return replay_refusals::put(words, r, 0);
     }

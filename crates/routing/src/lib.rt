@@ -6,7 +6,7 @@ ghost use mathlib.Core.Logic.{_≢_};
 ghost use Rattle.model.specs.Lookup as book;
 ghost use Rattle.model.proofs.Status.{IsNode};
 ghost use Rattle.model.proofs.Sound.{Sound};
-ghost use Rattle.tables.specs.Front.{bookFront};
+ghost use Rattle.tables.specs.NextHop.{bookNextHop};
 ghost use Rattle.routing.specs.Answer.{bookLookup};
 use crate::answer::Lookup;
 use ident::common_suffix;
@@ -14,17 +14,17 @@ use ident::digit;
 use state::record;
 use state::settings;
 use tables::entry;
-use tables::entry::Front;
+use tables::entry::NextHop;
 use tables::part;
 
 // Where a lookup at u goes next: to the frontmost node that has not failed of u's entry for z at the level of their common suffix; 0 if none is
 // left. And how many failed ones it passes over.
-pub fn next_hop(state: &[u64], tables: &[u8], u: usize, z: usize, failed: u64) -> Front
+pub fn next_hop(state: &[u64], tables: &[u8], u: usize, z: usize, failed: u64) -> NextHop
     requires { ⌜ Sound (now state) (now tables) ⌝ }
     requires { ⌜ IsNode (now state) u ⌝ }
     requires { ⌜ IsNode (now state) z ⌝ }
     requires { ⌜ u ≢ z ⌝ }
-    ensures { λ r. ⌜ bookFront r ≡ book.nextHop (now (state .entry)) (now (tables .entry)) failed u z ⌝ }
+    ensures { λ r. ⌜ bookNextHop r ≡ book.nextHop (now (state .entry)) (now (tables .entry)) failed u z ⌝ }
 {
     let from = record::id(state, u) as u32;
     let to = record::id(state, z) as u32;

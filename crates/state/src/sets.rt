@@ -1,5 +1,6 @@
 // Sets of nodes, 64 bits each: bit x − 1 for node x.
 ghost use mathlib.Core.Path.{_≡_};
+ghost use mathlib.Core.Bool.{_||_};
 ghost use Prim.Native.Nat.{_≤_, _^_};
 ghost use lib.Dec.{eqb, ltb};
 ghost use Rattle.model.specs.Memory.{hasNode, addNode, removeNode, setSize};
@@ -13,6 +14,18 @@ pub fn has(nodes: u64, x: usize) -> bool
     ensures { λ r. ⌜ r ≡ hasNode nodes x ⌝ }
 {
     (nodes >> (x - 1)) & 1 == 1
+}
+
+// One of the two is in the set.
+pub fn has_either(nodes: u64, x: usize, y: usize) -> bool
+    requires { ⌜ Numbered x ⌝ }
+    requires { ⌜ Numbered y ⌝ }
+    ensures { λ r. ⌜ r ≡ (hasNode nodes x || hasNode nodes y) ⌝ }
+{
+    if has(nodes, x) {
+        return true;
+    }
+    has(nodes, y)
 }
 
 pub fn add(nodes: u64, x: usize) -> u64

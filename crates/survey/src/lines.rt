@@ -13,6 +13,7 @@ ghost use Rattle.survey.specs.Lines.{hopLine, hopAt, countLines, surveyT
 use answers::SurveyAnswer;
 use engine::reading;
 use image_program::line_one;
+use state::sets;
 use state::settings;
 
 // `hops`, their number, and how many pairs.
@@ -73,7 +74,7 @@ fn of_network(state: &[u64], tables: &[u8], out: &mut [u8]) -> usize
     ensures { λ r. ⌜ r ≤ 431 ⌝ }
 {
     let digits = settings::load(state).digits;
-    surveyed(out, digits, engine::survey::survey(state, tables, 0))
+    surveyed(out, digits, engine::survey::survey(state, tables, sets::EMPTY))
 }
 
 // Reads the image into the lent memory, surveys it, and puts the lines at the start of out; answers how many bytes they are.

@@ -1,3 +1,3 @@
 -- What the contracts over one node's table ask and cite.
 pub mod Places
-pub mod Front
+pub mod NextHop

@@ -6,7 +6,7 @@ ghost use Rattle.model.specs.Loops.{allBelow};
 ghost use Rattle.model.specs.Lookup as book;
 ghost use Rattle.model.specs.Tables as tables;
 ghost use Rattle.tables.specs.Places.{Entry, Numbers};
-ghost use Rattle.tables.specs.Front.{bookFront};
+ghost use Rattle.tables.specs.NextHop.{bookNextHop};
 use state::sets::has;
 use state::sets::is_empty;
 
@@ -51,20 +51,20 @@ pub fn first(table: &[u8], i: usize, j: usize) -> usize
 }
 
 // The frontmost node of the entry that has not failed, 0 where none is left, and how many failed ones stand in front of it.
-pub struct Front {
+pub struct NextHop {
     pub node: usize,
     pub passed_over: usize,
 }
 
 // With none failed it is the first: a case of its own, which a caller's loop asks once for all its turns.
-pub fn frontmost(table: &[u8], depth: usize, i: usize, j: usize, failed: u64) -> Front
+pub fn frontmost(table: &[u8], depth: usize, i: usize, j: usize, failed: u64) -> NextHop
     requires { ⌜ Entry (now table) depth i j ⌝ }
     requires { ⌜ Numbers (now table) depth i j ⌝ }
     requires { ⌜ 1 ≤ depth ⌝ }
-    ensures { λ r. ⌜ bookFront r ≡ book.frontmost failed (tables.entry depth (now (table .entry)) i j) ⌝ }
+    ensures { λ r. ⌜ bookNextHop r ≡ book.frontmost failed (tables.entry depth (now (table .entry)) i j) ⌝ }
 {
     if is_empty(failed) {
-        return Front {
+        return NextHop {
             node: first(table, i, j),
             passed_over: 0,
         };
@@ -74,20 +74,20 @@ pub fn frontmost(table: &[u8], depth: usize, i: usize, j: usize, failed: u64) ->
     while k < depth {
         let node = table[entry + k] as usize;
         if node == 0 {
-            return Front {
+            return NextHop {
                 node: 0,
                 passed_over: k,
             };
         }
         if !has(failed, node) {
-            return Front {
+            return NextHop {
                 node,
                 passed_over: k,
             };
         }
         k += 1;
     }
-    Front {
+    NextHop {
         node: 0,
         passed_over: depth,
     }

@@ -37,4 +37,4 @@ masked = record { digits-0 = refl; digits-1 = refl; digits-2 = refl; digits-3 = 
 
 pub failed : Failed
 unfolding computing
-failed = record { none = refl; around = refl; itself = refl; nobody = refl }
+failed = record { whole = refl; none = refl; around = refl; itself = refl; nobody = refl }

@@ -53,7 +53,7 @@ unfoldable pub three : ℕ → List ℕ → List ℕ
 three count records =
     4 ∷ 1 ∷ 2 ∷ 2 ∷ 1 ∷ 3 ∷ 0 ∷ 0 ∷ 0 ∷ 0 ∷ 1 ∷ 0 ∷ 0 ∷ 0 ∷ 16 ∷ 0 ∷ 0 ∷ 0 ∷ count ∷ 0 ∷ records
 
--- three nodes, 00, 01 and 11, with K 2: each table holds all that it must. The entry of node 1 for digit 1 holds node 2 and behind it node 3.
+-- three nodes, 00, 01 and 11, with K 2. The entry of node 1 for digit 1 holds node 2 and behind it node 3.
 unfoldable pub deep : List ℕ
 unfolding rec
 deep =
@@ -135,6 +135,8 @@ pub record Masked : Type 0 where
 
 -- Lookups on `deep`; a set has bit u − 1 for node u.
 pub record Failed : Type 0 where
+  -- the network passes the verdict
+  pub whole : verdictOn (reading deep) ≡ 0 ∷ 1 ∷ 0 ∷ 0 ∷ 0 ∷ []
   -- from node 1 to node 3, none failed: by node 2
   pub none : lookupOn (reading deep) 1 3 0 ≡ 0 ∷ 1 ∷ 2 ∷ 3 ∷ []
   -- node 2 failed, and number 64, which no node has: at once. Excluded: a lookup that takes a failed front; one that is lost where the first has failed;

@@ -70,13 +70,13 @@ fn ends(rng: &mut Rng, count: usize) -> [u64; 2] {
     })
 }
 
-/// Some of the nodes that stand in front on the way, but not its destination.
+/// Some of the nodes that stand in front in the start's entry, but not the destination.
 fn front(rng: &mut Rng, memory: &Lent, from: u64, to: u64) -> u64 {
     let count = memory.state[COUNT];
-    let none = [from, to].iter().any(|&end| end == 0 || end > count) || from == to;
-    let entry = match none {
-        true => vec![],
-        false => Literal::new(memory, 0).entry(from, to),
+    let nodes = [from, to].iter().all(|end| (1..=count).contains(end));
+    let entry = match nodes {
+        true => Literal::new(memory, 0).entry(from, to),
+        false => vec![],
     };
     let front = &entry[..rng.below(entry.len() + 1)];
     set_of(front) & !set_of(&[to])

@@ -5,6 +5,7 @@ use crate::lent::Lent;
 use crate::script::{set_of, Call};
 use crate::second::memory::COUNT;
 use crate::second::{Counts, LOST};
+use crate::surveys::place;
 
 /// What surveys and lookups of one network count.
 pub struct Cost {
@@ -12,43 +13,65 @@ pub struct Cost {
     pub none: Counts,
     /// Each node alone has, all together: every pair counts once for each other node.
     pub alone: Counts,
-    /// The node whose failure costs most, in lost pairs or else in the mean of the hops.
-    pub worst: u64,
-    /// Its failure, and the pairs of the others while nobody has failed.
-    pub worst_failed: Counts,
-    pub worst_before: Counts,
+    /// The failure that costs most, in lost pairs or else in the mean of the hops.
+    pub worst: Failure,
+}
+
+/// One node fails: the pairs of the others, before and after.
+#[derive(Clone, Copy, Default)]
+pub struct Failure {
+    pub node: u64,
+    pub before: Counts,
+    pub after: Counts,
 }
 
 pub fn cost(engine: &dyn Engine, memory: &mut Lent) -> Cost {
     let none = surveyed(engine, memory, 0);
-    let mut cost = Cost {
-        none,
-        alone: Counts::default(),
-        worst: 0,
-        worst_failed: none,
-        worst_before: none,
-    };
-    let mut most = (0, f64::NEG_INFINITY);
-    for node in 1..=memory.state[COUNT] {
-        let failed = surveyed(engine, memory, set_of(&[node]));
-        let before = of_others(engine, memory, node, &none);
-        let sums = cost.alone.iter_mut().zip(failed);
+    let failures: Vec<Failure> = (1..=memory.state[COUNT])
+        .map(|node| Failure {
+            node,
+            before: of_others(engine, memory, node, &none),
+            after: surveyed(engine, memory, set_of(&[node])),
+        })
+        .collect();
+    let mut alone = Counts::default();
+    for failure in &failures {
+        let sums = alone.iter_mut().zip(failure.after);
         sums.for_each(|(sum, count)| *sum += count);
-        let more = (failed[LOST] - before[LOST], mean(&failed) - mean(&before));
-        if more > most {
-            most = more;
-            (cost.worst, cost.worst_failed, cost.worst_before) = (node, failed, before);
-        }
     }
-    cost
+    let worst = failures.into_iter().reduce(Failure::worse);
+    let worst = worst.expect("a network has a node");
+    Cost { none, alone, worst }
 }
 
-/// The mean number of hops of the pairs that arrive.
+impl Failure {
+    /// More lost pairs, or else a higher mean; of two that cost the same the first.
+    fn worse(self, other: Failure) -> Failure {
+        let (ours, theirs) = (self.lost(), other.lost());
+        let more = theirs > ours || theirs == ours && other.longer() > self.longer();
+        if more {
+            other
+        } else {
+            self
+        }
+    }
+
+    /// How many pairs it loses; a failure may also let some arrive that were lost.
+    fn lost(&self) -> i64 {
+        self.after[LOST] as i64 - self.before[LOST] as i64
+    }
+
+    fn longer(&self) -> f64 {
+        mean(&self.after) - mean(&self.before)
+    }
+}
+
+/// The mean number of hops of the pairs that arrive; 0 where none does.
 pub fn mean(counts: &Counts) -> f64 {
     let arrived: u64 = counts[..LOST].iter().sum();
     let hops = (1..).zip(&counts[..LOST]);
     let hops: u64 = hops.map(|(hops, count)| hops * count).sum();
-    hops as f64 / arrived as f64
+    hops as f64 / arrived.max(1) as f64
 }
 
 fn surveyed(engine: &dyn Engine, memory: &mut Lent, failed: u64) -> Counts {
@@ -63,9 +86,7 @@ fn of_others(engine: &dyn Engine, memory: &mut Lent, node: u64, none: &Counts) -
         for (from, to) in [(node, other), (other, node)] {
             let failed = 0;
             let answer = memory.call(engine, &Call::Lookup { from, to, failed });
-            let [_, arrived, hops, ..] = answer.to_le_bytes();
-            let place = if arrived == 1 { hops.into() } else { LOST + 1 };
-            counts[place - 1] -= 1;
+            counts[place(answer)] -= 1;
         }
     }
     counts

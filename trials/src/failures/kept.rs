@@ -132,10 +132,7 @@ fn lookups(rng: &mut Rng, memory: &Lent) -> Vec<Kept> {
     }
     for _ in 0..1_000 {
         let [from, to] = [0; 2].map(|_| rng.between(1, count as u64));
-        let entry = match from == to {
-            true => vec![],
-            false => Literal::new(memory, 0).entry(from, to),
-        };
+        let entry = Literal::new(memory, 0).entry(from, to);
         let set = failed_set(rng, count) | rng.pick(&[0, set_of(&entry)]);
         all.push(Kept::new(memory, [from, to], set & !set_of(&[from, to])));
     }

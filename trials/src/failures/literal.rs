@@ -39,8 +39,11 @@ impl<'a> Literal<'a> {
         self.failed >> (node - 1) & 1 == 1
     }
 
-    /// The entry that the rule names on the way from a node to another one.
+    /// The entry that the rule names on the way from a node to another; none from a node to itself.
     pub fn entry(&self, at: u64, to: u64) -> Vec<u64> {
+        if at == to {
+            return vec![];
+        }
         let level = matched(self.state, at as usize, to as usize);
         let digit = self.state[8 * to as usize] >> (4 * level) & 15;
         let place = 512 * (at - 1) + 64 * level + 4 * digit;

@@ -73,12 +73,17 @@ fn survives(
     Ok(())
 }
 
+/// The lookup is taken and ends at its destination.
+pub fn arrives(answer: u64, to: u64) -> bool {
+    answer & 0xff00_ffff == to << 24 | 0x100
+}
+
 fn each_arrives(engine: &dyn Engine, memory: &mut Lent, failed: u64) -> Result<(), String> {
     let nodes = left(memory.used_state(), failed);
     for from in nodes.clone() {
         for to in nodes.clone() {
             let answer = memory.call(engine, &Call::Lookup { from, to, failed });
-            if answer & 0xff00_ffff != to << 24 | 0x100 {
+            if !arrives(answer, to) {
                 return Err(format!("{from} to {to} without {failed:#x}: {answer:#x}"));
             }
         }
@@ -103,9 +108,10 @@ fn may_be_lost(engine: &dyn Engine, memory: &mut Lent, met: &mut Met) -> Result<
         }
         let mut looked_up = |failed| memory.call(engine, &Call::Lookup { from, to, failed });
         let all = set_of(&entry);
-        let arrives = |answer: u64| answer & 0xff00_ffff == to << 24 | 0x100;
         let one_left = entry.iter().map(|&node| all & !set_of(&[node]));
-        let survived = one_left.map(&mut looked_up).all(arrives);
+        let survived = one_left
+            .map(&mut looked_up)
+            .all(|answer| arrives(answer, to));
         let answer = looked_up(all);
         if answer != from << 24 || !survived {
             return Err(format!(

@@ -9,7 +9,7 @@ use borrow.Fn.PlainCycle as cycle
 use Rattle.model.specs.Memory.{digits}
 use Rattle.model.specs.Nodes.{suffixOf}
 use Rattle.model.proofs.Lookup.{arrives-is}
-use Rattle.tables.specs.Front.{bookFront}
+use Rattle.tables.specs.NextHop.{bookNextHop}
 use Rattle.routing.proofs.Hops.{Hop, loses-here, next-node, falls, few-hops, one-hop-more}
 use Rattle.routing.proofs.lookup.Reads as lookup
 use Rattle.routing.proofs.lookup.Kinds as lookup-kinds
@@ -43,7 +43,7 @@ lookup-returns-2 t c = search loses-here
 
 -- past both tests
 hop : (t : ℕ) (c : lookup-lts.Else2 (next-hop.Asked, next-hop.Learnt, lookup-below t, lookup.Post) (lookup-at t) lookup.Post)
-    → let p = c .before .before .before .before .before .args in Hop (p .state .now) (p .tables .now) (p .failed) (p .u) (p .z) (bookFront (c .before .next-hop .result))
+    → let p = c .before .before .before .before .before .args in Hop (p .state .now) (p .tables .now) (p .failed) (p .u) (p .z) (bookNextHop (c .before .next-hop .result))
 hop t c =
     let p = c .before .before .before .before .before .pre .1 in
     record {

@@ -27,8 +27,8 @@ returns-3 : tie.Need-returns-3
 unfolding lookupRefusal
 returns-3 c = search (state-later, sentences, comparisons)
 
-end-failed-requires : tie.Need-end-failed-requires
-end-failed-requires c κs =
+has-either-requires : tie.Need-has-either-requires
+has-either-requires c κs =
     let b = c .before .before in
     let r = b .before .before in
     let node = in-sets _ _ (r .before .state-refusal .ensures) (r .if1 .left) in
@@ -52,6 +52,6 @@ refusal-spec =
     returns-2
     is-node-requires-2
     returns-3
-    end-failed-requires
+    has-either-requires
     returns-4
     returns-5)

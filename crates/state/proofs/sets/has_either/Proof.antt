@@ -1,9 +1,9 @@
--- `end_failed`: one of the two, or the other. Assumes nothing.
+-- `has_either`: the one, or the other. Assumes nothing.
 use borrow.Author.Needs.{needs}
 use mathlib.Core.Path.{sym, _∙_}
 use Rattle.model.proofs.Early.{true-or-leaves, false-or-goes}
-use Rattle.refusals.proofs.lookup.end_failed.Statement.{statement}
-use Rattle.refusals.proofs.lookup.end_failed.Tie as tie
+use Rattle.state.proofs.sets.has_either.Statement.{statement}
+use Rattle.state.proofs.sets.has_either.Tie as tie
 
 has-requires : tie.Need-has-requires
 has-requires c κs = search needs
@@ -17,5 +17,5 @@ has-requires-2 c κs = search needs
 returns-2 : tie.Need-returns-2
 returns-2 c = false-or-goes _ _ _ (sym (c .before .before .has .ensures) ∙ c .before .if1 .left) (c .has2 .ensures)
 
-pub end-failed-spec : {M : Type 1} → statement M
-end-failed-spec = tie.close (tie.spec has-requires returns has-requires-2 returns-2)
+pub has-either-spec : {M : Type 1} → statement M
+has-either-spec = tie.close (tie.spec has-requires returns has-requires-2 returns-2)
