@@ -74,7 +74,11 @@ fn of_network(state: &[u64], tables: &[u8], out: &mut [u8]) -> usize
     ensures { λ r. ⌜ r ≤ 431 ⌝ }
 {
     let digits = settings::load(state).digits;
-    surveyed(out, digits, engine::survey::survey(state, tables, sets::EMPTY))
+    surveyed(
+        out,
+        digits,
+        engine::survey::survey(state, tables, sets::EMPTY),
+    )
 }
 
 // Reads the image into the lent memory, surveys it, and puts the lines at the start of out; answers how many bytes they are.
