@@ -24,6 +24,8 @@ mod refusals;
 mod runs;
 #[path = "second_engine/scripts.rs"]
 mod scripts;
+#[path = "second_engine/seen.rs"]
+mod seen;
 #[path = "second_engine/soundness.rs"]
 mod soundness;
 #[path = "second_engine/spoiled.rs"]

@@ -6,12 +6,10 @@ use trials::second::memory::COUNT;
 use trials::second::{Counts, LOST};
 use trials::surveys::left;
 
+use crate::seen::{is_seen, Sees};
 use crate::spoiled::{AfterLookup, AfterSurvey, SpoilLookup, SpoilSurvey, Spoiled, UNSPOILED};
 
-/// Does a trial see what is wrong with two engines?
-type Sees = fn(&dyn Engine, &dyn Engine) -> bool;
-
-const TRIALS: [(&str, Sees); 6] = [
+const TRIALS: [Sees; 6] = [
     ("by hand", |a, b| by_hand(a, b).is_err()),
     ("in order", |a, b| in_order(a, b).is_err()),
     ("every set", |a, b| every_set(a, b).is_err()),
@@ -385,17 +383,6 @@ const WRONG_SURVEYS: [(&str, SpoilSurvey, &str); 12] = [
     ),
 ];
 
-fn is_seen(what: &str, wrong: Spoiled, by: &str) {
-    let all = TRIALS.iter();
-    let trials: Vec<_> = all.filter(|(name, _)| by.contains(name)).collect();
-    assert_eq!(trials.len(), by.split(", ").count(), "{what}");
-    for (name, sees) in trials {
-        assert!(sees(&wrong, &Second), "{what}, {name}");
-        assert!(sees(&Second, &wrong), "{what}, {name}");
-        assert!(sees(&wrong, &wrong), "{what}, {name}, both");
-    }
-}
-
 #[test]
 fn a_lookup_that_goes_wrong_around_failed_nodes_is_seen() {
     for (what, lookup, by) in WRONG_LOOKUPS {
@@ -403,7 +390,7 @@ fn a_lookup_that_goes_wrong_around_failed_nodes_is_seen() {
             lookup,
             ..UNSPOILED
         };
-        is_seen(what, wrong, by);
+        is_seen(what, wrong, &TRIALS, by);
     }
 }
 
@@ -414,6 +401,6 @@ fn a_survey_that_goes_wrong_around_failed_nodes_is_seen() {
             survey,
             ..UNSPOILED
         };
-        is_seen(what, wrong, by);
+        is_seen(what, wrong, &TRIALS, by);
     }
 }

@@ -1,15 +1,12 @@
 //! Wrong turns of a withdrawal: each is seen by trials that could meet it, also where two engines take it together.
 
-use trials::engine::{Engine, Second};
 use trials::second::memory::COUNT;
 use trials::withdrawals::{again, apart, by_hand, down, each_number, in_order, last, undone};
 
+use crate::seen::{is_seen, Sees};
 use crate::spoiled::{AfterWithdrawal, SpoilWithdrawal, Spoiled, UNSPOILED};
 
-/// Does a trial see what is wrong with two engines?
-type Sees = fn(&dyn Engine, &dyn Engine) -> bool;
-
-const TRIALS: [(&str, Sees); 8] = [
+const TRIALS: [Sees; 8] = [
     ("by hand", |a, b| by_hand(a, b).is_err()),
     ("in order", |a, b| in_order(a, b).is_err()),
     ("last", |a, b| last(a, b).is_err()),
@@ -281,13 +278,6 @@ fn a_withdrawal_that_goes_wrong_is_seen() {
             withdraw,
             ..UNSPOILED
         };
-        let all = TRIALS.iter();
-        let trials: Vec<_> = all.filter(|(name, _)| by.contains(name)).collect();
-        assert_eq!(trials.len(), by.split(", ").count(), "{what}");
-        for (name, sees) in trials {
-            assert!(sees(&wrong, &Second), "{what}, {name}");
-            assert!(sees(&Second, &wrong), "{what}, {name}");
-            assert!(sees(&wrong, &wrong), "{what}, {name}, both");
-        }
+        is_seen(what, wrong, &TRIALS, by);
     }
 }
