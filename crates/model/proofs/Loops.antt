@@ -6,7 +6,7 @@ use mathlib.Core.Path.{_≡_, refl, sym, ap, ap₂, subst, fun-ext, _∙_}
 use mathlib.Core.Logic.{_⊎_, inl, inr}
 use mathlib.Core.Bool.{Bool, true, false, not, cond, _&&_, _||_, and-false, or-true}
 use mathlib.Core.List.{List, [], _++_}
-use native.Mathlib.Nat.{le-of-suc-le-suc, le-refl, le-suc, le-antisymm, eq-or-lt-of-le, lt-suc-self, le-step, lt-irrefl, lt-of-not-le, lt-of-lt-of-le}
+use native.Mathlib.Nat.{le-of-suc-le-suc, le-refl, le-suc, le-antisymm, eq-or-lt-of-le, lt-suc-self, le-of-lt, le-step, lt-irrefl, lt-of-not-le, lt-of-lt-of-le}
 use native.Mathlib.Decide.{le-ind}
 use native.Mathlib.Numerals.{add-one, add-one-le, lt-of-le-of-ne}
 use native.Mathlib.Omega.{arith}
@@ -252,6 +252,18 @@ module _ {ℓ} {A : Type ℓ} where
   pub each-keeps {κ} : (P : A → Type κ) (n : ℕ) (step : ℕ → A → A) (a : A) → P a
       → ((k : ℕ) (x : A) → k < n → P x → P (step k x)) → P (eachBelow n step a)
   each-keeps P = each-leads (λ k. P)
+
+  -- what step i brings about and every step keeps holds at the end; Q is what every step keeps
+  pub each-does {κ μ} : (Q : A → Type κ) (P : A → Type μ) (n : ℕ) (step : ℕ → A → A) (a : A) → Q a
+      → ((k : ℕ) (x : A) → k < n → Q x → Q (step k x)) → (i : ℕ) → i < n → ((x : A) → Q x → P (step i x))
+      → ((k : ℕ) (x : A) → k < n → Q x → P x → P (step k x)) → P (eachBelow n step a)
+  unfolding eachBelow
+  each-does Q P n step a q keeps i l does stays =
+      le-ind (λ (m : ℕ). m ≤ n → P (eachBelow m step a)) (λ h. does _ (before i h)) (λ m g ih h. stays m _ h (before m h) (ih (le-of-lt h)))
+      n l (le-refl n)
+    where
+      before : (m : ℕ) → m < n → Q (eachBelow m step a)
+      before m h = each-keeps Q m step a q (λ k x g. keeps k x (omega arith))
 
 -- ---- joinBelow
 
