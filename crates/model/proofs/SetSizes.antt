@@ -1,4 +1,5 @@
--- How many nodes a set has: one more with a node that it did not have, never above 64, and what the code counts by `count_ones`. Assumes nothing.
+-- How many nodes a set has: one more with a node that it did not have, never above 64, at most n of nodes up to n, and what the code counts by
+-- `count_ones`. Assumes nothing.
 use Prim.Native.Nat.{ℕ, zero, suc, _+_, _-_, _/_, _%_, _^_, _≤_, _<_}
 use mathlib.Core.Path.{_≡_, refl, sym, ap, ap₂, _∙_}
 use mathlib.Core.Logic.{_≢_}
@@ -13,7 +14,8 @@ use lib.Pow.{pow-pos, mod-pow-add}
 use Rattle.model.specs.Loops.{countBelow, node}
 use Rattle.model.specs.Memory.{hasNode, addNode, setSize}
 use Rattle.model.proofs.Loops.{count-le, count-none, count-same}
-use Rattle.model.proofs.Sets.{has-none, has-added, has-add-other}
+use Rattle.model.proofs.Counting.{count-most}
+use Rattle.model.proofs.Sets.{has-none, has-added, has-add-other, has-within}
 
 -- the count of a test that comes to hold at one index more
 one-more : (n : ℕ) (f g : ℕ → Bool) (k : ℕ) → k < n → f k ≡ false → g k ≡ true → ((i : ℕ) → i ≢ k → g i ≡ f i)
@@ -50,6 +52,12 @@ module _ (nodes u : ℕ) (low : 1 ≤ u) (high : u ≤ 64) (new : hasNode nodes 
   pub size-room : setSize nodes ≤ 63
   unfolding setSize
   size-room = omega (arith, size-add, count-le 64 (node (hasNode (addNode nodes u))))
+
+-- a set of nodes up to n has at most n
+pub size-within : (nodes n : ℕ) → nodes < 2 ^ n → setSize nodes ≤ n
+unfolding setSize
+size-within nodes n l =
+    count-most 64 n (node (hasNode nodes)) (λ k. k) (λ k g h. omega (arith, has-within nodes n (k + 1) l h)) (λ j k a b c d e. e)
 
 -- ---- what the code counts
 

@@ -11,8 +11,11 @@ use lib.Bits.{bitAnd, bitOr, bitXor, and-mask, and-high, or-add-and, xor-add-and
 use lib.Dec.{ltb, eqb}
 use lib.Pow.{pow-pos, pow-lt, pow-mono, pow-add, shl-shr, high-ones, shl-exact}
 use borrow.Author.Tests.{eqb-true, eqb-false, ltb-true, lt-ltb, eq-eqb}
+use Rattle.model.specs.Loops.{anyBelow, node}
 use Rattle.model.specs.Memory.{hasNode, addNode, removeNode}
-use Rattle.model.proofs.Bools.{same-test, true-or-false, not-both}
+use Rattle.model.proofs.Bools.{back-true, same-test, true-or-false, not-both}
+use Rattle.model.proofs.Loops.{any-found}
+use Rattle.model.proofs.Nodes.{no-node-at}
 
 -- the bit of a set at place k, and in the word
 bit-and : (nodes k : ℕ) → bitAnd nodes (2 ^ k) ≡ nodes / 2 ^ k % 2 * 2 ^ k
@@ -198,6 +201,15 @@ has-below nodes (suc n) m l f = go (λ h. has-below nodes n m h (λ u low high. 
         let has = eq-eqb (nodes / 2 ^ (suc n - 1) % 2) 1 (ap (λ (k : ℕ). nodes / 2 ^ k % 2) last ∙ ap (λ (q : ℕ). q % 2) one) in
         let top : suc n ≤ m = f (suc n) (omega arith) (omega arith) has in
         omega (arith, l, pow-mono top)
+
+-- a set that is not empty has a node
+pub has-some : (nodes n : ℕ) → 0 < nodes → nodes < 2 ^ n → (u : ℕ) × (1 ≤ u) × (u ≤ n) × (hasNode nodes u ≡ true)
+has-some nodes n some l =
+    let w = any-found n (node (hasNode nodes)) (back-true _ true (λ e. absurd (omega (arith, some, empty e))) refl) in
+    (w .0 + 1, omega arith, omega (arith, w .1), w .2)
+  where
+    empty : anyBelow n (node (hasNode nodes)) ≡ false → nodes < 2 ^ 0
+    empty e = has-below nodes n 0 l (λ u low high h. absurd (not-both _ h (no-node-at n (hasNode nodes) e u low high)))
 
 pub add-within : (nodes n u : ℕ) → nodes < 2 ^ n → 1 ≤ u → u ≤ n → addNode nodes u < 2 ^ n
 add-within nodes n u l a h = subst (λ (q : ℕ). q < 2 ^ n) (add-or nodes u) (or-lt n nodes (2 ^ (u - 1)) l (pow-lt (omega arith)))
