@@ -19,7 +19,7 @@ use Rattle.model.proofs.Bools.{and-left, and-right, and-intro, or-none-
 use Rattle.model.proofs.Refusals.{numbered, testOf, passed, skipped, free, sentence-none}
 use Rattle.model.proofs.Counts.{counts-ok}
 use Rattle.model.proofs.Loops.{all-at}
-use Rattle.model.proofs.Nodes.{nodes-at, no-node-at, no-node-of}
+use Rattle.model.proofs.Nodes.{nodes-at, nodes-of, no-node-at, no-node-of}
 use Rattle.model.proofs.Ids.{InRange, settings-range}
 use Rattle.model.proofs.Status.{IsNode, is-node, is-node-of}
 use Rattle.model.proofs.Sound.{Long, Sound, sound-ok, sound-of}
@@ -203,3 +203,19 @@ withdraw-free m S away =
     state-free m _ S
     (free _ 9 _ (ap not (is-node-of (m .state) n (record { low = S .some; high = omega arith })))
     (free _ 19 _ (ap not (eq-eqb n n refl)) (free _ 20 [] away (sym sentence-none))))
+
+pub deliver-free : (m : Memory) (x y : ℕ) → Sound (m .state) (m .tables) → CanDeliver (m .state) x y → deliverRefusal m x y ≡ 0
+unfolding deliverRefusal
+deliver-free m x y S c =
+    let s = m .state in
+    state-free m _ S
+    (free (not (areNodes s x y)) 9 _ (ap not (and-intro _ _ (is-node-of s x (c .sender)) (is-node-of s y (c .receiver))))
+    (free _ 13 _ (ap not (c .requested)) (free _ 14 [] (c .free) (sym sentence-none))))
+
+pub verdict-free : (m : Memory) → Sound (m .state) (m .tables) → ((x : ℕ) → IsNode (m .state) x → isInSystem (m .state) x ≡ true) → verdictRefusal m ≡ 0
+unfolding verdictRefusal
+verdict-free m S settled =
+    let s = m .state in
+    state-free m _ S
+    (free (someNotInSystem s) 15 [] (ap not (nodes-of (nodeCount s) (isInSystem s) (λ x low high. settled x (record { low = low; high = high }))))
+    (sym sentence-none))
