@@ -44,6 +44,7 @@ pub mod ReplacingKeepsSound
 pub mod NotifyingKeepsSound
 pub mod DeliveryKeepsSound
 pub mod TablesOnlyGrow
+pub mod Progress
 -- ---- withdrawing
 pub mod Withdrawing
 pub mod Undoing
