@@ -1,18 +1,19 @@
--- Laws of gathering: what is new in the set stands in the table and is to be notified. Assumes nothing.
+-- Laws of gathering: what is new in the set stands in the table and is to be notified, and all that stands there and is to be notified is in it.
+-- Assumes nothing.
 use Prim.Native.Nat.{ℕ, _^_, _≤_, _<_}
 use mathlib.Core.Path.{_≡_, sym, ap, _∙_}
 use mathlib.Core.Logic.{_≢_, _⊎_, inl, inr, ⊎-elim}
-use mathlib.Core.Bool.{Bool, true, false, cond}
+use mathlib.Core.Bool.{Bool, true, false, not, cond}
 use mathlib.Core.List.{List}
 use native.Mathlib.Omega.{arith}
 use lib.ListN.{getD}
-use borrow.Author.Tests.{eqb-false, leb-true, not-true}
+use borrow.Author.Tests.{eqb-false, ne-eqb, leb-true, le-leb, not-true}
 use Rattle.model.specs.Memory.{hasNode, addNode}
 use Rattle.model.specs.Nodes.{suffixOf}
 use Rattle.model.specs.Join.{toNotify, gatherPlace, gather}
-use Rattle.model.proofs.Bools.{true-or-false, parts}
-use Rattle.model.proofs.Loops.{each-keeps}
-use Rattle.model.proofs.Sets.{has-add, add-within}
+use Rattle.model.proofs.Bools.{true-or-false, and-intro, parts}
+use Rattle.model.proofs.Loops.{each-keeps, each-does}
+use Rattle.model.proofs.Sets.{has-added, has-add, add-keeps, add-within}
 
 -- x is to notify u
 pub record ToNotify (s : List ℕ) (x k notified u : ℕ) : Type 0 where
@@ -28,6 +29,11 @@ to-notify s x k notified u e = record {
   suffix = leb-true k (suffixOf s x u) (search parts);
   new = not-true _ (search parts);
 }
+
+to-notify-of : (s : List ℕ) (x k notified u : ℕ) → ToNotify s x k notified u → toNotify s x k notified u ≡ true
+to-notify-of s x k notified u n =
+    and-intro _ _ (ap not (ne-eqb u 0 (n .some)))
+    (and-intro _ _ (ap not (ne-eqb u x (n .other))) (and-intro _ _ (le-leb k (suffixOf s x u) (n .suffix)) (ap not (n .new))))
 
 -- v stands in the table and is to be notified
 pub record Gathered (s : List ℕ) (x k notified : ℕ) (T : List ℕ) (v : ℕ) : Type 0 where
@@ -71,3 +77,25 @@ module _ (s : List ℕ) (x k notified : ℕ) (T : List ℕ) where
       each-keeps (λ (a : ℕ). a < 2 ^ n) 512 (gatherPlace s x k notified T) nodes l
       (λ p a q b.
       ⊎-elim (λ e. rw e b) (λ c. rw (c .1) (add-within a n (getD T p 0) b (omega (arith, c .0 .some)) (h p q))) (place-cases p a))
+
+  -- a place keeps what was in the set, and takes its node
+  place-keeps : (p nodes v : ℕ) → 1 ≤ v → hasNode nodes v ≡ true → hasNode (gatherPlace s x k notified T p nodes) v ≡ true
+  place-keeps p nodes v l h =
+      ⊎-elim (λ e. rw e h) (λ c. rw (c .1) (add-keeps nodes (getD T p 0) v (omega (arith, c .0 .some)) l h)) (place-cases p nodes)
+
+  place-takes : (p nodes : ℕ) → ToNotify s x k notified (getD T p 0) → hasNode (gatherPlace s x k notified T p nodes) (getD T p 0) ≡ true
+  place-takes p nodes n = rw (to-notify-of s x k notified (getD T p 0) n) (has-added nodes (getD T p 0))
+
+  -- each node of the table that x is to notify is in the set then
+  pub gather-takes : (nodes p : ℕ) → p < 512 → ToNotify s x k notified (getD T p 0)
+      → hasNode (gather s x k notified T nodes) (getD T p 0) ≡ true
+  unfolding gather
+  gather-takes nodes p l n =
+      each-does (λ (a : ℕ). Unit {0}) (λ (a : ℕ). hasNode a (getD T p 0) ≡ true) 512 (gatherPlace s x k notified T) nodes tt (λ i a g q. tt) p l
+      (λ a q. place-takes p a n) (λ i a g q. place-keeps i a (getD T p 0) (omega (arith, n .some)))
+
+  -- and what was in it stays
+  pub gather-keeps : (nodes v : ℕ) → 1 ≤ v → hasNode nodes v ≡ true → hasNode (gather s x k notified T nodes) v ≡ true
+  unfolding gather
+  gather-keeps nodes v l h =
+      each-keeps (λ (a : ℕ). hasNode a v ≡ true) 512 (gatherPlace s x k notified T) nodes h (λ p a g. place-keeps p a v l)

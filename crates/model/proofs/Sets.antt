@@ -138,6 +138,14 @@ has-add nodes u v a b h = go (ℕ-discrete v u)
     go (yes e) = inl e
     go (no e) = inr (sym (has-add-other nodes u v a b e) ∙ h)
 
+-- what was in the set stays in it with u
+pub add-keeps : (nodes u v : ℕ) → 1 ≤ u → 1 ≤ v → hasNode nodes v ≡ true → hasNode (addNode nodes u) v ≡ true
+add-keeps nodes u v a b h = go (ℕ-discrete v u)
+  where
+    go : Dec (v ≡ u) → hasNode (addNode nodes u) v ≡ true
+    go (yes e) = ap (hasNode (addNode nodes u)) e ∙ has-added nodes u
+    go (no e) = has-add-other nodes u v a b e ∙ h
+
 cleared : (nodes u : ℕ) → hasNode nodes u ≡ true → hasNode (bitXor nodes (2 ^ (u - 1))) u ≡ false
 unfolding hasNode
 cleared nodes u e =
