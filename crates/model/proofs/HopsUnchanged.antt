@@ -5,6 +5,7 @@ use mathlib.Core.Path.{_≡_, sym, ap, _∙_}
 use mathlib.Core.Logic.{_≢_}
 use mathlib.Core.Bool.{true, false}
 use mathlib.Core.List.{List, _∷_}
+use native.Mathlib.Nat.{le-refl}
 use native.Mathlib.Decide.{ℕ-discrete}
 use lib.ListN.{length}
 use Rattle.model.specs.Ids.{digitOf}
@@ -21,6 +22,8 @@ use Rattle.model.proofs.TablesOnlyGrow.{Attached, Onward}
 use Rattle.model.proofs.SoundEntries.{entry-fits}
 use Rattle.model.proofs.NextHop.{front-behind, level-below, digit-below}
 use Rattle.model.proofs.Lookup.{walk, path-hop, arrives-path, loses-path}
+use Rattle.model.proofs.Consistency.{consistent-whole}
+use Rattle.model.proofs.NoRoom.{NoRoom, whole-no-room}
 use Rattle.model.proofs.Failures.{lost-full}
 
 module _ (s t s′ t′ : List ℕ) (S : Sound s t) (S′ : Sound s′ t′) (on : Onward s t s′ t′) where
@@ -53,6 +56,9 @@ module _ (s t s′ t′ : List ℕ) (S : Sound s t) (S′ : Sound s′ t′) (on
         grows : Grows (tableOf t u) (tableOf t′ u)
         grows = on .grows u (attached u nu)
 
+        room : NoRoom s (tableOf t u) z (suffixOf s u z)
+        room = whole-no-room s t S (consistent-whole s t whole) u z i nu nz (le-refl i) (level-below s t S u z nu nz ne)
+
         -- a next hop stays; where none was left the entry was full, and stays
         same : nextHop s′ t′ failed u z ≡ nextHop s t failed u z
         unfolding nextHop hopEntry
@@ -62,7 +68,7 @@ module _ (s t s′ t′ : List ℕ) (S : Sound s t) (S′ : Sound s′ t′) (on
                 → frontmost failed (entry (depth s) (tableOf t′ u) i j) ≡ frontmost failed (entry (depth s) (tableOf t u) i j)
             go (yes none) =
                 ap (frontmost failed)
-                (grown-full (depth s) (tableOf t u) (tableOf t′ u) i j grows fits (lost-full s t S whole failed z nz left u nu ne none))
+                (grown-full (depth s) (tableOf t u) (tableOf t′ u) i j grows fits (lost-full s t S failed z nz left u nu ne none room))
             go (no some) =
                 front-behind failed (entry (depth s) (tableOf t u) i j) (entry (depth s) (tableOf t′ u) i j)
                 (grown-longer (depth s) (tableOf t u) (tableOf t′ u) i j grows fits)

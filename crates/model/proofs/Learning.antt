@@ -6,7 +6,7 @@ use mathlib.Core.Bool.{Bool, true, false, cond, _&&_, _||_}
 use mathlib.Core.List.{List}
 use lib.Dec.{leb, eqb}
 use lib.ListN.{getD}
-use borrow.Author.Tests.{leb-true, ltb-true, eqb-false, not-true}
+use borrow.Author.Tests.{leb-true, ltb-true, eqb-false, ne-eqb, not-true}
 use Rattle.model.specs.Ids.{digitOf}
 use Rattle.model.specs.Memory.{depth, idOf}
 use Rattle.model.specs.Tables.{entrySize, holds, append}
@@ -72,10 +72,17 @@ learn-place-cases s x Y p T = go (true-or-false (eqb u 0)) (true-or-false (eqb u
     go (inr a) (inl b) = inl (went false true a b)
     go (inr a) (inr b) = inr (eqb-false u 0 a, eqb-false u x b, went false false a b)
 
+-- a node there that is not x itself is learned
+pub learn-place-is : (s : List ℕ) (x : ℕ) (Y : List ℕ) (p : ℕ) (T : List ℕ) → getD Y p 0 ≢ 0 → getD Y p 0 ≢ x
+    → learnPlace s x Y p T ≡ learn s x (getD Y p 0) T
+unfolding learnPlace
+learn-place-is s x Y p T some other = rw (ne-eqb (getD Y p 0) 0 some, ne-eqb (getD Y p 0) x other)
+
+pub learn-place-grows : (s : List ℕ) (x : ℕ) (Y : List ℕ) (p : ℕ) (T : List ℕ) → Grows T (learnPlace s x Y p T)
+learn-place-grows s x Y p T =
+    ⊎-elim (λ e. rw e (grows-refl T)) (λ c. rw (c .2) (learn-grows s x (getD Y p 0) T)) (learn-place-cases s x Y p T)
+
 pub learn-table-grows : (s : List ℕ) (x : ℕ) (Y T : List ℕ) → Grows T (learnTable s x Y T)
 unfolding learnTable
 learn-table-grows s x Y T =
-    each-keeps (Grows T) 512 (learnPlace s x Y) T (grows-refl T)
-    (λ p T′ l g.
-    grows-trans g
-    (⊎-elim (λ e. rw e (grows-refl T′)) (λ c. rw (c .2) (learn-grows s x (getD Y p 0) T′)) (learn-place-cases s x Y p T′)))
+    each-keeps (Grows T) 512 (learnPlace s x Y) T (grows-refl T) (λ p T′ l g. grows-trans g (learn-place-grows s x Y p T′))

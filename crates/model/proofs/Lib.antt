@@ -54,6 +54,7 @@ pub mod NextHop
 pub mod Lookup
 pub mod Survey
 pub mod Consistency
+pub mod NoRoom
 pub mod Failures
 pub mod HopsUnchanged
 -- ---- images: read, written, and back

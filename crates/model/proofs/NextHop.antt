@@ -1,6 +1,6 @@
 -- Laws of the next-hop rule: which node of an entry it names, and in a sound state what that node is. Assumes nothing.
 use Prim.Native.Nat.{ℕ, _+_, _≤_, _<_}
-use mathlib.Core.Path.{_≡_, refl, sym, ap, _∙_}
+use mathlib.Core.Path.{_≡_, refl, sym, ap, subst, _∙_}
 use mathlib.Core.Logic.{_≢_}
 use mathlib.Core.Bool.{Bool, true, false, not}
 use mathlib.Core.List.{List}
@@ -11,19 +11,20 @@ use lib.ListN.{length, getD, List·getD-eq-default}
 use borrow.Author.Tests.{not-true, not-false}
 use Rattle.model.specs.Loops.{firstBelow}
 use Rattle.model.specs.Ids.{digitOf}
-use Rattle.model.specs.Memory.{base, digits, depth, idOf, hasNode, tableOf}
-use Rattle.model.specs.Tables.{firstOf}
+use Rattle.model.specs.Memory.{base, digits, depth, idOf, isAttached, hasNode, tableOf}
+use Rattle.model.specs.Tables.{slotPlace, firstOf}
 use Rattle.model.specs.Nodes.{suffixOf, qualifies}
 use Rattle.model.specs.Lookup.{hopEntry, NextHop, frontmost, nextHop}
 use Rattle.model.specs.Consistency.{neighbors}
 use Rattle.model.proofs.Ids.{next-hop, valid-digit, qualified-of}
 use Rattle.model.proofs.Loops.{first-le, first-before, first-holds, first-unique, first-same}
 use Rattle.model.proofs.Sets.{has-none}
-use Rattle.model.proofs.Tables.{entry-first}
+use Rattle.model.proofs.Memory.{table-length}
+use Rattle.model.proofs.Tables.{size-le, entry-first}
 use Rattle.model.proofs.Status.{IsNode}
-use Rattle.model.proofs.Sound.{Sound}
-use Rattle.model.proofs.SoundNodes.{suffix-below}
-use Rattle.model.proofs.SoundEntries.{entry-fits, entry-node, entry-qualifies}
+use Rattle.model.proofs.Sound.{Sound, table-fits}
+use Rattle.model.proofs.SoundNodes.{stands-node, own, suffix-below}
+use Rattle.model.proofs.SoundEntries.{entry-fits, size-is-length, entry-slot, entry-node, entry-qualifies}
 
 -- ---- the frontmost of some nodes
 
@@ -129,13 +130,34 @@ module _ (s t : List ℕ) (S : Sound s t) (u z : ℕ) (nu : IsNode s u) (nz : Is
   to-qualifies = qualified-of (digits s) (idOf s u) (idOf s z) level digit (le-refl level) refl
 
   module _ (failed : ℕ) where
-    -- a next hop stands in the entry, and has not failed
+    -- a next hop stands in the entry
     pub hop-stands : nextHop s t failed u z .node ≢ 0
         → (nextHop s t failed u z .passedOver < length (hopEntry s t u z))
         × (nextHop s t failed u z .node ≡ getD (hopEntry s t u z) (nextHop s t failed u z .passedOver) 0)
     unfolding nextHop
     hop-stands some = (front-stands failed (hopEntry s t u z) some, front-at failed (hopEntry s t u z))
 
+    -- at a place of u's table
+    pub hop-place : nextHop s t failed u z .node ≢ 0 → (p : ℕ) × (p < 512) × (getD (tableOf t u) p 0 ≡ nextHop s t failed u z .node)
+    unfolding hopEntry
+    hop-place some =
+        let at = hop-stands some in
+        let k : ℕ = nextHop s t failed u z .passedOver in
+        let n = size-is-length s t S u level digit nu level-below digit-below in
+        let fits = entry-fits s t S u level digit nu level-below digit-below in (
+          slotPlace level digit k,
+          omega (arith, at .0, n, size-le (depth s) (tableOf t u) level digit, fits, table-length t u (table-fits s t S u nu)),
+          sym (entry-slot s t S u level digit nu level-below digit-below k (at .0)) ∙ sym (at .1),
+        )
+
+    -- so from an attached node it is attached
+    pub hop-attached : nextHop s t failed u z .node ≢ 0 → isAttached s u ≡ true → isAttached s (nextHop s t failed u z .node) ≡ true
+    hop-attached some a =
+        let p = hop-place some in
+        subst (λ (v : ℕ). isAttached s v ≡ true) (p .2)
+        (stands-node s (S .settings) u a (tableOf t u) (own s t S u nu) (p .0) (p .1) (λ e. some (sym (p .2) ∙ e)) .1)
+
+    -- and has not failed
     pub hop-left : nextHop s t failed u z .node ≢ 0 → hasNode failed (nextHop s t failed u z .node) ≡ false
     unfolding nextHop
     hop-left = front-left failed (hopEntry s t u z)

@@ -204,7 +204,7 @@ append-grows K T i j u h = record {
 
 -- an entry of it begins with what stood there
 module _ (K : ℕ) (T T′ : List ℕ) (i j : ℕ) (g : Grows T T′) (fits : slotPlace i j K ≤ length T) where
-  grown-size : entrySize K T i j ≤ entrySize K T′ i j
+  pub grown-size : entrySize K T i j ≤ entrySize K T′ i j
   grown-size =
       le-of-not-lt
       (λ l.

@@ -3,17 +3,21 @@ use Prim.Native.Nat.{ℕ, _<_}
 use mathlib.Core.Path.{_≡_, refl, ap, _∙_}
 use mathlib.Core.Bool.{true, false}
 use mathlib.Core.List.{List, []}
+use native.Mathlib.Nat.{le-refl}
 use lib.ListN.{getD}
 use Rattle.model.specs.Memory.{Memory, depth, hasNode}
+use Rattle.model.specs.Nodes.{suffixOf}
 use Rattle.model.specs.Lookup.{Lookup, endFailed}
 use Rattle.model.specs.Refusals.{lookupRefusal, stateRefusal}
 use Rattle.model.specs.Calls.{refused, taken, lookupFields, lookupCall, surveyCall}
 use Rattle.model.specs.Run.{isTaken}
 use Rattle.model.proofs.Bools.{or-none-left, or-none-right}
-use Rattle.model.proofs.Status.{is-node, is-node-of}
+use Rattle.model.proofs.Status.{is-node, is-node-of, attached-in-system}
 use Rattle.model.proofs.Sound.{Sound}
-use Rattle.model.proofs.NextHop.{Agreeing}
+use Rattle.model.proofs.NextHop.{Agreeing, level-below}
 use Rattle.model.proofs.Lookup.{path-left}
+use Rattle.model.proofs.Consistency.{consistent-whole}
+use Rattle.model.proofs.NoRoom.{whole-no-room}
 use Rattle.model.proofs.Failures.{few-failed}
 use Rattle.model.proofs.Taken.{state-taken, lookup-taken}
 use Rattle.model.proofs.Calls.{taken-zero, unless-same}
@@ -22,7 +26,7 @@ use Rattle.model.proofs.AlikeLooking as looking
 use Rattle.model.proofs.AlikeRefusals as alike
 use Rattle.promise.specs.Promise.{Passes, NodeIn}
 use Rattle.promise.specs.Failures.{failedNodes, SameOfNodes, Failures}
-use Rattle.promise.proofs.Demand2.{verdict-sound}
+use Rattle.promise.proofs.Demand2.{verdict-sound, settled}
 use Rattle.promise.proofs.Promise.{lookup-answer, passes-whole}
 
 pub lookup-zero : (m : Memory) (u z failed : ℕ) → isTaken (lookupCall m u z failed .answer) ≡ true → lookupRefusal m u z failed ≡ 0
@@ -65,7 +69,11 @@ arrives m failed p few u z a b left =
     let nu = is-node (m .state) u a in
     let nz = is-node (m .state) z b in
     ap (λ (l : List ℕ). getD l 1 0) (lookup-answer m S u z failed nu nz left)
-    ∙ few-failed (m .state) (m .tables) S (passes-whole m p) failed z nz (or-none-right (hasNode failed u) (hasNode failed z) left) few u nu .0
+    ∙ few-failed (m .state) (m .tables) S failed z nz (or-none-right (hasNode failed u) (hasNode failed z) left) few
+    (λ u a ne.
+    whole-no-room (m .state) (m .tables) S (consistent-whole (m .state) (m .tables) (passes-whole m p)) u z (suffixOf (m .state) u z) (a .node) nz
+    (le-refl (suffixOf (m .state) u z)) (level-below (m .state) (m .tables) S u z (a .node) nz ne))
+    u (record { node = nu; status = attached-in-system (m .state) u (settled m (p .taken) u nu) })
 
 pub failures : Failures
 failures = record {
