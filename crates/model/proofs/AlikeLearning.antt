@@ -1,19 +1,17 @@
 -- In states alike up to a number, learning and gathering of nodes up to there give the same. Assumes nothing.
-use Prim.Native.Nat.{ℕ, suc, _≤_, _<_}
+use Prim.Native.Nat.{ℕ, suc, _≤_}
 use mathlib.Core.Path.{_≡_, ap, fun-ext}
 use mathlib.Core.Logic.{⊎-elim}
 use mathlib.Core.Bool.{cond, _||_}
 use mathlib.Core.List.{List}
-use native.Mathlib.Decide.{ℕ-discrete, decLt}
-use native.Mathlib.Omega.{arith}
 use lib.Dec.{eqb}
-use lib.ListN.{length, getD, set}
-use lib.Seq.{getD-set-same, getD-set-other, set-out}
+use lib.ListN.{getD, set}
 use Rattle.model.specs.Tables.{append}
 use Rattle.model.specs.Nodes.{suffixOf}
 use Rattle.model.specs.Learning.{learnAt, learn, learnPlace, learnTable}
 use Rattle.model.specs.Join.{gatherPlace, gather}
 use Rattle.model.proofs.Loops.{each-same, each-keeps}
+use Rattle.model.proofs.Splice.{set-keeps}
 use Rattle.model.proofs.Learning.{learn-at-cases, learn-place-cases}
 use Rattle.model.proofs.Alike.{AlikeTo, suffix-alike}
 
@@ -22,12 +20,7 @@ abbrev pub Few : ℕ → List ℕ → Type 0
 Few n T = (p : ℕ) → getD T p 0 ≤ n
 
 set-few : (n : ℕ) (T : List ℕ) (q u : ℕ) → Few n T → u ≤ n → Few n (set T q u)
-set-few n T q u f h p = go (ℕ-discrete p q) (decLt q (length T))
-  where
-    go : Dec (p ≡ q) → Dec (q < length T) → getD (set T q u) p 0 ≤ n
-    go (no e) l = omega (arith, getD-set-other T q p u 0 e, f p)
-    go (yes e) (no l) = rw (set-out T q u (omega arith)) (f p)
-    go (yes e) (yes l) = rw e (omega (arith, getD-set-same T q u 0 l))
+set-few n T q u f h p = set-keeps (λ (v : ℕ). v ≤ n) T q u p (f p) (λ e. h)
 
 pub learn-few : (n : ℕ) (s : List ℕ) (x u : ℕ) (T : List ℕ) → Few n T → u ≤ n → Few n (learn s x u T)
 unfolding learn append

@@ -73,6 +73,12 @@ module _ (s t : List ℕ) (id gateway : ℕ) (S : Sound s t) (c : CanBegin s id 
   node-on : (y : ℕ) → IsNode s y → IsNode (begun s t id gateway .state) y
   node-on = node-among s (begun s t id gateway .state) (omega (arith, begun-count))
 
+  -- a node is the new one or an earlier one
+  pub begun-node : (y : ℕ) → IsNode (begun s t id gateway .state) y → (y ≡ nodeCount s + 1) ⊎ IsNode s y
+  begun-node y n =
+      ⊎-elim (λ e. inl e) (λ h. inr (record { low = n .low; high = omega (arith, h) }))
+      (eq-or-lt-of-le (omega (arith, begun-count, n .high)))
+
   pub begun-later : Later s (begun s t id gateway .state)
   unfolding s₁
   begun-later = record {
@@ -93,11 +99,9 @@ module _ (s t : List ℕ) (id gateway : ℕ) (S : Sound s t) (c : CanBegin s id 
   unfolding s₁
   later = begun-later
 
-  -- a node is the new one or an earlier one
   which : (y : ℕ) → IsNode s₁ y → (y ≡ nodeCount s + 1) ⊎ IsNode s y
-  which y n =
-      ⊎-elim (λ e. inl e) (λ h. inr (record { low = n .low; high = omega (arith, h) }))
-      (eq-or-lt-of-le (omega (arith, count, n .high)))
+  unfolding s₁
+  which = begun-node
 
   range : InRange (base s₁) (digits s₁) (depth s₁)
   range = subst₃ InRange (sym (later .base)) (sym (later .digits)) (sym (later .depth)) (S .settings)
@@ -133,14 +137,19 @@ module _ (s t : List ℕ) (id gateway : ℕ) (S : Sound s t) (c : CanBegin s id 
       stored-other t (nodeCount s + 1) (ownTable (digits s) id (nodeCount s + 1)) own-size new-fits y (omega arith) (o .low)
       (omega (arith, o .high)) (table-fits s t S y o)
 
+  -- the new node's is its own entries
+  pub begun-own : tableOf (begun s t id gateway .tables) (nodeCount s + 1) ≡ ownTable (digits s) id (nodeCount s + 1)
+  unfolding begun
+  begun-own = stored-same t (nodeCount s + 1) (ownTable (digits s) id (nodeCount s + 1)) own-size new-fits
+
   table : (y : ℕ) → IsNode s₁ y → TableOk s₁ y (tableOf t₁ y)
-  unfolding t₁ begun
+  unfolding t₁
   table y n = ⊎-elim newest (λ o. rw (begun-table y o) (table-later s s₁ later y (tableOf t y) o n (S .tables y o))) (which y n)
     where
       newest : y ≡ nodeCount s + 1 → TableOk s₁ y (tableOf t₁ y)
       newest e =
           subst (λ (y : ℕ). TableOk s₁ y (tableOf t₁ y)) (sym e)
-          (rw (stored-same t (nodeCount s + 1) (ownTable (digits s) id (nodeCount s + 1)) own-size new-fits)
+          (rw begun-own
           (subst₂ (λ (d id : ℕ). TableOk s₁ (nodeCount s + 1) (ownTable d id (nodeCount s + 1))) (later .digits) (same-id stored)
           (own-table s₁ (nodeCount s + 1) range is-new (valid (nodeCount s + 1) is-new) .rules)))
 

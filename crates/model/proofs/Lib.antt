@@ -48,6 +48,8 @@ pub mod Progress
 -- ---- withdrawing
 pub mod Withdrawing
 pub mod Undoing
+-- ---- joins from a yes on
+pub mod Floors
 -- ---- lookup and verdict
 pub mod SoundEntries
 pub mod NextHop

@@ -25,7 +25,7 @@ use Rattle.model.proofs.Ids.{InRange}
 use Rattle.model.proofs.Sound.{standing, Sound, node-fits}
 use Rattle.model.proofs.LearningKeepsRules.{OwnTable}
 use Rattle.model.proofs.Later.{Later}
-use Rattle.model.proofs.ReplacingKeepsSound.{Agree, agree-node, agree-both, agree-count, agree-kept, agree-later, replaced-ok}
+use Rattle.model.proofs.ReplacingKeepsSound.{Agree, agree-refl, agree-node, agree-both, agree-count, agree-kept, agree-later, replaced-ok}
 use Rattle.model.proofs.Gather.{ToNotify, Gathered, gather-has, gather-within}
 use Rattle.model.proofs.SoundNodes.{own-later, own, suffix-below, range, learned-table, learned-node}
 use Rattle.model.proofs.Sender.{CanDeliver, Receiver}
@@ -220,7 +220,7 @@ module _ (s t : List ℕ) (S : Sound s t) (x y : ℕ) (c : CanDeliver s x y) whe
       o = w .rules
 
       a : Agree x s s
-      a = record { words = λ p h. refl; id = refl }
+      a = agree-refl x s
 
       -- a node that was pending and is not y
       still-due : (u : ℕ) → IsNode s u → hasNode (removeNode (pendingOf s x) y) u ≡ true → PendingOk s x (levelOf s x) (addNode (notifiedOf s x) y) u

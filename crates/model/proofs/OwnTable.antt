@@ -16,7 +16,8 @@ use Rattle.model.specs.Memory.{base, digits, depth, idOf}
 use Rattle.model.specs.Tables.{slotPlace, slotAt, ownSlot, ownTable}
 use Rattle.model.specs.Sound.{placeUsed}
 use Rattle.model.proofs.Bools.{or-intro-left, not-both}
-use Rattle.model.proofs.Loops.{each-leads}
+use Rattle.model.proofs.Loops.{each-leads, each-keeps}
+use Rattle.model.proofs.Splice.{set-keeps}
 use Rattle.model.proofs.Ids.{InRange, digit-lt, valid-digit, suffix-self, qualified-of}
 use Rattle.model.proofs.Sound.{SlotOk, slot-used}
 use Rattle.model.proofs.Status.{IsNode}
@@ -56,6 +57,14 @@ module _ (d id x : ℕ) (few : d ≤ 8) where
 
 pub own-long : (d id x : ℕ) → d ≤ 8 → length (ownTable d id x) ≡ 512
 own-long d id x few = own d id x few .long
+
+-- nobody else stands in it
+pub own-only : (d id x p : ℕ) → p < 512 → getD (ownTable d id x) p 0 ≢ 0 → getD (ownTable d id x) p 0 ≡ x
+unfolding ownTable
+own-only d id x p h =
+    each-keeps (λ (T : List ℕ). getD T p 0 ≢ 0 → getD T p 0 ≡ x) d (ownSlot id x) (replicate 512 0)
+    (λ nz. absurd (nz (getD-replicate 512 p 0 0 h)))
+    (λ k T l f. set-keeps (λ (u : ℕ). u ≢ 0 → u ≡ x) T (slotPlace k (digitOf id k) 0) x p f (λ e nz. refl))
 
 module _ (s : List ℕ) (x : ℕ) (range : InRange (base s) (digits s) (depth s)) (is : IsNode s x)
     (valid : validId (base s) (digits s) (idOf s x) ≡ true) where

@@ -1,7 +1,7 @@
 -- A step that replaces one node's record and two tables leaves a sound state if the new record and tables keep their rules.
 -- Assumes nothing.
 use Prim.Native.Nat.{ℕ, _+_, _*_, _≤_, _<_}
-use mathlib.Core.Path.{_≡_, sym, subst, subst₃, _∙_}
+use mathlib.Core.Path.{_≡_, refl, sym, subst, subst₃, _∙_}
 use mathlib.Core.Logic.{_≢_, _⊎_, inl, inr}
 use mathlib.Core.Bool.{true}
 use mathlib.Core.List.{List}
@@ -22,6 +22,9 @@ use Rattle.model.proofs.Later.{Later, table-later, status-later, counts
 pub record Agree (x : ℕ) (s s′ : List ℕ) : Type 0 where
   pub words : (p : ℕ) → (p < 8 * x) ⊎ (8 * x + 8 ≤ p) → getD s′ p 0 ≡ getD s p 0
   pub id : idOf s′ x ≡ idOf s x
+
+pub agree-refl : (x : ℕ) (s : List ℕ) → Agree x s s
+agree-refl x s = record { words = λ p h. refl; id = refl }
 
 module _ (s : List ℕ) (x : ℕ) (fits : 8 * x + 8 ≤ length s) where
   pub agree-node : (r : Node) → r .id ≡ idOf s x → Agree x s (withNode s x r)

@@ -1,11 +1,11 @@
 -- Laws of a list with a part replaced: `splice a n vs l` is l with the n elements from index a on replaced by the n of vs.
 -- A node's record in the state and a node's table in the table memory are such parts. Assumes nothing.
-use Prim.Native.Nat.{ℕ, _+_, _-_, _≤_, _<_}
-use mathlib.Core.Path.{_≡_, sym, ap, ap₂, subst, _∙_}
-use mathlib.Core.List.{List, _++_, append-assoc}
+use Prim.Native.Nat.{ℕ, zero, suc, _+_, _-_, _≤_, _<_}
+use mathlib.Core.Path.{_≡_, refl, sym, ap, ap₂, subst, _∙_}
+use mathlib.Core.List.{List, [], _∷_, _++_, append-assoc}
 use native.Mathlib.Decide.{decLt}
 use native.Mathlib.Omega.{arith}
-use lib.ListN.{length, getD, take, drop, length-append, length-drop, take-append-drop, List·getD-append}
+use lib.ListN.{length, getD, set, take, drop, length-append, length-drop, take-append-drop, List·getD-append}
 use lib.Seq.{length-take-le, getD-take, getD-drop, getD-append-add, take-at, drop-at, drop-drop, ext-getD}
 
 abbrev pub splice : ℕ → ℕ → List ℕ → List ℕ → List ℕ
@@ -85,3 +85,13 @@ pub part-same : (a n : ℕ) (l m : List ℕ) → a + n ≤ length l → a + n �
 part-same a n l m f g h =
     ext-getD 0 (take n (drop a l)) (take n (drop a m)) (part-length a n l f ∙ sym (part-length a n m g))
     (λ k q. let q′ : k < n = omega (arith, part-length a n l f) in part-at a n l f k q′ ∙ h k q′ ∙ sym (part-at a n m g k q′))
+
+-- ---- one element replaced
+
+-- what holds of an element, and of what is stored if it is stored there, holds of it after
+pub set-keeps : (P : ℕ → Type 0) (l : List ℕ) (q u p : ℕ) → P (getD l p 0) → (p ≡ q → P u) → P (getD (set l q u) p 0)
+set-keeps P [] q u p f g = f
+set-keeps P (w ∷ ws) zero u zero f g = g refl
+set-keeps P (w ∷ ws) zero u (suc p) f g = f
+set-keeps P (w ∷ ws) (suc q) u zero f g = f
+set-keeps P (w ∷ ws) (suc q) u (suc p) f g = set-keeps P ws q u p f (λ e. g (ap suc e))

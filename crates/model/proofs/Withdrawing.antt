@@ -89,7 +89,8 @@ module _ (s t : List ℕ) (S : Sound s t) where
   unfolding withdrawn
   record-kept y low high = stored-kept s (x - 1) x noNode (S .some) fits y low (omega arith)
 
-  table-kept : (y : ℕ) → 1 ≤ y → y < nodeCount s → tableOf (withdrawn s t .tables) y ≡ tableOf t y
+  -- the table of each node below it too
+  pub table-kept : (y : ℕ) → 1 ≤ y → y < nodeCount s → tableOf (withdrawn s t .tables) y ≡ tableOf t y
   unfolding withdrawn
   table-kept y low high =
       stored-other t x (replicate 512 0) blank-size fits-table y (S .some) low (omega arith)
