@@ -50,6 +50,7 @@ pub mod Withdrawing
 pub mod Undoing
 -- ---- joins from a yes on
 pub mod Floors
+pub mod Attaching
 -- ---- lookup and verdict
 pub mod SoundEntries
 pub mod NextHop

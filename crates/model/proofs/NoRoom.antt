@@ -38,10 +38,10 @@ module _ (K : ℕ) (T : List ℕ) (i j : ℕ) where
   slot-held z k l e = any-of K (slotIs T i j z) k l (eq-eqb (slotAt T i j k) z e)
 
   -- the first slot that holds z
-  abbrev place : ℕ → ℕ
+  abbrev pub place : ℕ → ℕ
   place z = firstBelow K (slotIs T i j z)
 
-  held-place : (z : ℕ) → holds K T i j z ≡ true → (place z < K) × (slotAt T i j (place z) ≡ z)
+  pub held-place : (z : ℕ) → holds K T i j z ≡ true → (place z < K) × (slotAt T i j (place z) ≡ z)
   unfolding holds
   held-place z e =
       let l = first-some K (slotIs T i j z) e in

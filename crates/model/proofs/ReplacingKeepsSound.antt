@@ -96,21 +96,28 @@ module _ (s t : List ℕ) (S : Sound s t) (x y : ℕ) (nx : IsNode s x) (ny : Is
       let bY : y ≤ nodeCount s = ny .high in
       stored-outside (withTable t y Ty) x Tx size-x fits-x p (inr (omega arith)) ∙ stored-outside t y Ty size-y (fits y ny) p (inr (omega arith))
 
+  -- a table but x's is as storing y's left it
+  other : (z : ℕ) → IsNode s z → z ≢ x → tableOf (withTable (withTable t y Ty) x Tx) z ≡ tableOf (withTable t y Ty) z
+  other z n e = stored-other (withTable t y Ty) x Tx size-x fits-x z (nx .low) (n .low) e (omega (arith, fits z n, length-y))
+
+  pub replaced-first : tableOf (withTable (withTable t y Ty) x Tx) x ≡ Tx
+  replaced-first = stored-same (withTable t y Ty) x Tx size-x fits-x
+
+  pub replaced-second : y ≢ x → tableOf (withTable (withTable t y Ty) x Tx) y ≡ Ty
+  replaced-second e = other y ny e ∙ stored-same t y Ty size-y (fits y ny)
+
   -- what holds of the two, and of each table as it was, holds of each table after
   pub replaced-table : (P : ℕ → List ℕ → Type 0) → P x Tx → P y Ty → ((z : ℕ) → IsNode s z → P z (tableOf t z)) → (z : ℕ) → IsNode s z
       → P z (tableOf (withTable (withTable t y Ty) x Tx) z)
   replaced-table P px py pz z n = go (ℕ-discrete z x) (ℕ-discrete z y)
     where
-      other : z ≢ x → tableOf (withTable (withTable t y Ty) x Tx) z ≡ tableOf (withTable t y Ty) z
-      other e = stored-other (withTable t y Ty) x Tx size-x fits-x z (nx .low) (n .low) e (omega (arith, fits z n, length-y))
-
       go : Dec (z ≡ x) → Dec (z ≡ y) → P z (tableOf (withTable (withTable t y Ty) x Tx) z)
       go (yes e) q =
           subst (λ (z : ℕ). P z (tableOf (withTable (withTable t y Ty) x Tx) z)) (sym e)
-          (rw (stored-same (withTable t y Ty) x Tx size-x fits-x) px)
+          (rw replaced-first px)
       go (no e) (yes q) =
-          rw (other e) (subst (λ (z : ℕ). P z (tableOf (withTable t y Ty) z)) (sym q) (rw (stored-same t y Ty size-y (fits y ny)) py))
-      go (no e) (no q) = rw (other e, stored-other t y Ty size-y (fits y ny) z (ny .low) (n .low) q (fits z n)) (pz z n)
+          subst (λ (z : ℕ). P z (tableOf (withTable (withTable t y Ty) x Tx) z)) (sym q) (rw (replaced-second (λ w. e (q ∙ w))) py)
+      go (no e) (no q) = rw (other z n e, stored-other t y Ty size-y (fits y ny) z (ny .low) (n .low) q (fits z n)) (pz z n)
 
 -- ---- the step
 

@@ -2,6 +2,7 @@
 -- given again, so nothing is said of it here. Assumes nothing.
 use Prim.Native.Nat.{ℕ, _+_, _*_, _≤_}
 use mathlib.Core.Path.{_≡_, refl, _∙_}
+use mathlib.Core.Logic.{_≢_}
 use mathlib.Core.Bool.{true, false}
 use mathlib.Core.List.{List}
 use lib.ListN.{length}
@@ -15,7 +16,7 @@ use Rattle.model.proofs.Status.{IsNode, attached-in-system, waiting-awa
 use Rattle.model.proofs.Settling.{settle-id, settle-attached}
 use Rattle.model.proofs.Sound.{Sound, node-fits, table-fits}
 use Rattle.model.proofs.Later.{Later}
-use Rattle.model.proofs.ReplacingKeepsSound.{agree-node, agree-count, agree-later, replaced-table}
+use Rattle.model.proofs.ReplacingKeepsSound.{agree-node, agree-kept, agree-count, agree-later, replaced-first, replaced-second, replaced-table}
 use Rattle.model.proofs.BeginningKeepsSound.{CanBegin, begun-later, begun-table}
 use Rattle.model.proofs.Sender.{CanDeliver}
 use Rattle.model.proofs.DeliveryDid.{Tells, Did, did-ask, did-attach, did-notify, delivery-did}
@@ -30,17 +31,30 @@ pub record Onward (s t s′ t′ : List ℕ) : Type 0 where
   pub digits : digits s′ ≡ digits s
   pub depth : depth s′ ≡ depth s
   pub attached : (x : ℕ) → Attached s x → Attached s′ x
+  pub in-system : (x : ℕ) → IsNode s x → isInSystem s x ≡ true → isInSystem s′ x ≡ true
   pub ids : (x : ℕ) → Attached s x → idOf s′ x ≡ idOf s x
   pub grows : (x : ℕ) → Attached s x → Grows (tableOf t x) (tableOf t′ x)
 
 pub onward-refl : (s t : List ℕ) → Onward s t s t
-onward-refl s t = record { digits = refl; depth = refl; attached = λ x a. a; ids = λ x a. refl; grows = λ x a. grows-refl (tableOf t x) }
+onward-refl s t = record {
+  digits = refl;
+  depth = refl;
+  attached = λ x a. a;
+  in-system = λ x n e. e;
+  ids = λ x a. refl;
+  grows = λ x a. grows-refl (tableOf t x);
+}
+
+-- a node in system is attached
+pub settled-attached : (s : List ℕ) (x : ℕ) → IsNode s x → isInSystem s x ≡ true → Attached s x
+settled-attached s x n e = record { node = n; status = attached-in-system s x e }
 
 pub onward-trans : {s t s′ t′ s″ t″ : List ℕ} → Onward s t s′ t′ → Onward s′ t′ s″ t″ → Onward s t s″ t″
-onward-trans f g = record {
+onward-trans {s} f g = record {
   digits = g .digits ∙ f .digits;
   depth = g .depth ∙ f .depth;
   attached = λ x a. g .attached x (f .attached x a);
+  in-system = λ x n e. g .in-system x (f .attached x (settled-attached s x n e) .node) (f .in-system x n e);
   ids = λ x a. g .ids x (f .attached x a) ∙ f .ids x a;
   grows = λ x a. grows-trans (f .grows x a) (g .grows x (f .attached x a));
 }
@@ -51,6 +65,7 @@ later-onward l g = record {
   digits = l .digits;
   depth = l .depth;
   attached = λ x a. record { node = l .stays x (a .node) (a .status); status = l .attached x (a .node) (a .status) };
+  in-system = l .in-system;
   ids = λ x a. l .ids x (a .node) (l .stays x (a .node) (a .status));
   grows = g;
 }
@@ -114,6 +129,12 @@ module _ (s t : List ℕ) (S : Sound s t) (x y : ℕ) (c : CanDeliver s x y) whe
   fits : 8 * x + 8 ≤ length s
   fits = node-fits s t S x nx
 
+  long-own : length (d .senderTable) ≡ 512
+  long-own = does .own .long ∙ table-length t x (table-fits s t S x nx)
+
+  long-their : length (d .receiverTable) ≡ 512
+  long-their = does .their .long ∙ table-length t y (table-fits s t S y ny)
+
   -- the sender keeps its id
   pub delivered-id : delivery s t x y .sender .id ≡ idOf s x
   delivered-id = does .id
@@ -132,11 +153,32 @@ module _ (s t : List ℕ) (S : Sound s t) (x y : ℕ) (c : CanDeliver s x y) whe
       (does .attached (withNode s x (d .sender)) (node-stored s x (d .sender) fits))
       (λ q. absurd (not-both (isInSystem s x) q (does .out)))
 
+  -- the same of the memory after it
+  pub later-delivered : Later s (delivered s t x y (delivery s t x y) .state)
+  unfolding delivered
+  later-delivered = delivered-later
+
+  -- the records and the two tables then
+  pub delivered-record : nodeOf (delivered s t x y (delivery s t x y) .state) x ≡ delivery s t x y .sender
+  unfolding delivered
+  delivered-record = node-stored s x (d .sender) fits
+
+  pub delivered-kept : (z : ℕ) → z ≢ x → nodeOf (delivered s t x y (delivery s t x y) .state) z ≡ nodeOf s z
+  unfolding delivered
+  delivered-kept = agree-kept x s (withNode s x (d .sender)) (agree-node s x fits (d .sender) (does .id))
+
+  pub delivered-sender : tableOf (delivered s t x y (delivery s t x y) .tables) x ≡ delivery s t x y .senderTable
+  unfolding delivered
+  delivered-sender = replaced-first s t S x y nx ny (d .senderTable) (d .receiverTable) long-own long-their
+
+  pub delivered-receiver : y ≢ x → tableOf (delivered s t x y (delivery s t x y) .tables) y ≡ delivery s t x y .receiverTable
+  unfolding delivered
+  delivered-receiver = replaced-second s t S x y nx ny (d .senderTable) (d .receiverTable) long-own long-their
+
   pub delivered-onward : Onward s t (delivered s t x y (delivery s t x y) .state) (delivered s t x y (delivery s t x y) .tables)
   unfolding delivered
   delivered-onward =
       later-onward delivered-later
       (λ z a.
-      replaced-table s t S x y nx ny (d .senderTable) (d .receiverTable) (does .own .long ∙ table-length t x (table-fits s t S x nx))
-      (does .their .long ∙ table-length t y (table-fits s t S y ny)) (λ z T. Grows (tableOf t z) T) (does .own) (does .their)
+      replaced-table s t S x y nx ny (d .senderTable) (d .receiverTable) long-own long-their (λ z T. Grows (tableOf t z) T) (does .own) (does .their)
       (λ z n. grows-refl (tableOf t z)) z (a .node))
