@@ -18,7 +18,7 @@ use Rattle.model.specs.Join.{Delivery, notifyingNode, delivery, delivere
 use Rattle.model.proofs.Ids.{InRange, digit-lt, suffix-digit, suffix-sym, suffix-through, qualified-suffix, qualified-digit, valid-digit}
 use Rattle.model.proofs.Nodes.{suffix-by}
 use Rattle.model.proofs.Memory.{table-length}
-use Rattle.model.proofs.Tables.{size-filled, GapFree}
+use Rattle.model.proofs.Tables.{GapFree}
 use Rattle.model.proofs.Status.{IsNode, attached-in-system, attached-other, waiting-away}
 use Rattle.model.proofs.Sound.{SlotOk, Sound, node-fits, table-fits}
 use Rattle.model.proofs.SoundNodes.{stands-node, own, suffix-below}
@@ -29,7 +29,7 @@ use Rattle.model.proofs.ReplacingKeepsSound.{Agree, agree-node, agree-k
 use Rattle.model.proofs.DeliveryKeepsSound.{delivered-ok}
 use Rattle.model.proofs.TablesOnlyGrow.{later-delivered, delivered-count, delivered-sender}
 use Rattle.model.proofs.Floors.{Floors, floor-in-system, floor-same}
-use Rattle.model.proofs.NoRoom.{NoRoom, no-room-cases, full-no-room, place, held-place, different-full, no-room-by, table-learned}
+use Rattle.model.proofs.NoRoom.{NoRoom, no-room-cases, full-no-room, place, held-place, filled-by, no-room-by, table-learned}
 
 module _ (s t : List ℕ) (S : Sound s t) (x y : ℕ) (c : CanDeliver s x y) (w : Attaches s t x y (delivery s t x y)) (F : Floors s t) where
   abbrev s′ : List ℕ
@@ -113,7 +113,7 @@ module _ (s t : List ℕ) (S : Sound s t) (x y : ℕ) (c : CanDeliver s x y) (w 
         → NoRoom s (delivery s t x y .senderTable) z i
     learns-full i low full =
         full-no-room (depth s) (d .senderTable) i j z
-        (different-full (depth s) (d .senderTable) i j (gapless i j hi hj) (slotAt Ty i j) (λ k l. (filled k l, no-room k l)) differ)
+        (filled-by s t S y i j (c .receiver) hi hj full (d .senderTable) i j (gapless i j hi hj) no-room)
       where
         j : ℕ
         j = digitOf (idOf s z) i
@@ -124,26 +124,15 @@ module _ (s t : List ℕ) (S : Sound s t) (x y : ℕ) (c : CanDeliver s x y) (w 
         hj : j < base s
         hj = valid-digit (base s) (digits s) (idOf s z) i (S .ids z nz) hi
 
-        filled : (k : ℕ) → k < depth s → slotAt Ty i j k ≢ 0
-        filled k l = size-filled (depth s) Ty i j k (omega (arith, full, l))
-
-        slot : (k : ℕ) → k < depth s → SlotOk s y Ty i j k
-        slot k l = S .tables y (c .receiver) .slots i j k hi hj l (filled k l)
-
-        no-room : (k : ℕ) → k < depth s → roomFor (depth s) (d .senderTable) i j (slotAt Ty i j k) ≡ false
-        no-room k l =
+        no-room : (k : ℕ) → k < depth s → SlotOk s y Ty i j k → slotAt Ty i j k ≢ 0
+            → roomFor (depth s) (d .senderTable) i j (slotAt Ty i j k) ≡ false
+        no-room k l slot filled =
             let v : ℕ = slotAt Ty i j k in
-            let near = qualified-suffix (digits s) (idOf s y) (idOf s v) i j (omega (arith, hi)) (slot k l .qual) in
+            let near = qualified-suffix (digits s) (idOf s y) (idOf s v) i j (omega (arith, hi)) (slot .qual) in
             let back = suffix-sym (digits s) (idOf s x) (idOf s y) in
-            subst (λ (j : ℕ). roomFor (depth s) (d .senderTable) i j v ≡ false) (qualified-digit (idOf s y) (idOf s v) i j (slot k l .qual))
-            (learns (slotPlace i j k) (place-fits i j k hi (digit-lt (idOf s z) i) l) (filled k l) i (slot-floor i j k hi (digit-lt (idOf s z) i) l (filled k l))
+            subst (λ (j : ℕ). roomFor (depth s) (d .senderTable) i j v ≡ false) (qualified-digit (idOf s y) (idOf s v) i j (slot .qual))
+            (learns (slotPlace i j k) (place-fits i j k hi (digit-lt (idOf s z) i) l) filled i (slot-floor i j k hi (digit-lt (idOf s z) i) l filled)
             (suffix-through (digits s) (idOf s y) (idOf s x) (idOf s v) i (omega (arith, low, back)) near) hi)
-
-        differ : (k l : ℕ) → k < depth s → l < depth s → slotAt Ty i j k ≡ slotAt Ty i j l → k ≡ l
-        differ k l p q e =
-            let less : k < l → ⊥ = λ g. slot l q .fresh k g e in
-            let more : l < k → ⊥ = λ g. slot k p .fresh l g (sym e) in
-            omega (arith, less, more)
 
     -- above it there was room at y, so z stands there
     stands-above : suffixOf s x y < suffixOf s x z → holds (depth s) (tableOf t y) (suffixOf s x y) (digitOf (idOf s z) (suffixOf s x y)) z ≡ true

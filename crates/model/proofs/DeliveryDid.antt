@@ -1,7 +1,7 @@
 -- What a taken delivery did, in one of three cases: its sender goes on asking, attaches, or notifies. The other laws of deliveries are read
 -- off here. Assumes nothing.
 use Prim.Native.Nat.{ℕ, suc, _+_, _≤_, _<_}
-use mathlib.Core.Path.{_≡_, refl, sym, ap, ap₂, subst}
+use mathlib.Core.Path.{_≡_, refl, sym, ap, ap₂, subst, _∙_}
 use mathlib.Core.Logic.{_≢_, _⊎_, inl, inr, ⊎-elim}
 use mathlib.Core.Bool.{Bool, true, false, cond}
 use mathlib.Core.List.{List}
@@ -38,6 +38,12 @@ pub data Asking (s : List ℕ) (x y status target kind : ℕ) : Type 0 where
       → (target ≡ y) ⊎ (suffixOf s x y < suffixOf s x target) → Asking s x y status target kind
   waits-on : statusOf s x ≡ waiting → status ≡ waiting → kind ≡ kindSentOn → suffixOf s x y < suffixOf s x target
       → Asking s x y status target kind
+
+-- a node with the status that it has then is not attached
+pub asking-away : {s : List ℕ} {x y status target kind : ℕ} → Asking s x y status target kind → (s₁ : List ℕ) → statusOf s₁ x ≡ status → isAttached s₁ x ≡ false
+asking-away {x = x} (copies-on e q k i n) s₁ f = copying-away s₁ x (f ∙ q)
+asking-away {x = x} (starts-waiting e q k n) s₁ f = waiting-away s₁ x (f ∙ q)
+asking-away {x = x} (waits-on e q k n) s₁ f = waiting-away s₁ x (f ∙ q)
 
 -- x learns y's table and stays copying or waiting; the target is another, attached node
 pub record AsksOn (s t : List ℕ) (x y : ℕ) (d : Delivery) : Type 0 where

@@ -51,6 +51,8 @@ pub mod Undoing
 -- ---- joins from a yes on
 pub mod Floors
 pub mod Attaching
+pub mod Reaching
+pub mod OneJoin
 -- ---- lookup and verdict
 pub mod SoundEntries
 pub mod NextHop

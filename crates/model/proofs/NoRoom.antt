@@ -22,9 +22,9 @@ use Rattle.model.proofs.Bools.{true-or-false, and-left, and-right, not-
 use Rattle.model.proofs.Loops.{any-of, count-le, first-some, first-holds, each-does}
 use Rattle.model.proofs.Counting.{count-least, count-most}
 use Rattle.model.proofs.Ids.{InRange, digit-lt, valid-digit, qualified-of, qualified-suffix, qualified-digit}
-use Rattle.model.proofs.Tables.{size-le, holds-not, GapFree, gap-rest, append-here, Grows, grown-size}
+use Rattle.model.proofs.Tables.{size-le, size-filled, holds-not, GapFree, gap-rest, append-here, Grows, grown-size}
 use Rattle.model.proofs.Status.{IsNode}
-use Rattle.model.proofs.Sound.{Sound}
+use Rattle.model.proofs.Sound.{SlotOk, Sound}
 use Rattle.model.proofs.Learning.{learn-at-grows, learn-grows, learn-place-is, learn-place-grows}
 use Rattle.model.proofs.LearningKeepsRules.{entries-of, gap-free}
 use Rattle.model.proofs.SoundEntries.{nodes-least, entry-fits, size-is-length, entry-slot, entry-node, entry-qualifies, entry-differ}
@@ -79,7 +79,7 @@ module _ (K : ℕ) (T : List ℕ) (i j : ℕ) where
     place-own y z e f q = sym (held-place y e .1) ∙ ap (slotAt T i j) q ∙ held-place z f .1
 
     -- K different nodes for which there is no room fill the entry
-    pub different-full : (f : ℕ → ℕ) → ((k : ℕ) → k < K → (f k ≢ 0) × (roomFor K T i j (f k) ≡ false))
+    different-full : (f : ℕ → ℕ) → ((k : ℕ) → k < K → (f k ≢ 0) × (roomFor K T i j (f k) ≡ false))
         → ((k l : ℕ) → k < K → l < K → f k ≡ f l → k ≡ l) → entrySize K T i j ≡ K
     different-full f none differ = go (decLt (entrySize K T i j) K)
       where
@@ -182,8 +182,28 @@ module _ (s t : List ℕ) (S : Sound s t) where
     abbrev N : List ℕ
     N = neighbors s t u i j
 
-    gapless : GapFree (depth s) (tableOf t u) i j
+    pub gapless : GapFree (depth s) (tableOf t u) i j
     gapless = gap-free s u T (entries-of s u T (S .tables u nu)) i j hi hj
+
+    -- an entry is full in which there is no room for any node of this one, where this one is full
+    pub filled-by : entrySize (depth s) (tableOf t u) i j ≡ depth s → (T′ : List ℕ) (i′ j′ : ℕ) → GapFree (depth s) T′ i′ j′
+        → ((k : ℕ) → k < depth s → SlotOk s u (tableOf t u) i j k → slotAt (tableOf t u) i j k ≢ 0
+        → roomFor (depth s) T′ i′ j′ (slotAt (tableOf t u) i j k) ≡ false)
+        → entrySize (depth s) T′ i′ j′ ≡ depth s
+    filled-by full T′ i′ j′ g none =
+        different-full (depth s) T′ i′ j′ g (slotAt T i j) (λ k l. (filled k l, none k l (slot k l) (filled k l))) differ
+      where
+        filled : (k : ℕ) → k < depth s → slotAt T i j k ≢ 0
+        filled k l = size-filled (depth s) T i j k (omega (arith, full, l))
+
+        slot : (k : ℕ) → k < depth s → SlotOk s u T i j k
+        slot k l = S .tables u nu .slots i j k hi hj l (filled k l)
+
+        differ : (k l : ℕ) → k < depth s → l < depth s → slotAt T i j k ≡ slotAt T i j l → k ≡ l
+        differ k l p q e =
+            let less : k < l → ⊥ = λ g. slot l q .fresh k g e in
+            let more : l < k → ⊥ = λ g. slot k p .fresh l g (sym e) in
+            omega (arith, less, more)
 
     -- a node of the entry stands at some place of it as a list
     pub held-entry : (z : ℕ) → 1 ≤ z → holds (depth s) (tableOf t u) i j z ≡ true

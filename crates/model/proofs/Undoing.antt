@@ -12,12 +12,12 @@ use Rattle.model.specs.Memory.{nodeCount, statusOf, isAttached, tableSta
 use Rattle.model.specs.Join.{Delivery, kindAttached, begun, withdrawn, delivery, delivered}
 use Rattle.model.proofs.Bools.{not-both}
 use Rattle.model.proofs.Memory.{same-status, node-length, node-outside, node-stored, table-length, stored-length, stored-outside, table-back}
-use Rattle.model.proofs.Status.{attached-notifying, copying-away, waiting-away}
+use Rattle.model.proofs.Status.{attached-notifying, copying-away}
 use Rattle.model.proofs.Sound.{Sound, node-fits, table-fits}
 use Rattle.model.proofs.Learning.{learn-table-grows}
 use Rattle.model.proofs.BeginningKeepsSound.{CanBegin, begun-count, begun-new, begun-word, begun-byte, begun-long}
 use Rattle.model.proofs.Sender.{CanDeliver}
-use Rattle.model.proofs.DeliveryDid.{AsksOn, Asking, copies-on, starts-waiting, waits-on, Did, did-ask, did-attach, did-notify, delivery-did}
+use Rattle.model.proofs.DeliveryDid.{asking-away, AsksOn, Did, did-ask, did-attach, did-notify, delivery-did}
 use Rattle.model.proofs.TablesOnlyGrow.{delivered-count}
 use Rattle.model.proofs.Withdrawing.{withdrawn-long, withdrawn-count, record-zero, table-zero, word-kept, byte-kept}
 
@@ -78,11 +78,6 @@ module _ (s t s′ t′ : List ℕ) (b : Beside s t s′ t′) (S : Sound s′ t
     stored : statusOf (withNode s′ x (d .sender)) x ≡ w .status
     stored = same-status (node-stored s′ x (d .sender) fits ∙ w .sender)
 
-    still-away : Asking s′ x y (w .status) (w .target) (d .kind) → isAttached (withNode s′ x (d .sender)) x ≡ false
-    still-away (copies-on e q k i n) = copying-away (withNode s′ x (d .sender)) x (stored ∙ q)
-    still-away (starts-waiting e q k n) = waiting-away (withNode s′ x (d .sender)) x (stored ∙ q)
-    still-away (waits-on e q k n) = waiting-away (withNode s′ x (d .sender)) x (stored ∙ q)
-
     outside : (p : ℕ) → (p < 512 * nodeCount s) ⊎ (512 * nodeCount s + 512 ≤ p) → (p < tableStart x) ⊎ (tableStart x + 512 ≤ p)
     outside p (inl l) = inl (omega arith)
     outside p (inr g) = inr (omega arith)
@@ -91,7 +86,7 @@ module _ (s t s′ t′ : List ℕ) (b : Beside s t s′ t′) (S : Sound s′ t
     unfolding delivered
     asks-beside = record {
       count = delivered-count s′ t′ S x y c ∙ b .count;
-      away = still-away (w .how);
+      away = asking-away (w .how) (withNode s′ x (d .sender)) stored;
       words = λ p ne h. node-outside s′ x (d .sender) fits p h ∙ b .words p ne h;
       bytes = λ p h.
           ap (λ (t : List ℕ). getD t p 0) own
