@@ -6,9 +6,10 @@ use mathlib.Core.Logic.{_≢_, _⊎_, inl, inr, ⊎-elim}
 use mathlib.Core.Bool.{Bool, true, false, cond}
 use mathlib.Core.List.{List}
 use native.Mathlib.Nat.{le-of-suc-le-suc, eq-or-lt-of-le}
+use native.Mathlib.Decide.{decLt}
 use native.Mathlib.Omega.{arith}
 use lib.Dec.{eqb, ltb}
-use borrow.Author.Tests.{ltb-false, lt-ltb}
+use borrow.Author.Tests.{ltb-false, lt-ltb, le-ltb}
 use Rattle.model.specs.Ids.{digitOf, commonSuffix}
 use Rattle.model.specs.Memory.{base, digits, depth, nodeOf, idOf, statusOf, levelOf, targetOf, pendingOf, notifiedOf, noticesOf, withNode, copying, waiting, notifying}
 use Rattle.model.specs.Memory.{isInSystem, isAttached, hasNode, addNode, removeNode, tableOf}
@@ -18,8 +19,8 @@ use Rattle.model.specs.Learning.{learn, learnTable}
 use Rattle.model.specs.Join.{Delivery, joiningNode, notifyingNode, settle, kindCopied, kindSentOn, kindAttached, kindNotified}
 use Rattle.model.specs.Join.{hasRoom, roomAtSuffix, firstAtSuffix, belowOrRoom, roomFrom, attachLevel, gather}
 use Rattle.model.specs.Join.{deliverCopying, deliverSentOn, deliverAttached, deliverWaiting, deliverNotifying, delivery}
-use Rattle.model.proofs.Bools.{or-intro-left, or-intro-right}
-use Rattle.model.proofs.Loops.{all-of, first-min}
+use Rattle.model.proofs.Bools.{true-or-false, or-intro-left, or-intro-right, or-right}
+use Rattle.model.proofs.Loops.{all-at, all-of, first-holds, first-min}
 use Rattle.model.proofs.Ids.{suffix-sym, next-hop, valid-digit}
 use Rattle.model.proofs.Tables.{size-filled}
 use Rattle.model.proofs.Status.{IsNode, NotifyingOk, attached-other, copying-away, waiting-away}
@@ -125,6 +126,27 @@ room-from s Ty x h e =
 level-low : (s Ty : List ℕ) (x h : ℕ) → hasRoom s Ty x h ≡ true → attachLevel s Ty x h ≤ h
 unfolding attachLevel
 level-low s Ty x h e = first-min (suc h) (roomFrom s Ty x h) h (room-from s Ty x h e)
+
+-- and the level below it has no room
+pub level-least : (s Ty : List ℕ) (x h i : ℕ) → attachLevel s Ty x h ≤ h → suc i ≡ attachLevel s Ty x h → hasRoom s Ty x i ≡ false
+unfolding attachLevel
+level-least s Ty x h i low e = ⊎-elim (λ q. absurd (omega (arith, e, first-min (suc h) (roomFrom s Ty x h) i (from q)))) (λ q. q) (true-or-false (hasRoom s Ty x i))
+  where
+    above : roomFrom s Ty x h (attachLevel s Ty x h) ≡ true
+    above = first-holds (suc h) (roomFrom s Ty x h) (omega (arith, low))
+
+    from : hasRoom s Ty x i ≡ true → roomFrom s Ty x h i ≡ true
+    from q = all-of (suc h) (belowOrRoom s Ty x i) (λ m l. at m l (decLt m i) (decLt i m))
+      where
+        at : (m : ℕ) → m < suc h → Dec (m < i) → Dec (i < m) → belowOrRoom s Ty x i m ≡ true
+        at m l (yes g) r = or-intro-left (ltb m i) (hasRoom s Ty x m) (lt-ltb m i g)
+        at m l (no g) (yes r) =
+            or-intro-right (ltb m i) (hasRoom s Ty x m)
+            (or-right (ltb m (attachLevel s Ty x h)) _ (all-at (suc h) (belowOrRoom s Ty x (attachLevel s Ty x h)) above m l)
+            (le-ltb m (attachLevel s Ty x h) (omega (arith, e, r))))
+        at m l (no g) (no r) =
+            let w : i ≡ m = omega arith in
+            or-intro-right (ltb m i) (hasRoom s Ty x m) (subst (λ (m : ℕ). hasRoom s Ty x m ≡ true) w q)
 
 -- a delivery is the one of its sender's status
 pub delivery-is : (s t : List ℕ) (x y n : ℕ) → statusOf s x ≡ n

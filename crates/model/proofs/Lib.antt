@@ -52,7 +52,8 @@ pub mod Undoing
 pub mod Floors
 pub mod Attaching
 pub mod Reaching
-pub mod OneJoin
+pub mod Told
+pub mod Telling
 -- ---- lookup and verdict
 pub mod SoundEntries
 pub mod NextHop

@@ -20,8 +20,9 @@ use Rattle.model.proofs.Sound.{Sound, table-fits}
 use Rattle.model.proofs.BeginningKeepsSound.{CanBegin, begun-node, begun-kept, begun-new}
 use Rattle.model.proofs.Withdrawing.{withdrawn-kept, withdrawn-onward}
 use Rattle.model.proofs.Sender.{CanDeliver}
+use Rattle.model.proofs.ReplacingKeepsSound.{agree-kept}
 use Rattle.model.proofs.DeliveryDid.{asking-away, Attaches, Did, did-ask, did-attach, did-notify, delivery-did}
-use Rattle.model.proofs.TablesOnlyGrow.{Attached, settled-attached, Onward, begun-onward, later-delivered, delivered-count, delivered-record, delivered-kept, delivered-sender, delivered-onward}
+use Rattle.model.proofs.TablesOnlyGrow.{Attached, settled-attached, Onward, begun-onward, later-delivered, delivered-count, delivered-record, delivered-agree, delivered-sender, delivered-onward}
 use Rattle.model.proofs.NextHop.{level-below}
 use Rattle.model.proofs.Consistency.{Whole}
 use Rattle.model.proofs.NoRoom.{NoRoom, no-room-by, no-room-grows, whole-no-room}
@@ -139,7 +140,7 @@ module _ (s₀ : List ℕ) where
             subst (λ (u : ℕ). Attached s u ⊎ Roomless s t s₁ t₁ S on R u) (sym e) (sender (ap (isAttached s₁) (sym e) ∙ a .status))
         before u a (no e) = inl (record {
           node = record { low = a .node .low; high = omega (arith, a .node .high, delivered-count s t S x y c) };
-          status = sym (attached-same s s₁ u (delivered-kept s t S x y c u e)) ∙ a .status;
+          status = sym (attached-same s s₁ u (agree-kept x s s₁ (delivered-agree s t S x y c) u e)) ∙ a .status;
         })
 
 -- at that point itself

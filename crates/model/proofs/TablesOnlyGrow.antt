@@ -16,7 +16,7 @@ use Rattle.model.proofs.Status.{IsNode, attached-in-system, waiting-awa
 use Rattle.model.proofs.Settling.{settle-id, settle-attached}
 use Rattle.model.proofs.Sound.{Sound, node-fits, table-fits}
 use Rattle.model.proofs.Later.{Later}
-use Rattle.model.proofs.ReplacingKeepsSound.{agree-node, agree-kept, agree-count, agree-later, replaced-first, replaced-second, replaced-table}
+use Rattle.model.proofs.ReplacingKeepsSound.{Agree, agree-node, agree-count, agree-later, replaced-first, replaced-second, replaced-table}
 use Rattle.model.proofs.BeginningKeepsSound.{CanBegin, begun-later, begun-table}
 use Rattle.model.proofs.Sender.{CanDeliver}
 use Rattle.model.proofs.DeliveryDid.{Tells, Did, did-ask, did-attach, did-notify, delivery-did}
@@ -163,9 +163,9 @@ module _ (s t : List ℕ) (S : Sound s t) (x y : ℕ) (c : CanDeliver s x y) whe
   unfolding delivered
   delivered-record = node-stored s x (d .sender) fits
 
-  pub delivered-kept : (z : ℕ) → z ≢ x → nodeOf (delivered s t x y (delivery s t x y) .state) z ≡ nodeOf s z
+  pub delivered-agree : Agree x s (delivered s t x y (delivery s t x y) .state)
   unfolding delivered
-  delivered-kept = agree-kept x s (withNode s x (d .sender)) (agree-node s x fits (d .sender) (does .id))
+  delivered-agree = agree-node s x fits (d .sender) (does .id)
 
   pub delivered-sender : tableOf (delivered s t x y (delivery s t x y) .tables) x ≡ delivery s t x y .senderTable
   unfolding delivered

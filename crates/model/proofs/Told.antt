@@ -1,5 +1,5 @@
--- One join from a yes on: it attaches at a level below which every entry for it is full, tells every node that matches it in so many digits or more, and when
--- it has settled the network is whole. s₀ and t₀ are the memory at the yes, and x the node that joins. Assumes nothing.
+-- What a node that joins alone has done by telling others, and that the network is whole once nobody is due. s₀ and t₀ are the memory at a yes, and x is the
+-- one node that joined since. Assumes nothing.
 use Prim.Native.Nat.{ℕ, suc, _+_, _-_, _^_, _≤_, _<_}
 use mathlib.Core.Path.{_≡_, refl, sym, ap, subst, _∙_}
 use mathlib.Core.Logic.{_≢_, _⊎_, inl, inr, ⊎-elim}
