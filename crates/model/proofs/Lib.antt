@@ -54,6 +54,7 @@ pub mod Attaching
 pub mod Reaching
 pub mod Told
 pub mod Telling
+pub mod OneJoin
 -- ---- lookup and verdict
 pub mod SoundEntries
 pub mod NextHop

@@ -50,6 +50,16 @@ module _ (s₀ t₀ : List ℕ) (Y : Yes s₀ t₀) where
         → k ≤ suffixOf s (nodeCount s₀ + 1) (getD (tableOf t₀ u) p 0)
         → (hasNode told (getD (tableOf t₀ u) p 0) ≡ true) ⊎ Due (getD (tableOf t₀ u) p 0)
 
+  -- the same by another word for who is due
+  pub told-due : {s t : List ℕ} {k : ℕ} {Due Due′ : ℕ → Type 0} {told : ℕ} → ((v : ℕ) → 1 ≤ v → Due v → Due′ v) → Told s t k Due told → Told s t k Due′ told
+  told-due f T = record {
+    old = T .old;
+    near = T .near;
+    low = T .low;
+    high = T .high;
+    closed = λ u n h p hp nz near. ⊎-elim (λ e. inl e) (λ e. inr (f (getD (tableOf t₀ u) p 0) (omega (arith, nz)) e)) (T .closed u n h p hp nz near);
+  }
+
   -- ---- nobody is due any more: the network is whole
 
   module _ (s t : List ℕ) (S : Sound s t) (on : Onward s₀ t₀ s t) (count : nodeCount s ≡ nodeCount s₀ + 1) (R : Reaching s₀ s t)
