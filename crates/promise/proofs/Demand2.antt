@@ -59,7 +59,7 @@ module _ (m : Memory) (e : isTaken (verdictCall m .answer) ≡ true) where
   unfolding firstShort
   no-says f = field (says false f)
 
-  yes-says : consistent s t ≡ true → getD (verdictCall m .answer) 1 0 ≡ 1
+  pub yes-says : consistent s t ≡ true → getD (verdictCall m .answer) 1 0 ≡ 1
   yes-says f = field (says true f)
 
   pub says-yes : getD (verdictCall m .answer) 1 0 ≡ 1 → consistent s t ≡ true

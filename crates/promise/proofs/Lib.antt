@@ -11,4 +11,5 @@ pub mod Survey
 pub mod Records
 pub mod Withdrawals
 pub mod Failures
+pub mod OneJoin
 pub mod NoneFailed

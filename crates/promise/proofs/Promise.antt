@@ -44,7 +44,7 @@ pub record Started (m : Memory) (c : Call) : Type 0 where
   pub idle : Idle m c
 
 module _ (m : Memory) where
-  started : (c : Call) → starts m c ≡ true → Started m c
+  pub started : (c : Call) → starts m c ≡ true → Started m c
   unfolding starts step after foundCall readCall taken
   started (found b d K id) e =
       let z = taken-zero m (foundRefusal m b d K id) [] _ _ e in

@@ -1,14 +1,16 @@
 -- Every state of a run is sound, and the network only goes onward. Assumes nothing.
 use Prim.Native.Nat.{ℕ, _+_}
-use mathlib.Core.Path.{_≡_, sym, ap, subst}
+use mathlib.Core.Path.{_≡_, sym, ap, subst, _∙_}
+use mathlib.Core.Logic.{_≢_}
 use mathlib.Core.Bool.{true, false, not}
 use mathlib.Core.List.{List, [], _∷_}
-use borrow.Author.Tests.{not-true}
+use lib.ListN.{getD, replicate}
+use borrow.Author.Tests.{ne-eqb, not-true}
 use Rattle.model.specs.Memory.{Memory, nodeCount, isAttached}
 use Rattle.model.specs.Join.{begun, withdrawn, delivery, delivered}
 use Rattle.model.specs.Refusals.{beginRefusal, withdrawRefusal, deliverRefusal}
-use Rattle.model.specs.Calls.{Outcome, taken, deliveryFields, beginCall, withdrawCall, deliverCall}
-use Rattle.model.specs.Run.{Call, begin, withdraw, deliver, step, after, play, starts, goesOn}
+use Rattle.model.specs.Calls.{Outcome, refusedAt, refused, taken, deliveryFields, beginCall, withdrawCall, deliverCall}
+use Rattle.model.specs.Run.{Call, begin, withdraw, deliver, step, after, play, isTaken, starts, goesOn}
 use Rattle.model.proofs.Bools.{and-left, and-right}
 use Rattle.model.proofs.Sound.{Sound}
 use Rattle.model.proofs.BeginningKeepsSound.{begun-ok}
@@ -16,7 +18,8 @@ use Rattle.model.proofs.DeliveryKeepsSound.{delivered-ok}
 use Rattle.model.proofs.TablesOnlyGrow.{Onward, onward-refl, onward-trans, begun-onward, delivered-onward}
 use Rattle.model.proofs.Withdrawing.{withdrawn-ok, withdrawn-onward}
 use Rattle.model.proofs.Taken.{begin-taken, withdraw-taken, deliver-taken}
-use Rattle.model.proofs.Calls.{taken-is}
+use Rattle.model.proofs.Calls.{refused-is, taken-is}
+use Rattle.promise.specs.Withdrawals.{begunAs}
 use Rattle.promise.proofs.Steps.{Effect, still, begins, withdraws, delivers, effect}
 
 -- one call on, or many
@@ -69,6 +72,21 @@ module _ (m : Memory) (x y : ℕ) (e : deliverRefusal m x y ≡ 0) where
   pub deliver-answer : step m (deliver x y) .answer ≡ 0 ∷ deliveryFields (delivery (m .state) (m .tables) x y)
   unfolding taken
   deliver-answer = ap (λ (o : Outcome). o .answer) deliver-outcome
+
+-- what a refused delivery leaves and answers
+pub deliver-refused : (m : Memory) (x y : ℕ) → deliverRefusal m x y ≢ 0
+    → (after m (deliver x y) ≡ m) × (step m (deliver x y) .answer ≡ deliverRefusal m x y ∷ replicate 3 0)
+unfolding step after deliverCall refusedAt
+deliver-refused m x y nz =
+    let w = refused-is (deliverRefusal m x y) (refused m [] 3) _ nz in
+    (ap (λ (o : Outcome). o .memory) w, ap (λ (o : Outcome). o .answer) w)
+
+pub not-taken : (m : Memory) (x y : ℕ) → deliverRefusal m x y ≢ 0 → isTaken (step m (deliver x y) .answer) ≡ false
+not-taken m x y nz = ap isTaken (deliver-refused m x y nz .1) ∙ ne-eqb (deliverRefusal m x y) 0 nz
+
+-- the number of the node that begins
+pub begun-number : (m : Memory) (id gateway : ℕ) → beginRefusal m id gateway ≡ 0 → begunAs m id gateway ≡ nodeCount (m .state) + 1
+begun-number m id gateway r = ap (λ (l : List ℕ). getD l 1 0) (begin-answer m id gateway r)
 
 -- ---- any call that starts no new run, and any list of them
 

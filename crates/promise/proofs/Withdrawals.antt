@@ -13,7 +13,7 @@ use Rattle.model.specs.Ids.{validId}
 use Rattle.model.specs.Memory.{Memory, nodeCount, idOf, isInSystem, isAttached}
 use Rattle.model.specs.Join.{Delivery, kindAttached, withdrawn}
 use Rattle.model.specs.Refusals.{beginRefusal, withdrawRefusal, deliverRefusal}
-use Rattle.model.specs.Calls.{Outcome, refusedAt, refused, taken, deliveryFields, deliverCall, lookupCall, surveyCall, verdictCall, writeCall, soundCall}
+use Rattle.model.specs.Calls.{Outcome, taken, deliveryFields, lookupCall, surveyCall, verdictCall, writeCall, soundCall}
 use Rattle.model.specs.Run.{Call, found, read, begin, withdraw, deliver, lookup, survey, verdict, write, sound, step, after, play, history, isTaken}
 use Rattle.model.proofs.Bools.{and-left, and-right, and-intro, or-right, or-intro-right, true-or-false}
 use Rattle.model.proofs.Memory.{same-id}
@@ -27,24 +27,10 @@ use Rattle.model.proofs.Withdrawing.{withdrawn-long, withdrawn-count, withdrawn
 use Rattle.model.proofs.Undoing.{Beside, begun-beside, withdrawn-beside, delivered-beside, undone}
 use Rattle.model.proofs.Invisible.{refused-alike, done-alike, done-beside}
 use Rattle.model.proofs.Taken.{begin-taken, withdraw-taken, deliver-taken, sound-free, begin-free, withdraw-free}
-use Rattle.model.proofs.Calls.{refused-is, taken-is, looks-on}
+use Rattle.model.proofs.Calls.{taken-is, looks-on}
 use Rattle.promise.specs.Withdrawals.{isOwn, onlyOwn, begunAs, Apart, Undone, Unseen, Withdrawals}
 use Rattle.promise.proofs.Demand1.{taken-number, demand1}
-use Rattle.promise.proofs.Run.{begin-after, begin-answer, withdraw-after, withdraw-answer, withdraw-away, deliver-after, deliver-answer}
-
--- what a refused delivery leaves and answers
-deliver-refused : (m : Memory) (x y : ℕ) → deliverRefusal m x y ≢ 0
-    → (after m (deliver x y) ≡ m) × (step m (deliver x y) .answer ≡ deliverRefusal m x y ∷ replicate 3 0)
-unfolding step after deliverCall refusedAt
-deliver-refused m x y nz =
-    let w = refused-is (deliverRefusal m x y) (refused m [] 3) _ nz in
-    (ap (λ (o : Outcome). o .memory) w, ap (λ (o : Outcome). o .answer) w)
-
-not-taken : (m : Memory) (x y : ℕ) → deliverRefusal m x y ≢ 0 → isTaken (step m (deliver x y) .answer) ≡ false
-not-taken m x y nz = ap isTaken (deliver-refused m x y nz .1) ∙ ne-eqb (deliverRefusal m x y) 0 nz
-
-begun-number : (m : Memory) (id gateway : ℕ) → beginRefusal m id gateway ≡ 0 → begunAs m id gateway ≡ nodeCount (m .state) + 1
-begun-number m id gateway r = ap (λ (l : List ℕ). getD l 1 0) (begin-answer m id gateway r)
+use Rattle.promise.proofs.Run.{begin-after, begin-answer, begun-number, withdraw-after, withdraw-answer, withdraw-away, deliver-after, deliver-answer, deliver-refused, not-taken}
 
 -- ---- what it leaves alone
 

@@ -26,20 +26,20 @@ OnlyDeliveries m cs =
 abbrev pub deliveriesOf : ℕ → List Event → ℕ
 deliveriesOf x es = tallyFrom 0 (λ kind. true) x 0 es
 
--- a join began, and the calls cs followed
-pub record OneJoin (m : Memory) (id gateway : ℕ) (cs : List Call) : Type 0 where
+-- x began to join in m, and the calls cs followed
+pub record OneJoin (m : Memory) (id gateway : ℕ) (cs : List Call) (x : ℕ) : Type 0 where
   -- at most d + n of its deliveries were taken, n being the nodes before it
-  pub within : deliveriesOf (begunAs m id gateway) (history m (begin id gateway ∷ cs)) ≤ digits (m .state) + nodeCount (m .state)
+  pub within : deliveriesOf x (history m (begin id gateway ∷ cs)) ≤ digits (m .state) + nodeCount (m .state)
   -- no delivery of another node can be taken
-  pub alone : (y z : ℕ) → isTaken (step (play m (begin id gateway ∷ cs)) (deliver y z) .answer) ≡ true → y ≡ begunAs m id gateway
+  pub alone : (y z : ℕ) → isTaken (step (play m (begin id gateway ∷ cs)) (deliver y z) .answer) ≡ true → y ≡ x
   -- while it has not settled some delivery of its own can
-  pub goes-on : isInSystem (play m (begin id gateway ∷ cs) .state) (begunAs m id gateway) ≡ false
-      → (y : ℕ) × (isTaken (step (play m (begin id gateway ∷ cs)) (deliver (begunAs m id gateway) y) .answer) ≡ true)
+  pub goes-on : isInSystem (play m (begin id gateway ∷ cs) .state) x ≡ false
+      → (y : ℕ) × (isTaken (step (play m (begin id gateway ∷ cs)) (deliver x y) .answer) ≡ true)
   -- so after d + n of them it has settled
-  pub settles : deliveriesOf (begunAs m id gateway) (history m (begin id gateway ∷ cs)) ≡ digits (m .state) + nodeCount (m .state)
-      → isInSystem (play m (begin id gateway ∷ cs) .state) (begunAs m id gateway) ≡ true
-  -- and once it has settled the verdict passes again
-  pub whole : isInSystem (play m (begin id gateway ∷ cs) .state) (begunAs m id gateway) ≡ true → Passes (play m (begin id gateway ∷ cs))
+  pub settles : deliveriesOf x (history m (begin id gateway ∷ cs)) ≡ digits (m .state) + nodeCount (m .state)
+      → isInSystem (play m (begin id gateway ∷ cs) .state) x ≡ true
+  -- and once it has settled the network passes the verdict again
+  pub whole : isInSystem (play m (begin id gateway ∷ cs) .state) x ≡ true → Passes (play m (begin id gateway ∷ cs))
 
 -- ---- many joins
 
@@ -54,7 +54,7 @@ InTurn m cs =
 pub record Joins : Type 0 where
   -- where the network passes the verdict, one join
   pub one : (m : Memory) (id gateway : ℕ) (cs : List Call) → Passes m → isTaken (step m (begin id gateway) .answer) ≡ true
-      → OnlyDeliveries (after m (begin id gateway)) cs → OneJoin m id gateway cs
+      → OnlyDeliveries (after m (begin id gateway)) cs → OneJoin m id gateway cs (begunAs m id gateway)
   -- and any number of joins one after another, withdrawn or not: the network passes wherever every node has settled
   pub in-turn : (m : Memory) (cs : List Call) → Passes m → goesOn m cs ≡ true → InTurn m cs
       → isTaken (verdictCall (play m cs) .answer) ≡ true → Passes (play m cs)
