@@ -152,6 +152,10 @@ module _ (s t : List ℕ) (b d K id : ℕ) (long : Long s t) (range : InRange b 
     tables-rest = λ p l h. tables-zero p (omega (arith, settings .count, l)) h;
   }
 
+  pub founded-only : (x : ℕ) → IsNode (founded s t b d K id .state) x → 1 ≡ x
+  unfolding s₁
+  founded-only = only
+
   pub founded-in-system : (x : ℕ) → IsNode (founded s t b d K id .state) x → isInSystem (founded s t b d K id .state) x ≡ true
   unfolding s₁
   founded-in-system x i = subst (λ (x : ℕ). isInSystem s₁ x ≡ true) (only x i) (eq-eqb _ 0 (same-status stored))

@@ -279,3 +279,8 @@ module _ (s t : List ℕ) (S : Sound s t) where
       (λ z nz q.
       subst (λ (j : ℕ). roomFor (depth s) (tableOf t u) i j z ≡ false) (qualified-digit (idOf s u) (idOf s z) i j q)
       (none u z i nu nz (qualified-suffix (digits s) (idOf s u) (idOf s z) i j (omega (arith, hi)) q) hi))
+
+  -- so a network of one node is whole
+  pub single-whole : ((u z : ℕ) → IsNode s u → IsNode s z → u ≡ z) → Whole s t
+  single-whole one =
+      no-room-whole (λ u z i nu nz low hi. subst (λ (z : ℕ). NoRoom s (tableOf t u) z i) (one u z nu nz) (own-no-room u i nu hi))

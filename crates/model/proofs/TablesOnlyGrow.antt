@@ -5,9 +5,10 @@ use mathlib.Core.Path.{_≡_, refl, _∙_}
 use mathlib.Core.Logic.{_≢_}
 use mathlib.Core.Bool.{true, false}
 use mathlib.Core.List.{List}
+use native.Mathlib.Omega.{arith}
 use lib.ListN.{length}
 use Rattle.model.specs.Memory.{digits, depth, nodeCount, Node, nodeOf, idOf, isAttached, isInSystem, withNode, tableOf}
-use Rattle.model.specs.Join.{Delivery, notifyingNode, begun, delivery, delivered}
+use Rattle.model.specs.Join.{Delivery, notifyingNode, kindAttached, begun, delivery, delivered}
 use Rattle.model.proofs.Bools.{back-false, not-both}
 use Rattle.model.proofs.Memory.{same-id, node-stored, table-length}
 use Rattle.model.proofs.Tables.{Grows, grows-refl, grows-trans}
@@ -19,7 +20,7 @@ use Rattle.model.proofs.Later.{Later}
 use Rattle.model.proofs.ReplacingKeepsSound.{Agree, agree-node, agree-count, agree-later, replaced-first, replaced-second, replaced-table}
 use Rattle.model.proofs.BeginningKeepsSound.{CanBegin, begun-later, begun-table}
 use Rattle.model.proofs.Sender.{CanDeliver}
-use Rattle.model.proofs.DeliveryDid.{Tells, Did, did-ask, did-attach, did-notify, delivery-did}
+use Rattle.model.proofs.DeliveryDid.{Asking, copies-on, starts-waiting, waits-on, Tells, Did, did-ask, did-attach, did-notify, delivery-did}
 
 -- x is an attached node
 pub record Attached (s : List ℕ) (x : ℕ) : Type 0 where
@@ -166,6 +167,20 @@ module _ (s t : List ℕ) (S : Sound s t) (x y : ℕ) (c : CanDeliver s x y) whe
   pub delivered-agree : Agree x s (delivered s t x y (delivery s t x y) .state)
   unfolding delivered
   delivered-agree = agree-node s x fits (d .sender) (does .id)
+
+  -- one that answers that it attached its sender did
+  pub kind-attaches : delivery s t x y .kind ≡ kindAttached → isAttached (delivered s t x y (delivery s t x y) .state) x ≡ true
+  kind-attaches e = go (delivery-did s t S x y c)
+    where
+      asking : {status target kind : ℕ} → Asking s x y status target kind → kind ≢ kindAttached
+      asking (copies-on f q k i n) g = omega (arith, k, g)
+      asking (starts-waiting f q k n) g = omega (arith, k, g)
+      asking (waits-on f q k n) g = omega (arith, k, g)
+
+      go : Did s t x y d → isAttached (delivered s t x y d .state) x ≡ true
+      go (did-ask w) = absurd (asking (w .how) e)
+      go (did-attach w) = settle-attached _ refl (delivered s t x y d .state) x (delivered-record ∙ w .tells .sender)
+      go (did-notify w) = absurd (omega (arith, w .kind, e))
 
   pub delivered-sender : tableOf (delivered s t x y (delivery s t x y) .tables) x ≡ delivery s t x y .senderTable
   unfolding delivered

@@ -12,4 +12,5 @@ pub mod Records
 pub mod Withdrawals
 pub mod Failures
 pub mod OneJoin
+pub mod Joins
 pub mod NoneFailed
