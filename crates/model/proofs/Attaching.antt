@@ -1,5 +1,5 @@
 -- A node that attaches has learned enough: where its receiver has no room for a node in system, it has none itself. Assumes nothing.
-use Prim.Native.Nat.{ℕ, _+_, _/_, _≤_, _<_}
+use Prim.Native.Nat.{ℕ, _≤_, _<_}
 use mathlib.Core.Path.{_≡_, refl, sym, ap, subst, subst₂, subst₃, _∙_}
 use mathlib.Core.Logic.{_≢_, inl, ⊎-elim}
 use mathlib.Core.Bool.{true, false}
@@ -19,7 +19,7 @@ use Rattle.model.proofs.Ids.{InRange, digit-lt, suffix-digit, suffix-sy
 use Rattle.model.proofs.Nodes.{suffix-by}
 use Rattle.model.proofs.Memory.{table-length}
 use Rattle.model.proofs.Tables.{GapFree}
-use Rattle.model.proofs.Status.{IsNode, attached-in-system, attached-other, waiting-away}
+use Rattle.model.proofs.Status.{IsNode, attached-other, waiting-away}
 use Rattle.model.proofs.Sound.{SlotOk, Sound, node-fits, table-fits}
 use Rattle.model.proofs.SoundNodes.{stands-node, own, suffix-below}
 use Rattle.model.proofs.LearningKeepsRules.{entries-of, gap-free}

@@ -18,16 +18,16 @@ use Rattle.model.specs.Tables.{slotPlace, slotAt, slotIs, entrySize, hol
 use Rattle.model.specs.Nodes.{suffixOf, qualifies}
 use Rattle.model.specs.Learning.{floorOf, roomFor, learnAt, learn, learnPlace, learnTable}
 use Rattle.model.specs.Consistency.{howMany, neighbors, entryWhole}
-use Rattle.model.proofs.Bools.{true-or-false, and-left, and-right, not-both}
+use Rattle.model.proofs.Bools.{true-or-false, and-right}
 use Rattle.model.proofs.Loops.{any-of, count-le, first-some, first-holds, each-does}
 use Rattle.model.proofs.Counting.{count-least, count-most}
 use Rattle.model.proofs.Ids.{InRange, digit-lt, valid-digit, qualified-of, qualified-suffix, qualified-digit}
 use Rattle.model.proofs.Tables.{size-le, size-filled, holds-not, GapFree, gap-rest, append-here, Grows, grown-size}
 use Rattle.model.proofs.Status.{IsNode}
 use Rattle.model.proofs.Sound.{SlotOk, Sound}
-use Rattle.model.proofs.Learning.{learn-at-grows, learn-grows, learn-place-is, learn-place-grows}
+use Rattle.model.proofs.Learning.{learn-at-grows, learn-place-is, learn-place-grows}
 use Rattle.model.proofs.LearningKeepsRules.{entries-of, gap-free}
-use Rattle.model.proofs.SoundEntries.{nodes-least, entry-fits, size-is-length, entry-slot, entry-node, entry-qualifies, entry-differ}
+use Rattle.model.proofs.SoundEntries.{nodes-least, size-is-length, entry-slot, entry-node, entry-qualifies, entry-differ}
 use Rattle.model.proofs.Consistency.{Whole, entry-fewer}
 
 -- ---- an entry

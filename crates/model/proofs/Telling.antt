@@ -1,13 +1,13 @@
 -- A delivery of a node that joins alone by which it tells its receiver. Assumes nothing.
-use Prim.Native.Nat.{ℕ, suc, _+_, _-_, _^_, _≤_, _<_}
-use mathlib.Core.Path.{_≡_, refl, sym, ap, subst, subst₃, _∙_}
+use Prim.Native.Nat.{ℕ, suc, _+_, _-_, _≤_, _<_}
+use mathlib.Core.Path.{_≡_, sym, ap, subst, subst₃, _∙_}
 use mathlib.Core.Logic.{_≢_, _⊎_, inl, inr, ⊎-elim}
 use mathlib.Core.Bool.{true, false}
 use mathlib.Core.List.{List}
 use native.Mathlib.Omega.{arith}
 use lib.ListN.{getD}
 use borrow.Author.Tests.{ltb-false}
-use Rattle.model.specs.Ids.{digitOf, lowDigits}
+use Rattle.model.specs.Ids.{digitOf}
 use Rattle.model.specs.Memory.{base, digits, depth, nodeCount, idOf, hasNode, addNode, tableOf}
 use Rattle.model.specs.Tables.{slotPlace, slotAt, entrySize}
 use Rattle.model.specs.Nodes.{suffixOf}
@@ -25,7 +25,7 @@ use Rattle.model.proofs.SoundNodes.{stands-node, own, suffix-below}
 use Rattle.model.proofs.Learning.{learn-grows}
 use Rattle.model.proofs.Gather.{ToNotify, gather-takes, gather-keeps}
 use Rattle.model.proofs.Sender.{CanDeliver}
-use Rattle.model.proofs.DeliveryDid.{Tells, levelAt, Attaches, level-least, to-receiver}
+use Rattle.model.proofs.DeliveryDid.{levelAt, Attaches, level-least, to-receiver}
 use Rattle.model.proofs.ReplacingKeepsSound.{Agree, agree-id}
 use Rattle.model.proofs.TablesOnlyGrow.{Attached, settled-attached, Onward, later-delivered, delivered-agree, delivered-receiver, delivered-onward}
 use Rattle.model.proofs.NoRoom.{NoRoom, no-room-by, no-room-grows, full-no-room, gapless, filled-by, node-learned}

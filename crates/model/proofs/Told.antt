@@ -1,9 +1,9 @@
 -- What a node that joins alone has done by telling others, and that the network is whole once nobody is due. s₀ and t₀ are the memory at a yes, and x is the
 -- one node that joined since. Assumes nothing.
-use Prim.Native.Nat.{ℕ, suc, _+_, _-_, _^_, _≤_, _<_}
-use mathlib.Core.Path.{_≡_, refl, sym, ap, subst, _∙_}
+use Prim.Native.Nat.{ℕ, _+_, _^_, _≤_, _<_}
+use mathlib.Core.Path.{_≡_, sym, ap, subst, _∙_}
 use mathlib.Core.Logic.{_≢_, _⊎_, inl, inr, ⊎-elim}
-use mathlib.Core.Bool.{true, false}
+use mathlib.Core.Bool.{true}
 use mathlib.Core.List.{List}
 use native.Mathlib.Nat.{le-refl}
 use native.Mathlib.Decide.{decLt, ℕ-discrete}
@@ -13,7 +13,6 @@ use Rattle.model.specs.Memory.{digits, depth, nodeCount, idOf, isInSyste
 use Rattle.model.specs.Nodes.{suffixOf, countNodes}
 use Rattle.model.specs.Lookup.{nextHop}
 use Rattle.model.proofs.Loops.{count-none}
-use Rattle.model.proofs.Bools.{not-both}
 use Rattle.model.proofs.Ids.{suffix-sym, suffix-through}
 use Rattle.model.proofs.Sets.{has-none}
 use Rattle.model.proofs.Nodes.{suffix-by}

@@ -1,9 +1,9 @@
 -- Joins from a verdict that said yes, one after another or many at once. Assumes nothing.
 use Prim.Native.Nat.{ℕ, _+_, _<_}
 use mathlib.Core.Path.{_≡_, refl, sym, ap, subst, _∙_}
-use mathlib.Core.Logic.{_≢_, ⊎-elim}
+use mathlib.Core.Logic.{⊎-elim}
 use mathlib.Core.Bool.{true, false, not}
-use mathlib.Core.List.{List, [], _∷_, _++_}
+use mathlib.Core.List.{List, [], _∷_}
 use native.Mathlib.Omega.{arith}
 use lib.Dec.{eqb}
 use lib.ListN.{getD}
@@ -11,13 +11,12 @@ use borrow.Author.Tests.{not-true}
 use Rattle.model.specs.Memory.{Memory, depth, nodeCount, inSystem, isInSystem, isAttached, hasNode}
 use Rattle.model.specs.Join.{kindAttached, founded}
 use Rattle.model.specs.Lookup.{endFailed}
-use Rattle.model.specs.Refusals.{foundRefusal, beginRefusal, withdrawRefusal, deliverRefusal, stateRefusal}
-use Rattle.model.specs.Calls.{Outcome, refused, taken, foundCall, soundCall, lookupCall, verdictCall}
+use Rattle.model.specs.Refusals.{foundRefusal, beginRefusal, withdrawRefusal, deliverRefusal}
+use Rattle.model.specs.Calls.{Outcome, refused, taken, foundCall, lookupCall, verdictCall}
 use Rattle.model.specs.Run.{Call, found, begin, withdraw, deliver, sound, step, after, play, history, isTaken, starts, goesOn}
 use Rattle.model.proofs.Bools.{and-left, and-right, or-none-right, true-or-false, not-both}
 use Rattle.model.proofs.Memory.{same-status}
 use Rattle.model.proofs.Status.{IsNode, is-node, attached-in-system}
-use Rattle.model.proofs.Sound.{Sound}
 use Rattle.model.proofs.FoundingIsSound.{founded-ok, founded-only, founded-in-system}
 use Rattle.model.proofs.BeginningKeepsSound.{begun-new}
 use Rattle.model.proofs.Sender.{CanDeliver}
@@ -28,10 +27,10 @@ use Rattle.model.proofs.Progress.{some-delivery}
 use Rattle.model.proofs.Told.{Yes}
 use Rattle.model.proofs.OneJoin.{joiner, begun-alone}
 use Rattle.model.proofs.Taken.{found-taken, begin-taken, withdraw-taken, deliver-taken, state-taken, withdraw-free}
-use Rattle.model.proofs.Calls.{taken-is, taken-zero}
+use Rattle.model.proofs.Calls.{taken-is}
 use Rattle.promise.specs.Promise.{Passes, NodeIn}
 use Rattle.promise.specs.Failures.{failedNodes}
-use Rattle.promise.specs.Withdrawals.{onlyOwn, begunAs}
+use Rattle.promise.specs.Withdrawals.{onlyOwn}
 use Rattle.promise.specs.OneJoin.{InTurn, Joins}
 use Rattle.promise.proofs.Demand1.{taken-number}
 use Rattle.promise.proofs.Demand2.{settled}

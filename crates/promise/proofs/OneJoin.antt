@@ -1,9 +1,9 @@
 -- One join from a verdict that said yes, of the calls. Assumes nothing.
 use Prim.Native.Nat.{ℕ, _+_}
 use mathlib.Core.Path.{_≡_, refl, sym, ap, subst, subst₂, _∙_}
-use mathlib.Core.Logic.{_⊎_, inl, inr, ⊎-elim}
+use mathlib.Core.Logic.{⊎-elim}
 use mathlib.Core.Bool.{Bool, true, false, cond}
-use mathlib.Core.List.{List, [], _∷_, _++_}
+use mathlib.Core.List.{List, [], _∷_}
 use native.Mathlib.Decide.{ℕ-discrete}
 use native.Mathlib.Omega.{arith}
 use lib.Dec.{eqb}
@@ -16,11 +16,11 @@ use Rattle.model.specs.Run.{Call, begin, deliver, step, after, play, history, i
 use Rattle.model.proofs.Bools.{true-or-false}
 use Rattle.model.proofs.Status.{IsNode}
 use Rattle.model.proofs.Sound.{Sound}
-use Rattle.model.proofs.BeginningKeepsSound.{CanBegin, begun-count}
+use Rattle.model.proofs.BeginningKeepsSound.{begun-count}
 use Rattle.model.proofs.Withdrawing.{withdrawn-count}
 use Rattle.model.proofs.Sender.{CanDeliver}
-use Rattle.model.proofs.Progress.{some-own, only-own}
-use Rattle.model.proofs.Consistency.{Whole, consistent-whole, whole-consistent}
+use Rattle.model.proofs.Progress.{some-own}
+use Rattle.model.proofs.Consistency.{consistent-whole, whole-consistent}
 use Rattle.model.proofs.Told.{Yes}
 use Rattle.model.proofs.OneJoin.{Alone, joiner, others, alone-bound, alone-whole, begun-alone, delivered-alone}
 use Rattle.model.proofs.Taken.{begin-taken, withdraw-taken, deliver-taken, deliver-free, verdict-free}
