@@ -7,6 +7,7 @@ use mathlib.Core.Bool.{Bool, true, false, not, cond}
 use mathlib.Core.List.{List}
 use native.Mathlib.Omega.{arith}
 use lib.ListN.{getD}
+use lib.Dec.{leb, eqb}
 use borrow.Author.Tests.{eqb-false, ne-eqb, leb-true, le-leb, not-true}
 use Rattle.model.specs.Memory.{hasNode, addNode}
 use Rattle.model.specs.Nodes.{suffixOf}
@@ -22,6 +23,7 @@ pub record ToNotify (s : List ℕ) (x k notified u : ℕ) : Type 0 where
   pub suffix : k ≤ suffixOf s x u
   pub new : hasNode notified u ≡ false
 
+-- the test says so, both ways
 to-notify : (s : List ℕ) (x k notified u : ℕ) → toNotify s x k notified u ≡ true → ToNotify s x k notified u
 to-notify s x k notified u e = record {
   some = eqb-false u 0 (not-true _ (search parts));
@@ -32,8 +34,11 @@ to-notify s x k notified u e = record {
 
 to-notify-of : (s : List ℕ) (x k notified u : ℕ) → ToNotify s x k notified u → toNotify s x k notified u ≡ true
 to-notify-of s x k notified u n =
-    and-intro _ _ (ap not (ne-eqb u 0 (n .some)))
-    (and-intro _ _ (ap not (ne-eqb u x (n .other))) (and-intro _ _ (le-leb k (suffixOf s x u) (n .suffix)) (ap not (n .new))))
+    let some : not (eqb u 0) ≡ true = ap not (ne-eqb u 0 (n .some)) in
+    let other : not (eqb u x) ≡ true = ap not (ne-eqb u x (n .other)) in
+    let suffix : leb k (suffixOf s x u) ≡ true = le-leb k (suffixOf s x u) (n .suffix) in
+    let new : not (hasNode notified u) ≡ true = ap not (n .new) in
+    search and-intro
 
 -- v stands in the table and is to be notified
 pub record Gathered (s : List ℕ) (x k notified : ℕ) (T : List ℕ) (v : ℕ) : Type 0 where
@@ -57,6 +62,13 @@ module _ (s : List ℕ) (x k notified : ℕ) (T : List ℕ) where
       go (inl e) = inr (to-notify s x k notified (getD T p 0) e, went true e)
       go (inr e) = inl (went false e)
 
+  -- it leaves it where the node is not to be notified, and adds one that is
+  pub place-passes : (p nodes : ℕ) → (ToNotify s x k notified (getD T p 0) → ⊥) → gatherPlace s x k notified T p nodes ≡ nodes
+  place-passes p nodes never = ⊎-elim (λ e. e) (λ c. absurd (never (c .0))) (place-cases p nodes)
+
+  pub place-adds : (p nodes : ℕ) → ToNotify s x k notified (getD T p 0) → gatherPlace s x k notified T p nodes ≡ addNode nodes (getD T p 0)
+  place-adds p nodes n = rw (to-notify-of s x k notified (getD T p 0) n)
+
   pub gather-has : (nodes v : ℕ) → 1 ≤ v → hasNode (gather s x k notified T nodes) v ≡ true
       → (hasNode nodes v ≡ true) ⊎ Gathered s x k notified T v
   unfolding gather
@@ -78,13 +90,10 @@ module _ (s : List ℕ) (x k notified : ℕ) (T : List ℕ) where
       (λ p a q b.
       ⊎-elim (λ e. rw e b) (λ c. rw (c .1) (add-within a n (getD T p 0) b (omega (arith, c .0 .some)) (h p q))) (place-cases p a))
 
-  -- a place keeps what was in the set, and takes its node
+  -- a place keeps what was in the set
   place-keeps : (p nodes v : ℕ) → 1 ≤ v → hasNode nodes v ≡ true → hasNode (gatherPlace s x k notified T p nodes) v ≡ true
   place-keeps p nodes v l h =
       ⊎-elim (λ e. rw e h) (λ c. rw (c .1) (add-keeps nodes (getD T p 0) v (omega (arith, c .0 .some)) l h)) (place-cases p nodes)
-
-  place-takes : (p nodes : ℕ) → ToNotify s x k notified (getD T p 0) → hasNode (gatherPlace s x k notified T p nodes) (getD T p 0) ≡ true
-  place-takes p nodes n = rw (to-notify-of s x k notified (getD T p 0) n) (has-added nodes (getD T p 0))
 
   -- each node of the table that x is to notify is in the set then
   pub gather-takes : (nodes p : ℕ) → p < 512 → ToNotify s x k notified (getD T p 0)
@@ -92,7 +101,7 @@ module _ (s : List ℕ) (x k notified : ℕ) (T : List ℕ) where
   unfolding gather
   gather-takes nodes p l n =
       each-does (λ (a : ℕ). Unit {0}) (λ (a : ℕ). hasNode a (getD T p 0) ≡ true) 512 (gatherPlace s x k notified T) nodes tt (λ i a g q. tt) p l
-      (λ a q. place-takes p a n) (λ i a g q. place-keeps i a (getD T p 0) (omega (arith, n .some)))
+      (λ a q. rw (place-adds p a n) (has-added a (getD T p 0))) (λ i a g q. place-keeps i a (getD T p 0) (omega (arith, n .some)))
 
   -- and what was in it stays
   pub gather-keeps : (nodes v : ℕ) → 1 ≤ v → hasNode nodes v ≡ true → hasNode (gather s x k notified T nodes) v ≡ true

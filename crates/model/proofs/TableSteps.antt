@@ -19,7 +19,10 @@ use Rattle.model.specs.Nodes.{suffixOf}
 use Rattle.model.specs.Learning.{floorOf, roomFor, learnAt, learn, learnPlace}
 use Rattle.model.specs.Join.{gatherPlace}
 use Rattle.model.proofs.Loops.{any-zero, any-goes, any-leaves, any-ends, each-from, each-step, each-ends}
+use Rattle.model.proofs.Bools.{not-both}
 use Rattle.model.proofs.Tables.{size-le, size-least, size-empty}
+use Rattle.model.proofs.Learning.{learn-place-is}
+use Rattle.model.proofs.Gather.{ToNotify, place-passes, place-adds}
 
 -- ---- the slots of an entry, one after the other
 
@@ -109,29 +112,27 @@ module _ (s : List ℕ) (x : ℕ) (Y : List ℕ) (p : ℕ) (T : List ℕ) where
   place-own e = simp (eq-eqb (getD Y p 0) x e, or-true)
 
   pub place-learns : (T′ : List ℕ) → getD Y p 0 ≢ 0 → getD Y p 0 ≢ x → T′ ≡ learn s x (getD Y p 0) T → T′ ≡ learnPlace s x Y p T
-  unfolding learnPlace
-  place-learns T′ nz ne e = e ∙ simp (ne-eqb (getD Y p 0) 0 nz, ne-eqb (getD Y p 0) x ne)
+  place-learns T′ nz ne e = e ∙ sym (learn-place-is s x Y p T nz ne)
 
 -- ---- a place of a table, gathered by x from level k on; m is what the code has for the common suffix
 
 module _ (s : List ℕ) (x k notified : ℕ) (T : List ℕ) (p nodes : ℕ) where
   pub gather-empty : getD T p 0 ≡ 0 → nodes ≡ gatherPlace s x k notified T p nodes
-  gather-empty e = simp (eq-eqb (getD T p 0) 0 e)
+  gather-empty e = sym (place-passes s x k notified T p nodes (λ n. n .some e))
 
   pub gather-own : getD T p 0 ≡ x → nodes ≡ gatherPlace s x k notified T p nodes
-  gather-own e = simp (eq-eqb (getD T p 0) x e, and-false)
+  gather-own e = sym (place-passes s x k notified T p nodes (λ n. n .other e))
 
   pub gather-far : (m : ℕ) → m ≡ suffixOf s x (getD T p 0) → m < k → nodes ≡ gatherPlace s x k notified T p nodes
-  gather-far m e l = simp (lt-leb k (suffixOf s x (getD T p 0)) (omega arith), and-false)
+  gather-far m e l = sym (place-passes s x k notified T p nodes (λ n. omega (arith, n .suffix)))
 
   pub gather-notified : (r : Bool) → r ≡ hasNode notified (getD T p 0) → r ≡ true → nodes ≡ gatherPlace s x k notified T p nodes
-  gather-notified r e h = let w : hasNode notified (getD T p 0) ≡ true = sym e ∙ h in simp (w, and-false)
+  gather-notified r e h = sym (place-passes s x k notified T p nodes (λ n. not-both (hasNode notified (getD T p 0)) (sym e ∙ h) (n .new)))
 
   pub gather-adds : (m : ℕ) (r : Bool) (y : ℕ) → getD T p 0 ≢ 0 → getD T p 0 ≢ x → m ≡ suffixOf s x (getD T p 0) → k ≤ m
       → r ≡ hasNode notified (getD T p 0) → r ≡ false → y ≡ addNode nodes (getD T p 0) → y ≡ gatherPlace s x k notified T p nodes
   gather-adds m r y nz ne e l q h a =
-      let w : hasNode notified (getD T p 0) ≡ false = sym q ∙ h in
-      a ∙ simp (ne-eqb (getD T p 0) 0 nz, ne-eqb (getD T p 0) x ne, le-leb k (suffixOf s x (getD T p 0)) (omega arith), w)
+      a ∙ sym (place-adds s x k notified T p nodes (record { some = nz; other = ne; suffix = omega arith; new = sym q ∙ h }))
 
 -- ---- the own slots of a new table, level by level; j is what the code has for the digit
 
