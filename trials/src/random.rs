@@ -11,7 +11,7 @@ mod states;
 
 pub use calls::judging_calls;
 pub use damage::damage;
-pub use ids::{bad_id, bad_number, fresh_id, id, settings};
+pub use ids::{all_ids, bad_id, bad_number, free_id, free_ids, fresh_id, id, settings};
 pub use images::{
     changed_bytes, changed_records, cuts, damaged_image, head, image, image_damages, parts,
     with_records, READING,

@@ -2,7 +2,7 @@
 
 use crate::engine::Second;
 use crate::lent::Lent;
-use crate::random::{built_state, fresh_id, id, parts, with_records, Rng};
+use crate::random::{built_state, free_id, id, parts, with_records, Rng};
 use crate::script::Call;
 use crate::second::memory::{COUNT, STATE_WORDS, TABLE_BYTES};
 use crate::second::network::Network;
@@ -43,7 +43,7 @@ pub fn joined(rng: &mut Rng, settings: [u64; 3], nodes: usize) -> Lent {
     let mut memory = founded(rng, settings);
     while memory.state[COUNT] < nodes as u64 {
         let network = Network::decode(memory.used_state());
-        let id = fresh_id(rng, &network).expect("there are more ids than nodes");
+        let id = free_id(rng, &network).expect("there are more ids than nodes");
         let gateway = rng.between(1, network.count() as u64);
         memory.call(&Second, &Call::Begin { id, gateway });
         while deliver(rng, &mut memory) {}

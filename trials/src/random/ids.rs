@@ -40,6 +40,29 @@ pub fn fresh_id(rng: &mut Rng, network: &Network) -> Option<u32> {
         .find(|&id| network.iter().all(|(_, node)| node.id != id))
 }
 
+/// Every valid id, rising.
+pub fn all_ids(settings: Settings) -> impl Iterator<Item = u32> {
+    let (base, digits) = (settings.base() as u64, settings.digits() as u32);
+    (0..base.pow(digits)).map(move |number| {
+        let digit = |level| (number / base.pow(level) % base) as u32;
+        (0..digits).fold(0, |id, level| id | digit(level) << (4 * level))
+    })
+}
+
+/// Those that no node has, rising.
+pub fn free_ids(network: &Network) -> impl Iterator<Item = u32> + '_ {
+    let is_free = |id: &u32| network.iter().all(|(_, node)| node.id != *id);
+    all_ids(network.settings).filter(is_free)
+}
+
+/// A valid id that no node has, as `fresh_id`; any of the few that are left where it finds none.
+pub fn free_id(rng: &mut Rng, network: &Network) -> Option<u32> {
+    fresh_id(rng, network).or_else(|| {
+        let left: Vec<u32> = free_ids(network).collect();
+        (!left.is_empty()).then(|| rng.pick(&left))
+    })
+}
+
 /// An id with a digit too large or a bit above its digits, if the settings leave room for one.
 pub fn bad_id(rng: &mut Rng, settings: Settings) -> Option<u32> {
     (0..50)
