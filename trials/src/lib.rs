@@ -11,6 +11,7 @@
 //! - `surveys`: what holds of every survey.
 //! - `failures`: what holds of lookups and surveys around failed nodes, and trials of it.
 //! - `withdrawals`: what holds of every withdrawal, and trials of it.
+//! - `one_join`: what holds of a single join into a network that passes the verdict, and of several at once, and trials of it.
 //! - `panel`: what holds of each node's two counts.
 //! - `paper`: the images of document 01.
 //! - `by_hand`: other images, some with the counts of their survey.
@@ -27,6 +28,7 @@ pub mod failures;
 pub mod fenced;
 pub mod lent;
 pub mod met;
+pub mod one_join;
 pub mod panel;
 pub mod paper;
 pub mod random;

@@ -8,6 +8,8 @@ mod edges;
 mod failures;
 #[path = "second_engine/images.rs"]
 mod images;
+#[path = "second_engine/one_join.rs"]
+mod one_join;
 #[path = "second_engine/panel.rs"]
 mod panel;
 #[path = "second_engine/plain.rs"]

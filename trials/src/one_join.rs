@@ -1,0 +1,21 @@
+//! What document 02 says of one join by itself: where a network passes the verdict, a node joins by any node, and its deliveries come in any order, it
+//! settles after at most d + n of them, n being the nodes before it, and the verdict passes again; until then one of its own can be taken. Trials hold
+//! engines to this, to what lookups keep while several nodes join, and to where that ends.
+//!
+//! - `networks`: networks that pass the verdict, grown by joins, and filled at random.
+//! - `expected`: what a join comes to, by ids alone.
+//! - `every_order`: every id, gateway and order of deliveries in small networks.
+
+mod every_order;
+mod expected;
+mod networks;
+
+pub use every_order::{every_order, Searched, Sizes, FEW, WIDE};
+pub use expected::Expected;
+pub use networks::{Origin, CONSISTENT};
+
+/// The most deliveries of a join, by the digits and the nodes before it.
+pub type Bound = fn(digits: usize, nodes: usize) -> usize;
+
+/// The bound of document 02.
+pub const PAPER: Bound = |digits, nodes| digits + nodes;
