@@ -5,14 +5,25 @@
 //! - `networks`: networks that pass the verdict, grown by joins, and filled at random.
 //! - `expected`: what a join comes to, by ids alone.
 //! - `every_order`: every id, gateway and order of deliveries in small networks.
+//! - `steps`: a join by itself in some order.
+//! - `last`: the 64th node.
+//! - `in_turn`: joins one after another, up to 64 nodes.
+//! - `nothing_else`: while it joins, nothing else can be taken, and calls between change nothing.
 
 mod every_order;
 mod expected;
+mod in_turn;
+mod last;
 mod networks;
+mod nothing_else;
+mod steps;
 
 pub use every_order::{every_order, Searched, Sizes, FEW, WIDE};
 pub use expected::Expected;
+pub use in_turn::in_turn;
+pub use last::last;
 pub use networks::{Origin, CONSISTENT};
+pub use nothing_else::nothing_else;
 
 /// The most deliveries of a join, by the digits and the nodes before it.
 pub type Bound = fn(digits: usize, nodes: usize) -> usize;

@@ -1,7 +1,8 @@
 //! Joins by themselves, one after another and several at once, by the second engine.
 
 use trials::engine::Second;
-use trials::one_join::every_order;
+use trials::met::met_enough;
+use trials::one_join::{every_order, in_turn, last, nothing_else};
 use trials::one_join::{Searched, FEW, PAPER, WIDE};
 
 /// Each join comes to n + 1 deliveries at most, and some join does, whatever d is: d + n is reached where d is 1, and missed by d − 1 elsewhere.
@@ -33,6 +34,7 @@ fn every_order_of_every_join_keeps_networks_with_many_ids_whole() {
 #[test]
 fn no_join_takes_more_deliveries_than_one_more_than_the_nodes() {
     every_order(&Second, FEW, |_, nodes| nodes + 1).unwrap();
+    last(&Second, &Second, |_, nodes| nodes + 1).unwrap();
 }
 
 /// With one digit d + n is n + 1.
@@ -40,4 +42,27 @@ fn no_join_takes_more_deliveries_than_one_more_than_the_nodes() {
 fn a_bound_of_one_delivery_less_is_seen_to_break() {
     assert!(every_order(&Second, FEW, |digits, nodes| digits + nodes - 1).is_err());
     assert!(every_order(&Second, FEW, |_, nodes| nodes).is_err());
+    assert!(last(&Second, &Second, |_, nodes| nodes).is_err());
+}
+
+#[test]
+fn the_64th_join_keeps_the_network_whole() {
+    let longest = last(&Second, &Second, PAPER).unwrap();
+    println!("{longest:?}");
+    let most = longest.values().map(|join| join.deliveries()).max();
+    assert_eq!((longest.len(), most), (32, Some(64)));
+}
+
+#[test]
+fn joins_one_after_another_pass_the_verdict_each_time() {
+    let [joins, full] = in_turn(&Second, &Second, PAPER).unwrap();
+    assert!(joins > 400 && full > 4, "{joins} joins, {full} full");
+}
+
+#[test]
+fn nothing_else_can_be_taken_while_one_node_joins() {
+    let met = nothing_else(&Second, &Second).unwrap();
+    println!("{met:?}");
+    let all = ["its own", "looked"];
+    assert!(met_enough(&met, 100, &all) && met_enough(&met, 5_000, &["not its own"]));
 }

@@ -1,0 +1,91 @@
+//! While a single node joins, its own requests are all that can be delivered, and calls that look or are refused change neither the network nor what the
+//! join comes to.
+
+use super::networks::Origin;
+use super::steps::{asked, some_beginning};
+use crate::compare::{same_network, Pair};
+use crate::engine::{Engine, Second};
+use crate::met::{meet, Met};
+use crate::random::{seeds, Rng};
+use crate::script::Call;
+use crate::steps::{call, expect, network};
+
+const SETTINGS: [[u64; 3]; 6] = [
+    [2, 4, 1],
+    [2, 4, 2],
+    [3, 3, 2],
+    [4, 2, 3],
+    [16, 8, 4],
+    [2, 6, 3],
+];
+
+pub fn nothing_else(a: &dyn Engine, b: &dyn Engine) -> Result<Met, String> {
+    let mut met = Met::new();
+    for (seed, settings) in seeds(7_000, 24).zip(SETTINGS.into_iter().cycle()) {
+        let rng = &mut Rng::new(seed);
+        let (origin, nodes) = (rng.pick(&Origin::ALL), rng.between(1, 9) as usize);
+        let network = origin.network(rng, settings, nodes);
+        let mut pair = Pair::new(a, b);
+        pair.restore(&network.state, &network.tables);
+        let joined = join_watched(&mut pair, rng, &mut met);
+        joined.map_err(|what| format!("seed {seed}, {settings:?}, {origin:?}: {what}"))?;
+    }
+    Ok(met)
+}
+
+/// Beside a memory in which only the beginning and the deliveries are called.
+fn join_watched(pair: &mut Pair, rng: &mut Rng, met: &mut Met) -> Result<(), String> {
+    let mut alone = pair.memory().clone();
+    let (id, gateway) = some_beginning(rng, pair).expect("an id is left");
+    let sender = network(pair).count() as u64 + 1;
+    let begin = Call::Begin { id, gateway };
+    alone.call(&Second, &begin);
+    expect(pair, begin, sender << 8)?;
+    while !network(pair).node(sender as usize).in_system() {
+        looks(pair, rng, sender, met)?;
+        refused(pair, sender, met)?;
+        same_network(["alone", "looked at"], &alone, pair.memory())?;
+        let receiver = rng.pick(&asked(pair, sender));
+        let own = Call::Deliver { sender, receiver };
+        let answer = alone.call(&Second, &own);
+        expect(pair, own, answer)?;
+        meet(met, "its own");
+    }
+    same_network(["alone", "looked at"], &alone, pair.memory())
+}
+
+/// Lookups, with failed nodes too, which may be refused, and surveys; a verdict and a writing, which are refused; a founding and a reading out of range.
+fn looks(pair: &mut Pair, rng: &mut Rng, node: u64, met: &mut Met) -> Result<(), String> {
+    for failed in [0, rng.word() & rng.word()] {
+        for (from, to) in [(1, node), (node, 1), (rng.between(1, node), node)] {
+            call(pair, Call::Lookup { from, to, failed })?;
+        }
+        expect(pair, Call::Survey { failed }, 0)?;
+    }
+    expect(pair, Call::Sound, 0)?;
+    expect(pair, Call::Verdict, 15)?;
+    expect(pair, Call::Write, 15)?;
+    expect(pair, Call::Read { image: vec![4] }, 3)?;
+    let settings = [1, 1, 1];
+    expect(pair, Call::Found { settings, id: 0 }, 5)?;
+    meet(met, "looked");
+    Ok(())
+}
+
+/// Deliveries of every other pair of numbers, and the beginning of an id that a node has.
+fn refused(pair: &mut Pair, node: u64, met: &mut Met) -> Result<(), String> {
+    let own = asked(pair, node);
+    for sender in 0..=node + 1 {
+        for receiver in 0..=node + 1 {
+            if sender == node && own.contains(&receiver) {
+                continue;
+            }
+            let no_node = [sender, receiver].iter().any(|&n| n == 0 || n > node);
+            let refusal = if no_node { 9 } else { 13 };
+            expect(pair, Call::Deliver { sender, receiver }, refusal)?;
+            meet(met, "not its own");
+        }
+    }
+    let id = network(pair).node(1).id;
+    expect(pair, Call::Begin { id, gateway: 1 }, 8)
+}
