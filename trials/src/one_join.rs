@@ -9,15 +9,19 @@
 //! - `last`: the 64th node.
 //! - `in_turn`: joins one after another, up to 64 nodes.
 //! - `nothing_else`: while it joins, nothing else can be taken, and calls between change nothing.
+//! - `arriving`: lookups from nodes that have attached while several join; `known`: what their entries have.
 
+mod arriving;
 mod every_order;
 mod expected;
 mod in_turn;
+mod known;
 mod last;
 mod networks;
 mod nothing_else;
 mod steps;
 
+pub use arriving::arriving;
 pub use every_order::{every_order, Searched, Sizes, FEW, WIDE};
 pub use expected::Expected;
 pub use in_turn::in_turn;

@@ -2,7 +2,7 @@
 
 use trials::engine::Second;
 use trials::met::met_enough;
-use trials::one_join::{every_order, in_turn, last, nothing_else};
+use trials::one_join::{arriving, every_order, in_turn, last, nothing_else};
 use trials::one_join::{Searched, FEW, PAPER, WIDE};
 
 /// Each join comes to n + 1 deliveries at most, and some join does, whatever d is: d + n is reached where d is 1, and missed by d − 1 elsewhere.
@@ -65,4 +65,24 @@ fn nothing_else_can_be_taken_while_one_node_joins() {
     println!("{met:?}");
     let all = ["its own", "looked"];
     assert!(met_enough(&met, 100, &all) && met_enough(&met, 5_000, &["not its own"]));
+}
+
+#[test]
+fn lookups_to_nodes_of_a_whole_network_arrive_while_several_join() {
+    let met = arriving(&Second, &Second).unwrap();
+    println!("{met:?}");
+    let all = ["of that point", "settled since", "notifying", "waiting"];
+    let between = ["passed again", "withdrawn"];
+    assert!(met_enough(&met, 5_000, &all) && met_enough(&met, 50, &between));
+}
+
+/// So the trial before this one needs what it says of the start.
+#[test]
+fn a_lookup_from_a_node_that_copies_may_be_lost() {
+    let met = arriving(&Second, &Second).unwrap();
+    assert!(met_enough(
+        &met,
+        1_000,
+        &["copying, lost", "copying, arrived"]
+    ));
 }
