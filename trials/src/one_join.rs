@@ -10,8 +10,10 @@
 //! - `in_turn`: joins one after another, up to 64 nodes.
 //! - `nothing_else`: while it joins, nothing else can be taken, and calls between change nothing.
 //! - `arriving`: lookups from nodes that have attached while several join; `known`: what their entries have.
+//! - `at_once`: several joins at once, which may end short; `stalled`: such that now and then do.
 
 mod arriving;
+mod at_once;
 mod every_order;
 mod expected;
 mod in_turn;
@@ -19,15 +21,18 @@ mod known;
 mod last;
 mod networks;
 mod nothing_else;
+mod stalled;
 mod steps;
 
 pub use arriving::arriving;
+pub use at_once::AtOnce;
 pub use every_order::{every_order, Searched, Sizes, FEW, WIDE};
 pub use expected::Expected;
 pub use in_turn::in_turn;
 pub use last::last;
 pub use networks::{Origin, CONSISTENT};
 pub use nothing_else::nothing_else;
+pub use stalled::{sample, stalled};
 
 /// The most deliveries of a join, by the digits and the nodes before it.
 pub type Bound = fn(digits: usize, nodes: usize) -> usize;

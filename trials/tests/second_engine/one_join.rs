@@ -2,8 +2,8 @@
 
 use trials::engine::Second;
 use trials::met::met_enough;
-use trials::one_join::{arriving, every_order, in_turn, last, nothing_else};
-use trials::one_join::{Searched, FEW, PAPER, WIDE};
+use trials::one_join::{arriving, every_order, in_turn, last, nothing_else, sample, stalled};
+use trials::one_join::{AtOnce, Searched, FEW, PAPER, WIDE};
 
 /// Each join comes to n + 1 deliveries at most, and some join does, whatever d is: d + n is reached where d is 1, and missed by d − 1 elsewhere.
 fn most_is_one_more_than_the_nodes(searched: &Searched) {
@@ -85,4 +85,32 @@ fn a_lookup_from_a_node_that_copies_may_be_lost() {
         1_000,
         &["copying, lost", "copying, arrived"]
     ));
+}
+
+/// No at node 8, level 2, digit 2; the lookup from it is lost at once.
+#[test]
+fn the_sample_of_joins_at_once_ends_short() {
+    let [verdict, lookup] = sample(&Second, &Second).unwrap();
+    assert_eq!(verdict.to_le_bytes(), [0, 0, 8, 2, 2, 0, 0, 0]);
+    assert_eq!(lookup.to_le_bytes(), [0, 0, 0, 8, 0, 0, 0, 0]);
+}
+
+/// In about one of 4,000 runs.
+#[test]
+fn runs_of_the_nodes_of_the_sample_now_and_then_end_short() {
+    let short: Vec<u64> = (6_950..7_050).filter(|&seed| !stalled(seed)).collect();
+    assert_eq!(short, [6_987]);
+}
+
+/// None of these does, and none of 100,000 of each kind in any order that the example `at_once` plays.
+#[test]
+fn joins_at_once_in_any_order_seldom_end_short() {
+    for depth in 1..=4 {
+        let kind = AtOnce {
+            settings: [3, 4, depth],
+            nodes: 10,
+            pace: 2,
+        };
+        assert!((0..200).all(|seed| kind.ends_whole(seed)), "{kind:?}");
+    }
 }
