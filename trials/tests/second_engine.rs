@@ -42,6 +42,8 @@ mod withdrawing;
 mod wrong_counts;
 #[path = "second_engine/wrong_failures.rs"]
 mod wrong_failures;
+#[path = "second_engine/wrong_joins.rs"]
+mod wrong_joins;
 #[path = "second_engine/wrong_turns.rs"]
 mod wrong_turns;
 #[path = "second_engine/wrong_withdrawals.rs"]

@@ -5,7 +5,7 @@ use trials::second::memory::{record, record_mut, Record, State, COUNT, MOST_NODE
 use trials::second::Counts;
 
 /// The second engine, but spoiled in what it judges sound, or in what a founding, a reading, a beginning, a withdrawal, a delivery, a lookup, a verdict,
-/// a writing or a survey does.
+/// a writing or a survey does. A delivery is spoiled in the records of its two nodes, or in all of its memory.
 pub struct Spoiled {
     pub judge: SpoilJudge,
     pub found: fn(&mut [u64]),
@@ -13,6 +13,7 @@ pub struct Spoiled {
     pub begin: fn(&mut [u64], &mut [u8], u64) -> u64,
     pub withdraw: SpoilWithdrawal,
     pub deliver: SpoilDelivery,
+    pub join: SpoilJoin,
     pub lookup: SpoilLookup,
     pub verdict: fn(u64) -> u64,
     pub write: fn(&mut [u8]),
@@ -42,6 +43,18 @@ pub struct AfterDelivery<'a> {
     pub kind: u64,
     pub settled: bool,
     pub refusal: u64,
+}
+
+pub type SpoilJoin = fn(&mut AfterStep);
+
+/// Of a delivery that is taken: its memory before and after it, sender and receiver, and its answer.
+pub struct AfterStep<'a> {
+    pub before: (Vec<u64>, Vec<u8>),
+    pub state: &'a mut State,
+    pub tables: &'a mut [u8],
+    pub sender: usize,
+    pub receiver: usize,
+    pub answer: u64,
 }
 
 pub type SpoilLookup = fn(&mut AfterLookup);
@@ -75,6 +88,7 @@ pub const UNSPOILED: Spoiled = Spoiled {
     begin: |_, _, answer| answer,
     withdraw: |_| {},
     deliver: |_| {},
+    join: |_| {},
     lookup: |_| {},
     verdict: |answer| answer,
     write: |_| {},
@@ -88,6 +102,21 @@ impl Spoiled {
         for node in (1..=MOST_NODES).take_while(|&node| node as u64 <= lent[COUNT]) {
             (self.judge)(&lent, node, record_mut(state, node));
         }
+    }
+
+    /// The records of a delivery's two nodes.
+    fn spoil_records(&self, state: &mut State, numbers: [usize; 2], answer: u64) {
+        let [refusal, kind, _, settled, ..] = answer.to_le_bytes();
+        let [mut sender, mut receiver] = numbers.map(|number| *record(state, number));
+        (self.deliver)(AfterDelivery {
+            sender: &mut sender,
+            receiver: &mut receiver,
+            kind: kind.into(),
+            settled: settled == 1,
+            refusal: refusal.into(),
+        });
+        *record_mut(state, numbers[1]) = receiver;
+        *record_mut(state, numbers[0]) = sender;
     }
 }
 
@@ -135,24 +164,28 @@ impl Engine for Spoiled {
     }
 
     fn deliver(&self, state: &mut [u64], tables: &mut [u8], sender: u64, receiver: u64) -> u64 {
+        let before = (state.to_vec(), tables.to_vec());
         let answer = Second.deliver(state, tables, sender, receiver);
-        let [refusal, kind, _, settled, ..] = answer.to_le_bytes();
         let numbers = [sender, receiver].map(|number| number as usize);
         let state: Option<&mut State> = state.first_chunk_mut();
-        if let Some(state) = state.filter(|_| numbers.iter().all(|n| (1..=MOST_NODES).contains(n)))
-        {
-            let [mut sender, mut receiver] = numbers.map(|number| *record(state, number));
-            (self.deliver)(AfterDelivery {
-                sender: &mut sender,
-                receiver: &mut receiver,
-                kind: kind.into(),
-                settled: settled == 1,
-                refusal: refusal.into(),
-            });
-            *record_mut(state, numbers[1]) = receiver;
-            *record_mut(state, numbers[0]) = sender;
+        let are_nodes = numbers.iter().all(|n| (1..=MOST_NODES).contains(n));
+        let Some(state) = state.filter(|_| are_nodes) else {
+            return answer;
+        };
+        self.spoil_records(state, numbers, answer);
+        let [sender, receiver] = numbers;
+        let mut after = AfterStep {
+            before,
+            state,
+            tables,
+            sender,
+            receiver,
+            answer,
+        };
+        if answer & 0xff == 0 {
+            (self.join)(&mut after);
         }
-        answer
+        after.answer
     }
 
     fn lookup(&self, state: &mut [u64], tables: &mut [u8], from: u64, to: u64, failed: u64) -> u64 {
