@@ -14,6 +14,8 @@ mod full;
 mod images;
 #[path = "archive/judging.rs"]
 mod judging;
+#[path = "archive/one_join.rs"]
+mod one_join;
 #[path = "archive/orders.rs"]
 mod orders;
 #[path = "archive/panel.rs"]
