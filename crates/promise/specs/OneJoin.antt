@@ -1,5 +1,5 @@
 -- One join keeps the network whole, of the calls (document 02, Ticket 7), and what else holds of joins from a verdict that said yes.
-use Prim.Native.Nat.{ℕ, _+_, _-_, _≤_, _<_}
+use Prim.Native.Nat.{ℕ, _+_, _≤_, _<_}
 use mathlib.Core.Path.{_≡_}
 use mathlib.Core.Logic.{_⊎_}
 use mathlib.Core.Bool.{true, false}
