@@ -1,5 +1,6 @@
-//! Since a point at which the verdict passes, whatever joins are under way, several at once: a lookup from any node in system or notifying to any node of
-//! that point arrives. So does one from a node that waits; from one that copies it may be lost.
+//! Since a point at which the verdict passes, whatever joins are under way, several at once, and while fewer nodes than the depth have failed: a lookup
+//! from any other node in system or notifying to any other node of that point arrives. So does one from a node that waits; from one that copies it may
+//! be lost.
 
 use super::known::known_stand;
 use super::networks::{Origin, CONSISTENT};
@@ -59,8 +60,10 @@ fn play(pair: &mut Pair, rng: &mut Rng, met: &mut Met) -> Result<(), String> {
             meet(met, "passed again");
         }
         known_stand(pair.memory(), known)?;
-        each_arrives(pair, known, met)?;
-        some_arrive(pair, rng, known)?;
+        for failed in [0, few(rng, &self::network(pair))] {
+            each_arrives(pair, known, failed, met)?;
+            some_arrive(pair, rng, known, failed)?;
+        }
     }
     Ok(())
 }
@@ -76,31 +79,51 @@ fn withdraw(pair: &mut Pair, rng: &mut Rng, met: &mut Met) -> Result<(), String>
     Ok(())
 }
 
+/// A set of fewer nodes than the depth.
+fn few(rng: &mut Rng, network: &Network) -> u64 {
+    let count = rng.between(0, network.settings.depth() as u64 - 1);
+    let drawn = (0..count).map(|_| bit(rng.between(1, network.count() as u64)));
+    drawn.fold(0, |set, one| set | one)
+}
+
+fn bit(node: u64) -> u64 {
+    1 << (node - 1)
+}
+
 /// By the literal way.
-fn each_arrives(pair: &Pair, known: usize, met: &mut Met) -> Result<(), String> {
+fn each_arrives(pair: &Pair, known: usize, failed: u64, met: &mut Met) -> Result<(), String> {
     let network = network(pair);
-    let literal = Literal::new(pair.memory(), 0);
+    let literal = Literal::new(pair.memory(), failed);
     for (from, node) in network.iter() {
         for to in 1..=known {
+            if failed & (bit(from as u64) | bit(to as u64)) != 0 {
+                continue;
+            }
             let way = literal.way(from as u64, to as u64);
             if !way.arrived && !matches!(node.status, Status::Copying { .. }) {
-                return Err(format!("{from} to {to} of {known} goes {way:?}"));
+                return Err(format!(
+                    "{from} to {to} of {known} without {failed:#x} goes {way:?}"
+                ));
             }
             meet(met, kind(node.status, from <= known, way.arrived));
+            if failed != 0 {
+                meet(met, "around failed nodes");
+            }
         }
     }
     Ok(())
 }
 
-/// By the engines.
-fn some_arrive(pair: &mut Pair, rng: &mut Rng, known: usize) -> Result<(), String> {
+/// By the engines. The two ends have not failed.
+fn some_arrive(pair: &mut Pair, rng: &mut Rng, known: usize, failed: u64) -> Result<(), String> {
     let from = attached(rng, &network(pair));
-    let (to, failed) = (rng.between(1, known as u64), 0);
+    let to = rng.between(1, known as u64);
+    let failed = failed & !(bit(from) | bit(to));
     let answer = call(pair, Call::Lookup { from, to, failed })?;
     let arrived = arrives(answer, to);
     arrived
         .then_some(())
-        .ok_or_else(|| format!("{from} to {to} of {known}: {answer:#x}"))
+        .ok_or_else(|| format!("{from} to {to} of {known} without {failed:#x}: {answer:#x}"))
 }
 
 fn attached(rng: &mut Rng, network: &Network) -> u64 {

@@ -49,7 +49,14 @@ impl ImageProgram {
     }
 
     pub fn samples_print_what_stands_beside_them(&self) {
-        for name in ["e1", "e1-damaged", "e1-short", "network64", "depth3"] {
+        for name in [
+            "e1",
+            "e1-damaged",
+            "e1-short",
+            "network64",
+            "depth3",
+            "concurrent-joins",
+        ] {
             let beside = |ending: &str| root().join("samples").join(format!("{name}.{ending}"));
             let image = fs::read(beside("image")).expect(name);
             let lines = fs::read_to_string(beside(self.ending)).expect(name);

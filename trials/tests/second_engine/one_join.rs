@@ -71,7 +71,13 @@ fn nothing_else_can_be_taken_while_one_node_joins() {
 fn lookups_to_nodes_of_a_whole_network_arrive_while_several_join() {
     let met = arriving(&Second, &Second).unwrap();
     println!("{met:?}");
-    let all = ["of that point", "settled since", "notifying", "waiting"];
+    let all = [
+        "of that point",
+        "settled since",
+        "notifying",
+        "waiting",
+        "around failed nodes",
+    ];
     let between = ["passed again", "withdrawn"];
     assert!(met_enough(&met, 5_000, &all) && met_enough(&met, 50, &between));
 }
