@@ -1,7 +1,7 @@
 -- A node that attaches has learned enough: where its receiver has no room for a node in system, it has none itself. Assumes nothing.
 use Prim.Native.Nat.{ℕ, _≤_, _<_}
-use mathlib.Core.Path.{_≡_, refl, sym, ap, subst, subst₂, subst₃, _∙_}
-use mathlib.Core.Logic.{_≢_, inl, ⊎-elim}
+use mathlib.Core.Path.{_≡_, sym, ap, subst, subst₂, _∙_}
+use mathlib.Core.Logic.{_≢_, ⊎-elim}
 use mathlib.Core.Bool.{true, false}
 use mathlib.Core.List.{List}
 use native.Mathlib.Nat.{le-refl}
@@ -10,24 +10,23 @@ use native.Mathlib.Omega.{arith}
 use lib.ListN.{getD}
 use borrow.Author.Tests.{ltb-true}
 use Rattle.model.specs.Ids.{digitOf}
-use Rattle.model.specs.Memory.{base, digits, depth, nodeOf, idOf, noticesOf, isInSystem, addNode, tableOf}
+use Rattle.model.specs.Memory.{base, digits, depth, idOf, isInSystem, tableOf}
 use Rattle.model.specs.Tables.{slotPlace, slotAt, entrySize, holds}
 use Rattle.model.specs.Nodes.{suffixOf}
 use Rattle.model.specs.Learning.{floorOf, roomFor}
-use Rattle.model.specs.Join.{Delivery, notifyingNode, delivery, delivered}
-use Rattle.model.proofs.Ids.{InRange, digit-lt, suffix-digit, suffix-sym, suffix-through, qualified-suffix, qualified-digit, valid-digit}
-use Rattle.model.proofs.Nodes.{suffix-by}
+use Rattle.model.specs.Join.{Delivery, delivery, delivered}
+use Rattle.model.proofs.Ids.{digit-lt, suffix-digit, suffix-sym, suffix-through, qualified-suffix, qualified-digit, valid-digit}
 use Rattle.model.proofs.Memory.{table-length}
 use Rattle.model.proofs.Tables.{GapFree}
 use Rattle.model.proofs.Status.{IsNode, attached-other, waiting-away}
-use Rattle.model.proofs.Sound.{SlotOk, Sound, node-fits, table-fits}
+use Rattle.model.proofs.Sound.{SlotOk, Sound, table-fits}
 use Rattle.model.proofs.SoundNodes.{stands-node, own, suffix-below}
 use Rattle.model.proofs.LearningKeepsRules.{entries-of, gap-free}
 use Rattle.model.proofs.Sender.{CanDeliver}
-use Rattle.model.proofs.DeliveryDid.{levelAt, stateAt, Attaches, to-receiver}
-use Rattle.model.proofs.ReplacingKeepsSound.{Agree, agree-node, agree-kept, agree-id}
+use Rattle.model.proofs.DeliveryDid.{stateAt, Attaches, to-receiver}
+use Rattle.model.proofs.ReplacingKeepsSound.{Agree, agree-kept, agree-id, agree-digits, agree-depth, agree-range, agree-suffix}
 use Rattle.model.proofs.DeliveryKeepsSound.{delivered-ok}
-use Rattle.model.proofs.TablesOnlyGrow.{later-delivered, delivered-count, delivered-sender}
+use Rattle.model.proofs.TablesOnlyGrow.{later-delivered, delivered-count, delivered-sender, attach-agree}
 use Rattle.model.proofs.Floors.{Floors, floor-in-system, floor-same}
 use Rattle.model.proofs.NoRoom.{NoRoom, no-room-cases, full-no-room, place, held-place, filled-by, no-room-by, table-learned}
 
@@ -45,16 +44,7 @@ module _ (s t : List ℕ) (S : Sound s t) (x y : ℕ) (c : CanDeliver s x y) (w 
   h = suffixOf s x y
 
   a : Agree x s (stateAt s t x y)
-  a = agree-node s x (node-fits s t S x (c .sender)) (notifyingNode (nodeOf s x) (levelAt s t x y) 0 (addNode 0 y) (noticesOf s x)) refl
-
-  same-digits : digits (stateAt s t x y) ≡ digits s
-  same-digits = a .words 1 (inl (omega (arith, c .sender .low)))
-
-  same-depth : depth (stateAt s t x y) ≡ depth s
-  same-depth = a .words 2 (inl (omega (arith, c .sender .low)))
-
-  range′ : InRange (base (stateAt s t x y)) (digits (stateAt s t x y)) (depth (stateAt s t x y))
-  range′ = subst₃ InRange (sym (a .words 0 (inl (omega (arith, c .sender .low))))) (sym same-digits) (sym same-depth) (S .settings)
+  a = attach-agree s t S x y c
 
   below : suffixOf s x y < digits s
   below = suffix-below s t S x y (c .sender) (c .receiver) (to-receiver s t S x y c .other)
@@ -66,11 +56,11 @@ module _ (s t : List ℕ) (S : Sound s t) (x y : ℕ) (c : CanDeliver s x y) (w 
       let v : ℕ = getD Ty p 0 in
       let f = stands-node s (S .settings) y (to-receiver s t S x y c .attached) Ty (own s t S y (c .receiver)) p hp nz in
       let other = attached-other s x v (waiting-away s x (w .status)) (f .1) in
-      let suffix = suffix-by s s′ x v same-digits (agree-id x s s′ a x) (agree-id x s s′ a v) in
-      no-room-by s′ s (d .senderTable) v i (sym same-depth) (sym (agree-id x s s′ a v))
+      let low₁ : 1 ≤ x = c .sender .low in
+      no-room-by s′ s (d .senderTable) v i (sym (agree-depth x s s′ a low₁)) (sym (agree-id x s s′ a v))
       (subst (λ (T : List ℕ). NoRoom s′ T v i) (sym (w .tells .own))
-      (table-learned s′ range′ x Ty p hp nz other i (omega (arith, floor, floor-same s s′ v (agree-kept x s s′ a v other))) (omega (arith, low, suffix))
-      (omega (arith, hi, same-digits)) (tableOf t x) (table-length t x (table-fits s t S x (c .sender)))))
+      (table-learned s′ (agree-range x s s′ a low₁ (S .settings)) x Ty p hp nz other i (omega (arith, floor, floor-same s s′ v (agree-kept x s s′ a v other))) (omega (arith, low, agree-suffix x s s′ a low₁ x v))
+      (omega (arith, hi, agree-digits x s s′ a low₁)) (tableOf t x) (table-length t x (table-fits s t S x (c .sender)))))
 
   -- a slot of y's entry (i, j), its place in the table and the floor of the node there
   module _ (i j k : ℕ) (hi : i < digits s) (hj : j < 16) (hk : k < depth s) where

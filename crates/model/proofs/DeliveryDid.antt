@@ -11,7 +11,7 @@ use native.Mathlib.Omega.{arith}
 use lib.Dec.{eqb, ltb}
 use borrow.Author.Tests.{ltb-false, lt-ltb, le-ltb}
 use Rattle.model.specs.Ids.{digitOf, commonSuffix}
-use Rattle.model.specs.Memory.{base, digits, depth, nodeOf, idOf, statusOf, levelOf, targetOf, pendingOf, notifiedOf, noticesOf, withNode, copying, waiting, notifying}
+use Rattle.model.specs.Memory.{base, digits, depth, Node, nodeOf, idOf, statusOf, levelOf, targetOf, pendingOf, notifiedOf, noticesOf, withNode, copying, waiting, notifying}
 use Rattle.model.specs.Memory.{isInSystem, isAttached, hasNode, addNode, removeNode, tableOf}
 use Rattle.model.specs.Tables.{qualified, slotPlace, entrySize}
 use Rattle.model.specs.Nodes.{suffixOf}
@@ -70,12 +70,15 @@ pub record Tells (s t : List ℕ) (x y : ℕ) (d : Delivery) (s′ seen : List �
   pub theirs : d .receiverTable ≡ learn s′ y x (tableOf t y)
   pub settling : Settling (notifyingNode (nodeOf s x) level pending notified notices)
 
--- the level at which x attaches, the state in which it does, and its pending set
+-- the level at which x attaches, its record and the state in which it does, and its pending set
 abbrev pub levelAt : List ℕ → List ℕ → ℕ → ℕ → ℕ
 levelAt s t x y = attachLevel s (tableOf t y) x (suffixOf s x y)
 
+abbrev pub nodeAt : List ℕ → List ℕ → ℕ → ℕ → Node
+nodeAt s t x y = notifyingNode (nodeOf s x) (levelAt s t x y) 0 (addNode 0 y) (noticesOf s x)
+
 abbrev pub stateAt : List ℕ → List ℕ → ℕ → ℕ → List ℕ
-stateAt s t x y = withNode s x (notifyingNode (nodeOf s x) (levelAt s t x y) 0 (addNode 0 y) (noticesOf s x))
+stateAt s t x y = withNode s x (nodeAt s t x y)
 
 abbrev pub ownAt : List ℕ → List ℕ → ℕ → ℕ → ℕ
 ownAt s t x y =

@@ -1,7 +1,7 @@
 -- Nobody stands below its floor in another's table, and every taken call keeps that. Assumes nothing.
 use Prim.Native.Nat.{ℕ, suc, _+_, _/_, _≤_, _<_}
-use mathlib.Core.Path.{_≡_, refl, sym, ap, subst, _∙_}
-use mathlib.Core.Logic.{_≢_, inl, ⊎-elim}
+use mathlib.Core.Path.{_≡_, sym, ap, subst, _∙_}
+use mathlib.Core.Logic.{_≢_, ⊎-elim}
 use mathlib.Core.Bool.{true, false, cond}
 use mathlib.Core.List.{List}
 use native.Mathlib.Decide.{ℕ-discrete}
@@ -10,8 +10,8 @@ use native.Mathlib.Omega.{arith}
 use lib.Dec.{eqb}
 use lib.ListN.{getD}
 use borrow.Author.Tests.{eqb-true, ne-eqb}
-use Rattle.model.specs.Memory.{Node, depth, nodeCount, nodeOf, idOf, statusOf, levelOf, noticesOf, withNode, inSystem, copying, waiting, notifying}
-use Rattle.model.specs.Memory.{isInSystem, isAttached, addNode, tableOf}
+use Rattle.model.specs.Memory.{Node, depth, nodeCount, nodeOf, idOf, statusOf, levelOf, inSystem, copying, waiting, notifying}
+use Rattle.model.specs.Memory.{isInSystem, isAttached, tableOf}
 use Rattle.model.specs.Tables.{append}
 use Rattle.model.specs.Nodes.{suffixOf}
 use Rattle.model.specs.Learning.{floorOf, learnAt, learn, learnPlace, learnTable}
@@ -20,19 +20,18 @@ use Rattle.model.proofs.Bools.{or-right, not-both}
 use Rattle.model.proofs.Loops.{each-keeps}
 use Rattle.model.proofs.Splice.{set-keeps}
 use Rattle.model.proofs.Ids.{digit-lt}
-use Rattle.model.proofs.Memory.{same-status, same-level, node-stored}
+use Rattle.model.proofs.Memory.{same-status, same-level}
 use Rattle.model.proofs.Status.{IsNode, node-among, waiting-away}
-use Rattle.model.proofs.Sound.{standing, Sound, node-fits}
+use Rattle.model.proofs.Sound.{standing, Sound}
 use Rattle.model.proofs.OwnTable.{own-only}
 use Rattle.model.proofs.Learning.{Appended, learn-at-cases, learn-place-cases}
 use Rattle.model.proofs.Settling.{Settling, settles, stays}
 use Rattle.model.proofs.BeginningKeepsSound.{CanBegin, begun-kept, begun-node, begun-table, begun-own}
 use Rattle.model.proofs.Sender.{CanDeliver}
-use Rattle.model.proofs.DeliveryDid.{AsksOn, Asking, copies-on, starts-waiting, waits-on, Tells, Did, did-ask, did-attach, did-notify, levelAt, stateAt, delivery-did}
-use Rattle.model.proofs.ReplacingKeepsSound.{Agree, agree-refl, agree-node, agree-both, agree-kept, replaced-table}
-use Rattle.model.proofs.TablesOnlyGrow.{delivered-id, delivered-count}
+use Rattle.model.proofs.DeliveryDid.{AsksOn, Asking, copies-on, starts-waiting, waits-on, Tells, Did, did-ask, did-attach, did-notify, stateAt, delivery-did, nodeAt}
+use Rattle.model.proofs.ReplacingKeepsSound.{Agree, agree-refl, agree-both, agree-kept, agree-depth}
+use Rattle.model.proofs.TablesOnlyGrow.{delivered-count, delivered-agree, delivered-record, delivered-each, attach-record, attach-agree}
 use Rattle.model.proofs.Withdrawing.{withdrawn-count, withdrawn-later, withdrawn-kept, table-kept}
-use Rattle.model.proofs.Works.{tables-long}
 
 -- each other node in u's table T stands at its floor or above it
 abbrev pub AboveFloor : List ℕ → ℕ → List ℕ → Type 0
@@ -156,45 +155,42 @@ module _ (s t : List ℕ) (S : Sound s t) (x y : ℕ) (c : CanDeliver s x y) (F 
   d = delivery s t x y
 
   abbrev s₁ : List ℕ
-  s₁ = withNode s x (d .sender)
+  s₁ = delivered s t x y (delivery s t x y) .state
+
+  abbrev t₁ : List ℕ
+  t₁ = delivered s t x y (delivery s t x y) .tables
 
   stored : nodeOf s₁ x ≡ d .sender
-  stored = node-stored s x (d .sender) (node-fits s t S x (c .sender))
-
-  agree : Agree x s s₁
-  agree = agree-node s x (node-fits s t S x (c .sender)) (d .sender) (delivered-id s t S x y c)
+  stored = delivered-record s t S x y c
 
   back : (z : ℕ) → IsNode s₁ z → IsNode s z
-  unfolding delivered
   back = node-among s₁ s (omega (arith, delivered-count s t S x y c))
 
   -- x and y learn in s′, where x's floor is no higher than before, if it was attached, and no lower than after
   module _ (s′ : List ℕ) (a : Agree x s s′) (first : isAttached s x ≡ true → floorOf s′ x ≤ floorOf s x)
       (last : floorOf s₁ x ≤ floorOf s′ x) where
     low : depth s′ ≤ 4
-    low = omega (arith, a .words 2 (inl (omega (arith, c .sender .low))), S .settings .depth-most)
+    low = omega (arith, agree-depth x s s′ a (c .sender .low), S .settings .depth-most)
 
     old : (z : ℕ) → IsNode s z → AboveFloor s′ z (tableOf t z)
     old z n = above-on s t S z n s′ (λ u nu e. floor-lower x s s′ a u (λ q. first (ap (isAttached s) (sym q) ∙ e))) (F z n)
 
     on : (z : ℕ) (T : List ℕ) → AboveFloor s′ z T → AboveFloor s₁ z T
-    on z T f p h nz ne = le-trans (floor-lower x s′ s₁ (agree-both x s s′ s₁ a agree) (getD T p 0) (λ q. last)) (f p h nz ne)
+    on z T f p h nz ne = le-trans (floor-lower x s′ s₁ (agree-both x s s′ s₁ a (delivered-agree s t S x y c)) (getD T p 0) (λ q. last)) (f p h nz ne)
 
     learned : (seen : List ℕ) → d .senderTable ≡ learnTable s′ x seen (tableOf t x) → AboveFloor s′ y (d .receiverTable)
-        → Floors (delivered s t x y d .state) (delivered s t x y d .tables)
-    unfolding delivered
+        → Floors s₁ t₁
     learned seen own their z n =
-        replaced-table s t S x y (c .sender) (c .receiver) (d .senderTable) (d .receiverTable) (tables-long s t S x y c .0)
-        (tables-long s t S x y c .1) (AboveFloor s₁)
+        delivered-each s t S x y c (AboveFloor s₁)
         (on x (d .senderTable) (rw own (learn-table-above s′ x low seen (tableOf t x) (old x (c .sender)))))
         (on y (d .receiverTable) their) (λ z n. on z (tableOf t z) (old z n)) z (back z n)
 
     told : {seen : List ℕ} {k pending notified notices : ℕ} → Tells s t x y d s′ seen k pending notified notices
-        → Floors (delivered s t x y d .state) (delivered s t x y d .tables)
+        → Floors s₁ t₁
     told {seen} w = learned seen (w .own) (rw (w .theirs) (learn-above s′ y low x (tableOf t y) (old y (c .receiver))))
 
   -- x asks on: its floor is 0
-  asks-floors : AsksOn s t x y d → Floors (delivered s t x y d .state) (delivered s t x y d .tables)
+  asks-floors : AsksOn s t x y d → Floors s₁ t₁
   asks-floors w =
       learned s (agree-refl x s) (λ e. omega arith) (omega (arith, zero (w .how))) (tableOf t y) (w .own) (rw (w .theirs) (F y (c .receiver)))
     where
@@ -205,7 +201,7 @@ module _ (s t : List ℕ) (S : Sound s t) (x y : ℕ) (c : CanDeliver s x y) (F 
 
   -- x tells y: its floor is its level, or it settles
   tells-floors : {s′ seen : List ℕ} {k pending notified notices : ℕ} → Agree x s s′ → (isAttached s x ≡ true → floorOf s′ x ≤ floorOf s x)
-      → floorOf s′ x ≡ k → Tells s t x y d s′ seen k pending notified notices → Floors (delivered s t x y d .state) (delivered s t x y d .tables)
+      → floorOf s′ x ≡ k → Tells s t x y d s′ seen k pending notified notices → Floors s₁ t₁
   tells-floors {s′} {seen} {k} {pending} {notified} {notices} a first level w = told s′ a first (omega (arith, level, last (w .settling))) w
     where
       last : Settling (notifyingNode (nodeOf s x) k pending notified notices) → floorOf s₁ x ≤ k
@@ -217,16 +213,13 @@ module _ (s t : List ℕ) (S : Sound s t) (x y : ℕ) (c : CanDeliver s x y) (F 
   pub delivered-floors : Floors (delivered s t x y (delivery s t x y) .state) (delivered s t x y (delivery s t x y) .tables)
   delivered-floors = go (delivery-did s t S x y c)
     where
-      first : Node
-      first = notifyingNode (nodeOf s x) (levelAt s t x y) 0 (addNode 0 y) (noticesOf s x)
+      at : nodeOf (stateAt s t x y) x ≡ nodeAt s t x y
+      at = attach-record s t S x y c
 
-      attached : nodeOf (stateAt s t x y) x ≡ first
-      attached = node-stored s x first (node-fits s t S x (c .sender))
-
-      go : Did s t x y d → Floors (delivered s t x y d .state) (delivered s t x y d .tables)
+      go : Did s t x y d → Floors s₁ t₁
       go (did-ask w) = asks-floors w
       go (did-attach w) =
-          tells-floors (agree-node s x (node-fits s t S x (c .sender)) first refl)
+          tells-floors (attach-agree s t S x y c)
           (λ e. absurd (not-both (isAttached s x) e (waiting-away s x (w .status))))
-          (floor-notifying (stateAt s t x y) x (same-status attached) ∙ same-level attached) (w .tells)
+          (floor-notifying (stateAt s t x y) x (same-status at) ∙ same-level at) (w .tells)
       go (did-notify w) = tells-floors (agree-refl x s) (λ e. omega arith) (floor-notifying s x (w .status)) (w .tells)

@@ -17,11 +17,11 @@ use Rattle.model.proofs.Status.{IsNode, node-among, is-node, is-node-of
 use Rattle.model.proofs.Sound.{Sound, node-fits, table-fits}
 use Rattle.model.proofs.Sender.{CanDeliver}
 use Rattle.model.proofs.Taken.{state-skipped}
-use Rattle.model.proofs.Works.{tables-long}
 use Rattle.model.proofs.Alike.{AlikeTo}
 use Rattle.model.proofs.AlikeDelivery.{delivery-alike}
 use Rattle.model.proofs.AlikeRefusals.{deliver-judged}
 use Rattle.model.proofs.Undoing.{Beside}
+use Rattle.model.proofs.TablesOnlyGrow.{tables-long}
 
 module _ (s t s′ t′ : List ℕ) (S : Sound s t) (S′ : Sound s′ t′) (b : Beside s t s′ t′) where
   word : (u k : ℕ) → u ≤ nodeCount s → k < 8 → 8 * u + k ≢ 3 → getD s′ (8 * u + k) 0 ≡ getD s (8 * u + k) 0

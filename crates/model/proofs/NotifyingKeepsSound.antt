@@ -30,7 +30,7 @@ use Rattle.model.proofs.Gather.{ToNotify, Gathered, gather-has, gather-
 use Rattle.model.proofs.SoundNodes.{own-later, own, suffix-below, range, learned-table, learned-node}
 use Rattle.model.proofs.Sender.{CanDeliver, Receiver}
 use Rattle.model.proofs.DeliveryDid.{Tells, Attaches, Notifies, levelAt, stateAt, ownAt, to-receiver}
-use Rattle.model.proofs.TablesOnlyGrow.{delivered-id, sender-out, delivered-later}
+use Rattle.model.proofs.TablesOnlyGrow.{delivered-id, sender-out, delivered-later, attach-record, attach-agree}
 use Rattle.model.proofs.RequestBound.{not-itself, none-answered, telling-counts}
 
 -- ---- what is gathered from a table
@@ -185,14 +185,11 @@ module _ (s t : List ℕ) (S : Sound s t) (x y : ℕ) (c : CanDeliver s x y) whe
       s′ : List ℕ
       s′ = stateAt s t x y
 
-      first : Node
-      first = notifyingNode (nodeOf s x) (levelAt s t x y) 0 (addNode 0 y) (noticesOf s x)
-
       a : Agree x s s′
-      a = agree-node s x (node-fits s t S x (c .sender)) first refl
+      a = attach-agree s t S x y c
 
       status′ : statusOf s′ x ≡ notifying
-      status′ = same-status (node-stored s x first (node-fits s t S x (c .sender)))
+      status′ = same-status (attach-record s t S x y c)
 
       range′ : InRange (base s′) (digits s′) (depth s′)
       range′ = ranged s t S x y c s′ a status′

@@ -1,7 +1,7 @@
 -- One join from a yes on, delivery by delivery: how many of them were taken, and what each leaves. s₀ and t₀ are the memory at the yes, and x is the node that
 -- joins. Assumes nothing.
 use Prim.Native.Nat.{ℕ, _+_, _^_, _≤_, _<_}
-use mathlib.Core.Path.{_≡_, refl, sym, ap, subst, subst₃, _∙_}
+use mathlib.Core.Path.{_≡_, sym, ap, subst, subst₃, _∙_}
 use mathlib.Core.Logic.{_≢_, _⊎_, inl, inr}
 use mathlib.Core.Bool.{true, false}
 use mathlib.Core.List.{List}
@@ -17,17 +17,17 @@ use Rattle.model.specs.Join.{Delivery, notifyingNode, gather, begun, del
 use Rattle.model.proofs.Bools.{not-both}
 use Rattle.model.proofs.Sets.{has-none, has-added, has-remove-other, add-within}
 use Rattle.model.proofs.SetSizes.{size-add, size-within}
-use Rattle.model.proofs.Memory.{same-status, same-level, same-pending, same-notified, same-requests, same-notices, node-stored}
+use Rattle.model.proofs.Memory.{same-status, same-level, same-pending, same-notified, same-requests, same-notices}
 use Rattle.model.proofs.Status.{IsNode, PendingOk, attached-in-system, attached-notifying, notifying-out, copying-away, waiting-away}
-use Rattle.model.proofs.Sound.{Sound, node-fits}
+use Rattle.model.proofs.Sound.{Sound}
 use Rattle.model.proofs.RequestBound.{requests-most, none-answered}
 use Rattle.model.proofs.BeginningKeepsSound.{CanBegin, begun-ok, begun-count, begun-new}
 use Rattle.model.proofs.Sender.{CanDeliver}
 use Rattle.model.proofs.Settling.{Settling, settles, stays}
-use Rattle.model.proofs.DeliveryDid.{asking-away, AsksOn, Tells, stateAt, levelAt, ownAt, Attaches, Notifies, Did, did-ask, did-attach, did-notify, delivery-did}
-use Rattle.model.proofs.ReplacingKeepsSound.{Agree, agree-node, agree-refl}
+use Rattle.model.proofs.DeliveryDid.{asking-away, AsksOn, Tells, stateAt, levelAt, ownAt, Attaches, Notifies, Did, did-ask, did-attach, did-notify, delivery-did, nodeAt}
+use Rattle.model.proofs.ReplacingKeepsSound.{Agree, agree-refl}
 use Rattle.model.proofs.DeliveryKeepsSound.{delivered-ok}
-use Rattle.model.proofs.TablesOnlyGrow.{Attached, settled-attached, Onward, onward-trans, begun-onward, sender-out, delivered-count, delivered-record, delivered-onward}
+use Rattle.model.proofs.TablesOnlyGrow.{Attached, settled-attached, Onward, onward-trans, begun-onward, sender-out, delivered-count, delivered-record, delivered-onward, attach-record, attach-agree}
 use Rattle.model.proofs.Progress.{only-own}
 use Rattle.model.proofs.Consistency.{Whole}
 use Rattle.model.proofs.Floors.{floor-notifying}
@@ -167,16 +167,13 @@ module _ (s₀ t₀ : List ℕ) (Y : Yes s₀ t₀) where
 
     attaching : Attaches s t x y d → n + 1 ≤ requestsOf s x → Stage s₁ t₁ (n + 1)
     attaching w l =
-        tells-y (stateAt s t x y) (tableOf t y) (agree-node s x (node-fits s t S x (c .sender)) first refl) (levelAt s t x y) 0 (ownAt s t x y) (noticesOf s x)
+        tells-y (stateAt s t x y) (tableOf t y) (attach-agree s t S x y c) (levelAt s t x y) 0 (ownAt s t x y) (noticesOf s x)
         (floor-notifying (stateAt s t x y) x (same-status here) ∙ same-level here) (w .low) none
         (omega (arith, none-answered s t S x (c .sender) (λ q. omega (arith, q, w .status)) (λ q. omega (arith, q, w .status)), Y .sound .some))
         (omega (arith, l)) (w .tells)
       where
-        first : Node
-        first = notifyingNode (nodeOf s x) (levelAt s t x y) 0 (addNode 0 y) (noticesOf s x)
-
-        here : nodeOf (stateAt s t x y) x ≡ first
-        here = node-stored s x first (node-fits s t S x (c .sender))
+        here : nodeOf (stateAt s t x y) x ≡ nodeAt s t x y
+        here = attach-record s t S x y c
 
         nobody-told : (u : ℕ) → hasNode 0 u ≡ true → ⊥
         nobody-told u h = not-both (hasNode 0 u) h (has-none u)

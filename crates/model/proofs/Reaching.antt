@@ -20,9 +20,9 @@ use Rattle.model.proofs.Sound.{Sound, table-fits}
 use Rattle.model.proofs.BeginningKeepsSound.{CanBegin, begun-node, begun-kept, begun-new}
 use Rattle.model.proofs.Withdrawing.{withdrawn-kept, withdrawn-onward}
 use Rattle.model.proofs.Sender.{CanDeliver}
-use Rattle.model.proofs.ReplacingKeepsSound.{agree-kept}
+use Rattle.model.proofs.ReplacingKeepsSound.{agree-kept, agree-id, agree-digits, agree-depth, agree-suffix}
 use Rattle.model.proofs.DeliveryDid.{asking-away, Attaches, Did, did-ask, did-attach, did-notify, delivery-did}
-use Rattle.model.proofs.TablesOnlyGrow.{Attached, settled-attached, Onward, begun-onward, later-delivered, delivered-count, delivered-record, delivered-agree, delivered-sender, delivered-onward}
+use Rattle.model.proofs.TablesOnlyGrow.{Attached, settled-attached, Onward, begun-onward, delivered-count, delivered-record, delivered-agree, delivered-sender, delivered-onward}
 use Rattle.model.proofs.NextHop.{level-below}
 use Rattle.model.proofs.Consistency.{Whole}
 use Rattle.model.proofs.NoRoom.{NoRoom, no-room-by, no-room-grows, whole-no-room}
@@ -112,15 +112,13 @@ module _ (s₀ : List ℕ) where
     -- which then has no room for them: its receiver was in system and had none
     attaching : Attaches s t x y (delivery s t x y) → Roomless s t s₁ t₁ S on R x
     attaching w z n i low hi =
-        let l = later-delivered s t S x y c in
-        let nx₁ : IsNode s₁ x = record { low = c .sender .low; high = omega (arith, c .sender .high, delivered-count s t S x y c) } in
-        let same = l .ids z (R .is-node z n) (on .attached z (attached₀ s t s₁ t₁ S on R z n) .node) in
-        let suffix = suffix-by s s₁ x z (l .digits) (l .ids x (c .sender) nx₁) same in
-        let a : Attached s y = settled-attached s y (c .receiver) (w .in-system) in
+        let a = delivered-agree s t S x y c in
+        let low₁ : 1 ≤ x = c .sender .low in
+        let b : Attached s y = settled-attached s y (c .receiver) (w .in-system) in
         rw (delivered-sender s t S x y c)
-        (no-room-by s s₁ (delivery s t x y .senderTable) z i (l .depth) same
-        (attached-no-room s t S x y c w (R .floors) z (R .is-node z n) (R .in-system z n) (R .room y a z n) i (omega (arith, low, suffix))
-        (omega (arith, hi, l .digits))))
+        (no-room-by s s₁ (delivery s t x y .senderTable) z i (agree-depth x s s₁ a low₁) (agree-id x s s₁ a z)
+        (attached-no-room s t S x y c w (R .floors) z (R .is-node z n) (R .in-system z n) (R .room y b z n) i
+        (omega (arith, low, agree-suffix x s s₁ a low₁ x z)) (omega (arith, hi, agree-digits x s s₁ a low₁))))
 
     -- x was attached before, or attaches now
     sender : isAttached s₁ x ≡ true → Attached s x ⊎ Roomless s t s₁ t₁ S on R x

@@ -10,6 +10,8 @@ use native.Mathlib.Omega.{arith}
 use lib.ListN.{length, getD}
 use Rattle.model.specs.Ids.{validId}
 use Rattle.model.specs.Memory.{base, digits, depth, nodeCount, Node, nodeOf, idOf, isAttached, isInSystem, withNode, tableStart, tableOf, withTable}
+use Rattle.model.specs.Nodes.{suffixOf}
+use Rattle.model.proofs.Nodes.{suffix-by}
 use Rattle.model.proofs.Memory.{same-id, node-same, words-apart, node-length, node-stored, node-outside, stored-length, stored-outside, stored-same, stored-other}
 use Rattle.model.proofs.Status.{IsNode, node-among, RecordOk, StatusOk, attached-same, in-system-same}
 use Rattle.model.proofs.NodeCounts.{CountsOk}
@@ -52,12 +54,28 @@ module _ (x : ℕ) (s s′ : List ℕ) (a : Agree x s s′) where
   pub agree-count : 1 ≤ x → nodeCount s′ ≡ nodeCount s
   agree-count h = a .words 3 (inl (omega arith))
 
+  -- the settings, and so the common suffix of any two nodes
+  agree-base : 1 ≤ x → base s′ ≡ base s
+  agree-base h = a .words 0 (inl (omega arith))
+
+  pub agree-digits : 1 ≤ x → digits s′ ≡ digits s
+  agree-digits h = a .words 1 (inl (omega arith))
+
+  pub agree-depth : 1 ≤ x → depth s′ ≡ depth s
+  agree-depth h = a .words 2 (inl (omega arith))
+
+  pub agree-range : 1 ≤ x → InRange (base s) (digits s) (depth s) → InRange (base s′) (digits s′) (depth s′)
+  agree-range h = subst₃ InRange (sym (agree-base h)) (sym (agree-digits h)) (sym (agree-depth h))
+
+  pub agree-suffix : 1 ≤ x → (y z : ℕ) → suffixOf s′ y z ≡ suffixOf s y z
+  agree-suffix h y z = suffix-by s s′ y z (agree-digits h) (agree-id y) (agree-id z)
+
   -- the later state, where x stays attached if it was, and in system if it was
   pub agree-later : 1 ≤ x → (isAttached s x ≡ true → isAttached s′ x ≡ true) → (isInSystem s x ≡ true → isInSystem s′ x ≡ true) → Later s s′
   agree-later h f g = record {
-    base = a .words 0 (inl (omega arith));
-    digits = a .words 1 (inl (omega arith));
-    depth = a .words 2 (inl (omega arith));
+    base = agree-base h;
+    digits = agree-digits h;
+    depth = agree-depth h;
     ids = λ y n n′. agree-id y;
     stays = λ y n e. node-among s s′ (omega (arith, agree-count h)) y n;
     attached = λ y n. attached y (ℕ-discrete y x);

@@ -22,7 +22,7 @@ use Rattle.model.proofs.Loops.{any-zero, any-goes, any-leaves, any-ends
 use Rattle.model.proofs.Bools.{not-both}
 use Rattle.model.proofs.Tables.{size-le, size-least, size-empty}
 use Rattle.model.proofs.Learning.{learn-place-is}
-use Rattle.model.proofs.Gather.{ToNotify, place-passes, place-adds}
+use Rattle.model.proofs.Gather.{place-passes, place-adds}
 
 -- ---- the slots of an entry, one after the other
 

@@ -20,7 +20,7 @@ use Rattle.model.proofs.Later.{Later}
 use Rattle.model.proofs.ReplacingKeepsSound.{Agree, agree-node, agree-count, agree-later, replaced-first, replaced-second, replaced-table}
 use Rattle.model.proofs.BeginningKeepsSound.{CanBegin, begun-later, begun-table}
 use Rattle.model.proofs.Sender.{CanDeliver}
-use Rattle.model.proofs.DeliveryDid.{Asking, copies-on, starts-waiting, waits-on, Tells, Did, did-ask, did-attach, did-notify, delivery-did}
+use Rattle.model.proofs.DeliveryDid.{Asking, copies-on, starts-waiting, waits-on, Tells, nodeAt, stateAt, Did, did-ask, did-attach, did-notify, delivery-did}
 
 -- x is an attached node
 pub record Attached (s : List ℕ) (x : ℕ) : Type 0 where
@@ -130,11 +130,18 @@ module _ (s t : List ℕ) (S : Sound s t) (x y : ℕ) (c : CanDeliver s x y) whe
   fits : 8 * x + 8 ≤ length s
   fits = node-fits s t S x nx
 
-  long-own : length (d .senderTable) ≡ 512
-  long-own = does .own .long ∙ table-length t x (table-fits s t S x nx)
+  pub tables-long : (length (delivery s t x y .senderTable) ≡ 512) × (length (delivery s t x y .receiverTable) ≡ 512)
+  tables-long = (
+    does .own .long ∙ table-length t x (table-fits s t S x nx),
+    does .their .long ∙ table-length t y (table-fits s t S y ny),
+  )
 
-  long-their : length (d .receiverTable) ≡ 512
-  long-their = does .their .long ∙ table-length t y (table-fits s t S y ny)
+  -- the state in which x attaches
+  pub attach-record : nodeOf (stateAt s t x y) x ≡ nodeAt s t x y
+  attach-record = node-stored s x (nodeAt s t x y) fits
+
+  pub attach-agree : Agree x s (stateAt s t x y)
+  attach-agree = agree-node s x fits (nodeAt s t x y) refl
 
   -- the sender keeps its id
   pub delivered-id : delivery s t x y .sender .id ≡ idOf s x
@@ -184,16 +191,19 @@ module _ (s t : List ℕ) (S : Sound s t) (x y : ℕ) (c : CanDeliver s x y) whe
 
   pub delivered-sender : tableOf (delivered s t x y (delivery s t x y) .tables) x ≡ delivery s t x y .senderTable
   unfolding delivered
-  delivered-sender = replaced-first s t S x y nx ny (d .senderTable) (d .receiverTable) long-own long-their
+  delivered-sender = replaced-first s t S x y nx ny (d .senderTable) (d .receiverTable) (tables-long .0) (tables-long .1)
 
   pub delivered-receiver : y ≢ x → tableOf (delivered s t x y (delivery s t x y) .tables) y ≡ delivery s t x y .receiverTable
   unfolding delivered
-  delivered-receiver = replaced-second s t S x y nx ny (d .senderTable) (d .receiverTable) long-own long-their
+  delivered-receiver = replaced-second s t S x y nx ny (d .senderTable) (d .receiverTable) (tables-long .0) (tables-long .1)
+
+  -- what holds of the two, and of each table as it was, holds of each table then
+  pub delivered-each : (P : ℕ → List ℕ → Type 0) → P x (delivery s t x y .senderTable) → P y (delivery s t x y .receiverTable)
+      → ((z : ℕ) → IsNode s z → P z (tableOf t z)) → (z : ℕ) → IsNode s z → P z (tableOf (delivered s t x y (delivery s t x y) .tables) z)
+  unfolding delivered
+  delivered-each = replaced-table s t S x y nx ny (d .senderTable) (d .receiverTable) (tables-long .0) (tables-long .1)
 
   pub delivered-onward : Onward s t (delivered s t x y (delivery s t x y) .state) (delivered s t x y (delivery s t x y) .tables)
-  unfolding delivered
   delivered-onward =
-      later-onward delivered-later
-      (λ z a.
-      replaced-table s t S x y nx ny (d .senderTable) (d .receiverTable) long-own long-their (λ z T. Grows (tableOf t z) T) (does .own) (does .their)
-      (λ z n. grows-refl (tableOf t z)) z (a .node))
+      later-onward later-delivered
+      (λ z a. delivered-each (λ z T. Grows (tableOf t z) T) (does .own) (does .their) (λ z n. grows-refl (tableOf t z)) z (a .node))

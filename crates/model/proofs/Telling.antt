@@ -1,6 +1,6 @@
 -- A delivery of a node that joins alone by which it tells its receiver. Assumes nothing.
 use Prim.Native.Nat.{ℕ, suc, _+_, _-_, _≤_, _<_}
-use mathlib.Core.Path.{_≡_, sym, ap, subst, subst₃, _∙_}
+use mathlib.Core.Path.{_≡_, sym, ap, subst, _∙_}
 use mathlib.Core.Logic.{_≢_, _⊎_, inl, inr, ⊎-elim}
 use mathlib.Core.Bool.{true, false}
 use mathlib.Core.List.{List}
@@ -14,9 +14,8 @@ use Rattle.model.specs.Nodes.{suffixOf}
 use Rattle.model.specs.Learning.{floorOf, roomFor, learn}
 use Rattle.model.specs.Join.{Delivery, gather, delivery, delivered}
 use Rattle.model.proofs.Bools.{true-or-false}
-use Rattle.model.proofs.Ids.{InRange, digit-lt, valid-digit, low-join, suffix-low, suffix-of-low, suffix-digit, suffix-sym, suffix-through, qualified-low, qualified-digit}
+use Rattle.model.proofs.Ids.{digit-lt, valid-digit, low-join, suffix-low, suffix-of-low, suffix-digit, suffix-sym, suffix-through, qualified-low, qualified-digit}
 use Rattle.model.proofs.Sets.{has-added, has-add, add-keeps, add-within}
-use Rattle.model.proofs.Nodes.{suffix-by}
 use Rattle.model.proofs.Memory.{table-length}
 use Rattle.model.proofs.Tables.{size-le, grows-trans}
 use Rattle.model.proofs.Status.{IsNode, attached-other, waiting-away}
@@ -26,7 +25,7 @@ use Rattle.model.proofs.Learning.{learn-grows}
 use Rattle.model.proofs.Gather.{ToNotify, gather-takes, gather-keeps}
 use Rattle.model.proofs.Sender.{CanDeliver}
 use Rattle.model.proofs.DeliveryDid.{levelAt, Attaches, level-least, to-receiver}
-use Rattle.model.proofs.ReplacingKeepsSound.{Agree, agree-id}
+use Rattle.model.proofs.ReplacingKeepsSound.{Agree, agree-both, agree-id, agree-digits, agree-depth, agree-range, agree-suffix}
 use Rattle.model.proofs.TablesOnlyGrow.{Attached, settled-attached, Onward, later-delivered, delivered-agree, delivered-receiver, delivered-onward}
 use Rattle.model.proofs.NoRoom.{NoRoom, no-room-by, no-room-grows, full-no-room, gapless, filled-by, node-learned}
 use Rattle.model.proofs.Reaching.{Reaching}
@@ -136,7 +135,7 @@ module _ (s₀ t₀ : List ℕ) (Y : Yes s₀ t₀) (s t : List ℕ) (S : Sound 
     a₁ = delivered-agree s t S x y c
 
     suffix₁ : (u v : ℕ) → suffixOf s₁ u v ≡ suffixOf s u v
-    suffix₁ u v = suffix-by s s₁ u v (later-delivered s t S x y c .digits) (agree-id x s s₁ a₁ u) (agree-id x s s₁ a₁ v)
+    suffix₁ = agree-suffix x s s₁ a₁ (c .sender .low)
 
     -- where there was no room there is none
     kept : (u : ℕ) → IsNode s₀ u → (i : ℕ) → i < digits s → NoRoom s (tableOf t u) x i → NoRoom s₁ (tableOf t₁ u) x i
@@ -149,14 +148,11 @@ module _ (s₀ t₀ : List ℕ) (Y : Yes s₀ t₀) (s t : List ℕ) (S : Sound 
     learned : (i : ℕ) → k ≤ i → i ≤ suffixOf s y x → i < digits s → NoRoom s₁ (tableOf t₁ y) x i
     learned i low high hi =
         let low₁ : 1 ≤ x = c .sender .low in
-        let same-digits : digits s′ ≡ digits s = a .words 1 (inl (omega (arith, low₁))) in
-        let same-depth : depth s′ ≡ depth s = a .words 2 (inl (omega (arith, low₁))) in
-        let range′ = subst₃ InRange (sym (a .words 0 (inl (omega (arith, low₁))))) (sym same-digits) (sym same-depth) (S .settings) in
-        let suffix = suffix-by s s′ y x same-digits (agree-id x s s′ a y) (agree-id x s s′ a x) in
+        let b : Agree x s′ s₁ = agree-both x s s′ s₁ a a₁ in
         rw (delivered-receiver s t S x y c (to-receiver s t S x y c .other), theirs)
-        (no-room-by s′ s₁ _ x i (later-delivered s t S x y c .depth ∙ sym same-depth) (agree-id x s s₁ a₁ x ∙ sym (agree-id x s s′ a x))
-        (node-learned s′ range′ x (omega arith) i (omega (arith, floor, low)) (omega (arith, hi, same-digits)) y (omega (arith, high, suffix)) (tableOf t y)
-        (table-length t y (table-fits s t S y (c .receiver)))))
+        (no-room-by s′ s₁ _ x i (agree-depth x s′ s₁ b low₁) (agree-id x s′ s₁ b x)
+        (node-learned s′ (agree-range x s s′ a low₁ (S .settings)) x (omega arith) i (omega (arith, floor, low)) (omega (arith, hi, agree-digits x s s′ a low₁)) y
+        (omega (arith, high, agree-suffix x s s′ a low₁ y x)) (tableOf t y) (table-length t y (table-fits s t S y (c .receiver)))))
 
     -- each node of y's table at the yes that matches x was told, or is due now
     gathered : (p : ℕ) → p < 512 → getD (tableOf t₀ y) p 0 ≢ 0 → k ≤ suffixOf s x (getD (tableOf t₀ y) p 0)

@@ -1,22 +1,20 @@
 -- What a call that is taken does to the memory lies within the fixed lengths. Assumes nothing.
 use Prim.Native.Nat.{ℕ, _+_, _*_, _≤_}
-use mathlib.Core.Path.{_≡_, ap, _∙_}
+use mathlib.Core.Path.{_≡_, _∙_}
 use mathlib.Core.List.{List}
 use native.Mathlib.Omega.{arith}
 use lib.ListN.{length, set}
-use Rattle.model.specs.Memory.{Node, stateLength, tablesLength, zeroed, withNode, tableOf, withTable}
+use Rattle.model.specs.Memory.{Node, stateLength, tablesLength, zeroed, withNode, withTable}
 use Rattle.model.specs.Tables.{append, ownTable}
 use Rattle.model.specs.Join.{Delivery, founded, delivery}
 use Rattle.model.specs.Image.{imBase, imDigits, imDepth, imNodes, imId, imRecords, recNode, recLevel, recDigit, recNeighbor, loadId, loadRecord, loaded}
 use Rattle.model.proofs.Tables.{append-length}
 use Rattle.model.proofs.OwnTable.{own-long}
-use Rattle.model.proofs.Memory.{table-length}
-use Rattle.model.proofs.Learning.{learn-grows, learn-table-grows}
-use Rattle.model.proofs.Sound.{Sound, table-fits}
+use Rattle.model.proofs.Sound.{Sound}
 use Rattle.model.proofs.LoadingIsSound.{GoodImage}
 use Rattle.model.proofs.Sender.{CanDeliver}
-use Rattle.model.proofs.DeliveryDid.{Tells, Did, did-ask, did-attach, did-notify, delivery-did}
 use Rattle.model.proofs.Within.{Within, within-then, within-each, within-set, within-zeroed, then-set, within-node, within-table}
+use Rattle.model.proofs.TablesOnlyGrow.{tables-long}
 
 -- f is done to the state and g to the table memory, both within the fixed lengths
 pub record Works (f g : List ℕ → List ℕ) : Type 0 where
@@ -64,33 +62,11 @@ module _ (s t : List ℕ) (S : Sound s t) (x y : ℕ) (c : CanDeliver s x y) whe
   abbrev d : Delivery
   d = delivery s t x y
 
-  pub tables-long : (length (delivery s t x y .senderTable) ≡ 512) × (length (delivery s t x y .receiverTable) ≡ 512)
-  tables-long = go (delivery-did s t S x y c)
-    where
-      own : length (tableOf t x) ≡ 512
-      own = table-length t x (table-fits s t S x (c .sender))
-
-      their : length (tableOf t y) ≡ 512
-      their = table-length t y (table-fits s t S y (c .receiver))
-
-      tells : {s′ seen : List ℕ} {level pending notified notices : ℕ} → Tells s t x y d s′ seen level pending notified notices
-          → (length (d .senderTable) ≡ 512) × (length (d .receiverTable) ≡ 512)
-      tells {s′} {seen} w = (
-        ap length (w .own) ∙ learn-table-grows s′ x seen (tableOf t x) .long ∙ own,
-        ap length (w .theirs) ∙ learn-grows s′ y x (tableOf t y) .long ∙ their,
-      )
-
-      go : Did s t x y d → (length (d .senderTable) ≡ 512) × (length (d .receiverTable) ≡ 512)
-      go (did-ask w) =
-          (ap length (w .own) ∙ learn-table-grows s x (tableOf t y) (tableOf t x) .long ∙ own, ap length (w .theirs) ∙ their)
-      go (did-attach w) = tells (w .tells)
-      go (did-notify w) = tells (w .tells)
-
   pub deliver-works : Works (λ s₁. withNode s₁ x (delivery s t x y .sender))
       (λ t₁. withTable (withTable t₁ y (delivery s t x y .receiverTable)) x (delivery s t x y .senderTable))
   deliver-works = record {
     state = within-node x (d .sender) (omega (arith, c .sender .high, S .few));
     tables = within-then tablesLength _ _
-        (within-table y (c .receiver .low) (omega (arith, c .receiver .high, S .few)) (λ U. d .receiverTable) (λ U q. tables-long .1))
-        (within-table x (c .sender .low) (omega (arith, c .sender .high, S .few)) (λ U. d .senderTable) (λ U q. tables-long .0));
+        (within-table y (c .receiver .low) (omega (arith, c .receiver .high, S .few)) (λ U. d .receiverTable) (λ U q. tables-long s t S x y c .1))
+        (within-table x (c .sender .low) (omega (arith, c .sender .high, S .few)) (λ U. d .senderTable) (λ U q. tables-long s t S x y c .0));
   }
