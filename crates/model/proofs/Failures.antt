@@ -23,7 +23,7 @@ use Rattle.model.proofs.Lookup.{walk, arrives-is, lookup-hop}
 use Rattle.model.proofs.NoRoom.{NoRoom, no-room-cases, held-entry}
 
 module _ (s t : List ℕ) (S : Sound s t) (failed z : ℕ) (nz : IsNode s z) (left : hasNode failed z ≡ false) where
-  module _ (u : ℕ) (nu : IsNode s u) (ne : u ≢ z) (none : nextHop s t failed u z .node ≡ 0) (room : NoRoom s (tableOf t u) z (suffixOf s u z)) where
+  module _ (u : ℕ) (nu : IsNode s u) (ne : u ≢ z) (none : nextHop s t failed u z .node ≡ 0) (no-room : NoRoom s (tableOf t u) z (suffixOf s u z)) where
     abbrev i : ℕ
     i = suffixOf s u z
 
@@ -40,7 +40,7 @@ module _ (s t : List ℕ) (S : Sound s t) (failed z : ℕ) (nz : IsNode s z) (le
 
     -- z, which has not failed, is not in the entry, so that is full
     full : length N ≡ depth s
-    full = ⊎-elim in-it (λ e. size-is-length s t S u i j nu (level-below s t S u z nu nz ne) (digit-below s t S u z nu nz ne) ∙ e) (no-room-cases (depth s) (tableOf t u) i j z room)
+    full = ⊎-elim in-it (λ e. size-is-length s t S u i j nu (level-below s t S u z nu nz ne) (digit-below s t S u z nu nz ne) ∙ e) (no-room-cases (depth s) (tableOf t u) i j z no-room)
       where
         in-it : holds (depth s) (tableOf t u) i j z ≡ true → length N ≡ depth s
         in-it h =
@@ -62,12 +62,12 @@ module _ (s t : List ℕ) (S : Sound s t) (failed z : ℕ) (nz : IsNode s z) (le
   module _ (few : countNodes s (hasNode failed) < depth s) where
     -- a next hop is left
     pub some-hop : (u : ℕ) → IsNode s u → u ≢ z → NoRoom s (tableOf t u) z (suffixOf s u z) → nextHop s t failed u z .node ≢ 0
-    some-hop u nu ne room none = omega (arith, few, many-failed u nu ne none room)
+    some-hop u nu ne no-room none = omega (arith, few, many-failed u nu ne none no-room)
 
     -- and every lookup from an attached node to z arrives, if there is no room for z at any of them
     pub few-failed : ((u : ℕ) → Attached s u → u ≢ z → NoRoom s (tableOf t u) z (suffixOf s u z)) → (u : ℕ) → Attached s u → lookup s t failed u z .arrived ≡ 1
-    few-failed room u a =
+    few-failed no-room u a =
         walk s t S failed z nz (λ (u : ℕ). isAttached s u ≡ true → lookup s t failed u z .arrived ≡ 1)
         (λ u nu e a. rw (arrives-is s t failed u z e))
-        (λ u nu ne q a. absurd (some-hop u nu ne (room u (record { node = nu; status = a }) ne) q))
+        (λ u nu ne q a. absurd (some-hop u nu ne (no-room u (record { node = nu; status = a }) ne) q))
         (λ u nu ne q ih a. rw (lookup-hop s t S failed z nz u nu ne q) (ih (hop-attached s t S u z nu nz ne failed q a))) u (a .node) (a .status)

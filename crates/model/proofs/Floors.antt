@@ -1,4 +1,5 @@
--- Nobody stands below its floor in another's table, and every taken call keeps that. Assumes nothing.
+-- Nobody stands below its floor in another's table where every node is in system, and beginnings, withdrawals and deliveries keep that. Assumes
+-- nothing.
 use Prim.Native.Nat.{ℕ, suc, _+_, _/_, _≤_, _<_}
 use mathlib.Core.Path.{_≡_, sym, ap, subst, _∙_}
 use mathlib.Core.Logic.{_≢_, ⊎-elim}

@@ -56,8 +56,8 @@ module _ (s t s′ t′ : List ℕ) (S : Sound s t) (S′ : Sound s′ t′) (on
         grows : Grows (tableOf t u) (tableOf t′ u)
         grows = on .grows u (attached u nu)
 
-        room : NoRoom s (tableOf t u) z (suffixOf s u z)
-        room = whole-no-room s t S (consistent-whole s t whole) u z i nu nz (le-refl i) (level-below s t S u z nu nz ne)
+        no-room : NoRoom s (tableOf t u) z (suffixOf s u z)
+        no-room = whole-no-room s t S (consistent-whole s t whole) u z i nu nz (le-refl i) (level-below s t S u z nu nz ne)
 
         -- a next hop stays; where none was left the entry was full, and stays
         same : nextHop s′ t′ failed u z ≡ nextHop s t failed u z
@@ -68,7 +68,7 @@ module _ (s t s′ t′ : List ℕ) (S : Sound s t) (S′ : Sound s′ t′) (on
                 → frontmost failed (entry (depth s) (tableOf t′ u) i j) ≡ frontmost failed (entry (depth s) (tableOf t u) i j)
             go (yes none) =
                 ap (frontmost failed)
-                (grown-full (depth s) (tableOf t u) (tableOf t′ u) i j grows fits (lost-full s t S failed z nz left u nu ne none room))
+                (grown-full (depth s) (tableOf t u) (tableOf t′ u) i j grows fits (lost-full s t S failed z nz left u nu ne none no-room))
             go (no some) =
                 front-behind failed (entry (depth s) (tableOf t u) i j) (entry (depth s) (tableOf t′ u) i j)
                 (grown-longer (depth s) (tableOf t u) (tableOf t′ u) i j grows fits)

@@ -33,7 +33,7 @@ use Rattle.model.proofs.Consistency.{Whole, entry-fewer}
 -- ---- an entry
 
 module _ (K : ℕ) (T : List ℕ) (i j : ℕ) where
-  pub slot-held : (z k : ℕ) → k < K → slotAt T i j k ≡ z → holds K T i j z ≡ true
+  slot-held : (z k : ℕ) → k < K → slotAt T i j k ≡ z → holds K T i j z ≡ true
   unfolding holds
   slot-held z k l e = any-of K (slotIs T i j z) k l (eq-eqb (slotAt T i j k) z e)
 
@@ -47,7 +47,11 @@ module _ (K : ℕ) (T : List ℕ) (i j : ℕ) where
       let l = first-some K (slotIs T i j z) e in
       (l, eqb-true (slotAt T i j (place z)) z (first-holds K (slotIs T i j z) l))
 
-  pub held-no-room : (z : ℕ) → holds K T i j z ≡ true → roomFor K T i j z ≡ false
+  -- which no other has
+  same-place : (y z : ℕ) → holds K T i j y ≡ true → holds K T i j z ≡ true → place y ≡ place z → y ≡ z
+  same-place y z e f q = sym (held-place y e .1) ∙ ap (slotAt T i j) q ∙ held-place z f .1
+
+  held-no-room : (z : ℕ) → holds K T i j z ≡ true → roomFor K T i j z ≡ false
   unfolding roomFor
   held-no-room z e = ap (λ (b : Bool). not b && ltb (entrySize K T i j) K) e
 
@@ -74,10 +78,6 @@ module _ (K : ℕ) (T : List ℕ) (i j : ℕ) where
     place-before z some e =
         lt-of-not-le (λ l. some (sym (held-place z e .1) ∙ gap-rest K T i j gapless (place z) l (held-place z e .0)))
 
-    -- and no other has it
-    place-own : (y z : ℕ) → holds K T i j y ≡ true → holds K T i j z ≡ true → place y ≡ place z → y ≡ z
-    place-own y z e f q = sym (held-place y e .1) ∙ ap (slotAt T i j) q ∙ held-place z f .1
-
     -- K different nodes for which there is no room fill the entry
     different-full : (f : ℕ → ℕ) → ((k : ℕ) → k < K → (f k ≢ 0) × (roomFor K T i j (f k) ≡ false))
         → ((k l : ℕ) → k < K → l < K → f k ≡ f l → k ≡ l) → entrySize K T i j ≡ K
@@ -91,11 +91,11 @@ module _ (K : ℕ) (T : List ℕ) (i j : ℕ) where
         go (yes l) =
             let n = count-least (entrySize K T i j) K (λ k. true) (λ k. place (f k))
             (λ k h. (place-before (f k) (none k h .0) (held l k h), refl))
-            (λ k m h g e. differ k m h g (place-own (f k) (f m) (held l k h) (held l m g) e)) in
+            (λ k m h g e. differ k m h g (same-place (f k) (f m) (held l k h) (held l m g) e)) in
             absurd (omega (arith, l, n, count-le (entrySize K T i j) (λ k. true)))
 
 -- a table that gains nodes gains no room
-pub grown-no-room : (K : ℕ) (T T′ : List ℕ) (i j : ℕ) → Grows T T′ → slotPlace i j K ≤ length T → (z : ℕ) → z ≢ 0
+grown-no-room : (K : ℕ) (T T′ : List ℕ) (i j : ℕ) → Grows T T′ → slotPlace i j K ≤ length T → (z : ℕ) → z ≢ 0
     → roomFor K T i j z ≡ false → roomFor K T′ i j z ≡ false
 grown-no-room K T T′ i j g fits z some e = ⊎-elim held full (no-room-cases K T i j z e)
   where
@@ -260,7 +260,7 @@ module _ (s t : List ℕ) (S : Sound s t) where
             (no-room-cases (depth s) T i j (k + 1) (none (k + 1) (record { low = omega arith; high = omega (arith, h) }) q)) in
             let few = count-most (nodeCount s) (entrySize (depth s) T i j) (node (qualifies s u i j)) (λ k. place (depth s) T i j (k + 1))
             (λ k h q. place-before (depth s) T i j gapless (k + 1) (omega arith) (held k h q))
-            (λ k m h g p q e. let w = place-own (depth s) T i j gapless (k + 1) (m + 1) (held k h p) (held m g q) e in omega (arith, w)) in
+            (λ k m h g p q e. let w = same-place (depth s) T i j (k + 1) (m + 1) (held k h p) (held m g q) e in omega (arith, w)) in
             omega (arith, l, n, few)
 
   -- at every level up to the common suffix of two nodes

@@ -32,7 +32,7 @@ use Rattle.model.proofs.Progress.{only-own}
 use Rattle.model.proofs.Consistency.{Whole}
 use Rattle.model.proofs.Floors.{floor-notifying}
 use Rattle.model.proofs.Reaching.{Reaching, whole-reaching, begun-reaching, delivered-reaching}
-use Rattle.model.proofs.Told.{Yes, Told, told-due, told-whole}
+use Rattle.model.proofs.Told.{Yes, old-node, Told, told-due, told-whole}
 use Rattle.model.proofs.Telling.{receiver-old, attach-low, telling}
 
 module _ (s₀ t₀ : List ℕ) (Y : Yes s₀ t₀) where
@@ -62,9 +62,9 @@ module _ (s₀ t₀ : List ℕ) (Y : Yes s₀ t₀) where
 
     -- all others are in system
     pub others : (u : ℕ) → IsNode s u → u ≢ nodeCount s₀ + 1 → isInSystem s u ≡ true
-    others u nu e = A .reaching .in-system u (record { low = nu .low; high = omega (arith, nu .high, A .count, e) })
+    others u nu e = A .reaching .in-system u (old-node s₀ t₀ Y (A .count) u nu e)
 
-    -- no more than d + n₀ deliveries were taken
+    -- no more deliveries were taken than d and the nodes at the yes, together
     pub alone-bound : n ≤ digits s₀ + nodeCount s₀
     alone-bound = go (A .stage)
       where
@@ -144,7 +144,7 @@ module _ (s₀ t₀ : List ℕ) (Y : Yes s₀ t₀) where
       pending = gather s x k (addNode before y) (learn s′ y x (tableOf t y)) rest
 
       T₁ : Told s₀ t₀ Y s₁ t₁ k (λ v. hasNode pending v ≡ true) told
-      T₁ = telling s₀ t₀ Y s t S (A .onward) (A .count) (A .reaching) y c s′ a k before rest notices floor reach T (w .theirs)
+      T₁ = telling s₀ t₀ Y s t S (A .onward) (A .count) (A .reaching) y c s′ a k before rest floor reach T (w .theirs)
 
       nobody : pending ≡ 0 → Told s₀ t₀ Y s₁ t₁ k (λ v. ⊥) told
       nobody p = told-due s₀ t₀ Y (λ v low h. not-both (hasNode pending v) h (ap (λ (a : ℕ). hasNode a v) p ∙ has-none v)) T₁

@@ -36,7 +36,7 @@ module _ (s₀ : List ℕ) where
     pub floors : Floors s t
     pub is-node : (z : ℕ) → IsNode s₀ z → IsNode s z
     pub in-system : (z : ℕ) → IsNode s₀ z → isInSystem s z ≡ true
-    pub room : (u : ℕ) → Attached s u → (z : ℕ) → IsNode s₀ z → (i : ℕ) → i ≤ suffixOf s u z → i < digits s → NoRoom s (tableOf t u) z i
+    pub no-room : (u : ℕ) → Attached s u → (z : ℕ) → IsNode s₀ z → (i : ℕ) → i ≤ suffixOf s u z → i < digits s → NoRoom s (tableOf t u) z i
 
   -- ---- so lookups arrive, while fewer than K nodes have failed
 
@@ -44,7 +44,7 @@ module _ (s₀ : List ℕ) where
       → countNodes s (hasNode failed) < depth s → (u : ℕ) → Attached s u → lookup s t failed u z .arrived ≡ 1
   reaching-arrives s t S R failed z nz left few =
       few-failed s t S failed z (R .is-node z nz) left few
-      (λ u a ne. R .room u a z nz (suffixOf s u z) (le-refl (suffixOf s u z)) (level-below s t S u z (a .node) (R .is-node z nz) ne))
+      (λ u a ne. R .no-room u a z nz (suffixOf s u z) (le-refl (suffixOf s u z)) (level-below s t S u z (a .node) (R .is-node z nz) ne))
 
   -- ---- a taken call keeps it
 
@@ -59,18 +59,18 @@ module _ (s₀ : List ℕ) where
         let hi₀ : i < digits s = omega (arith, hi, on .digits) in
         no-room-by s s′ (tableOf t′ u) z i (on .depth) (on .ids z (attached₀ z n))
         (no-room-grows s (S .settings) (tableOf t u) (tableOf t′ u) z i (on .grows u a) (table-length t u (table-fits s t S u (a .node)))
-        (λ e. omega (arith, e, n .low)) hi₀ (R .room u a z n i (omega (arith, low, suffix)) hi₀))
+        (λ e. omega (arith, e, n .low)) hi₀ (R .no-room u a z n i (omega (arith, low, suffix)) hi₀))
 
     -- u has no room for them then
-    abbrev Roomless : ℕ → Type 0
-    Roomless u = (z : ℕ) → IsNode s₀ z → (i : ℕ) → i ≤ suffixOf s′ u z → i < digits s′ → NoRoom s′ (tableOf t′ u) z i
+    abbrev NoRoomAt : ℕ → Type 0
+    NoRoomAt u = (z : ℕ) → IsNode s₀ z → (i : ℕ) → i ≤ suffixOf s′ u z → i < digits s′ → NoRoom s′ (tableOf t′ u) z i
 
-    onward-reaching : Floors s′ t′ → ((u : ℕ) → Attached s′ u → Attached s u ⊎ Roomless u) → Reaching s′ t′
+    onward-reaching : Floors s′ t′ → ((u : ℕ) → Attached s′ u → Attached s u ⊎ NoRoomAt u) → Reaching s′ t′
     onward-reaching F which = record {
       floors = F;
       is-node = λ z n. on .attached z (attached₀ z n) .node;
       in-system = λ z n. on .in-system z (R .is-node z n) (R .in-system z n);
-      room = λ u a. ⊎-elim (still u) (λ r. r) (which u a);
+      no-room = λ u a. ⊎-elim (still u) (λ r. r) (which u a);
     }
 
   pub begun-reaching : (s t : List ℕ) (id gateway : ℕ) → Sound s t → CanBegin s id gateway → Reaching s t
@@ -84,7 +84,7 @@ module _ (s₀ : List ℕ) where
       away : (u : ℕ) → u ≡ nodeCount s + 1 → isAttached s₁ u ≡ false
       away u e = ap (isAttached s₁) e ∙ copying-away s₁ (nodeCount s + 1) (same-status (begun-new s t id gateway S c))
 
-      before : (u : ℕ) → Attached s₁ u → Attached s u ⊎ Roomless s t s₁ _ S (begun-onward s t id gateway S c) R u
+      before : (u : ℕ) → Attached s₁ u → Attached s u ⊎ NoRoomAt s t s₁ _ S (begun-onward s t id gateway S c) R u
       before u a =
           ⊎-elim (λ e. absurd (not-both (isAttached s₁ u) (a .status) (away u e)))
           (λ n. inl (record { node = n; status = sym (attached-same s s₁ u (begun-kept s t id gateway S c u n)) ∙ a .status }))
@@ -110,21 +110,21 @@ module _ (s₀ : List ℕ) where
     on = delivered-onward s t S x y c
 
     -- which then has no room for them: its receiver was in system and had none
-    attaching : Attaches s t x y (delivery s t x y) → Roomless s t s₁ t₁ S on R x
+    attaching : Attaches s t x y (delivery s t x y) → NoRoomAt s t s₁ t₁ S on R x
     attaching w z n i low hi =
         let a = delivered-agree s t S x y c in
         let low₁ : 1 ≤ x = c .sender .low in
         let b : Attached s y = settled-attached s y (c .receiver) (w .in-system) in
         rw (delivered-sender s t S x y c)
         (no-room-by s s₁ (delivery s t x y .senderTable) z i (agree-depth x s s₁ a low₁) (agree-id x s s₁ a z)
-        (attached-no-room s t S x y c w (R .floors) z (R .is-node z n) (R .in-system z n) (R .room y b z n) i
+        (attached-no-room s t S x y c w (R .floors) z (R .is-node z n) (R .in-system z n) (R .no-room y b z n) i
         (omega (arith, low, agree-suffix x s s₁ a low₁ x z)) (omega (arith, hi, agree-digits x s s₁ a low₁))))
 
     -- x was attached before, or attaches now
-    sender : isAttached s₁ x ≡ true → Attached s x ⊎ Roomless s t s₁ t₁ S on R x
+    sender : isAttached s₁ x ≡ true → Attached s x ⊎ NoRoomAt s t s₁ t₁ S on R x
     sender e = go (delivery-did s t S x y c)
       where
-        go : Did s t x y (delivery s t x y) → Attached s x ⊎ Roomless s t s₁ t₁ S on R x
+        go : Did s t x y (delivery s t x y) → Attached s x ⊎ NoRoomAt s t s₁ t₁ S on R x
         go (did-ask w) =
             absurd (not-both (isAttached s₁ x) e (asking-away (w .how) s₁ (same-status (delivered-record s t S x y c ∙ w .sender))))
         go (did-attach w) = inr (attaching w)
@@ -133,9 +133,9 @@ module _ (s₀ : List ℕ) where
     pub delivered-reaching : Reaching (delivered s t x y (delivery s t x y) .state) (delivered s t x y (delivery s t x y) .tables)
     delivered-reaching = onward-reaching s t s₁ t₁ S on R (delivered-floors s t S x y c (R .floors)) (λ u a. before u a (ℕ-discrete u x))
       where
-        before : (u : ℕ) → Attached s₁ u → Dec (u ≡ x) → Attached s u ⊎ Roomless s t s₁ t₁ S on R u
+        before : (u : ℕ) → Attached s₁ u → Dec (u ≡ x) → Attached s u ⊎ NoRoomAt s t s₁ t₁ S on R u
         before u a (yes e) =
-            subst (λ (u : ℕ). Attached s u ⊎ Roomless s t s₁ t₁ S on R u) (sym e) (sender (ap (isAttached s₁) (sym e) ∙ a .status))
+            subst (λ (u : ℕ). Attached s u ⊎ NoRoomAt s t s₁ t₁ S on R u) (sym e) (sender (ap (isAttached s₁) (sym e) ∙ a .status))
         before u a (no e) = inl (record {
           node = record { low = a .node .low; high = omega (arith, a .node .high, delivered-count s t S x y c) };
           status = sym (attached-same s s₁ u (agree-kept x s s₁ (delivered-agree s t S x y c) u e)) ∙ a .status;
@@ -147,5 +147,5 @@ whole-reaching s t S all w = record {
   floors = settled-floors s t S all;
   is-node = λ z n. n;
   in-system = all;
-  room = λ u a z n i. whole-no-room s t S w u z i (a .node) n;
+  no-room = λ u a z n i. whole-no-room s t S w u z i (a .node) n;
 }

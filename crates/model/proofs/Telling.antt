@@ -12,7 +12,7 @@ use Rattle.model.specs.Memory.{base, digits, depth, nodeCount, idOf, has
 use Rattle.model.specs.Tables.{slotPlace, slotAt, entrySize}
 use Rattle.model.specs.Nodes.{suffixOf}
 use Rattle.model.specs.Learning.{floorOf, roomFor, learn}
-use Rattle.model.specs.Join.{Delivery, gather, delivery, delivered}
+use Rattle.model.specs.Join.{gather, delivery, delivered}
 use Rattle.model.proofs.Bools.{true-or-false}
 use Rattle.model.proofs.Ids.{digit-lt, valid-digit, low-join, suffix-low, suffix-of-low, suffix-digit, suffix-sym, suffix-through, qualified-low, qualified-digit}
 use Rattle.model.proofs.Sets.{has-added, has-add, add-keeps, add-within}
@@ -29,15 +29,12 @@ use Rattle.model.proofs.ReplacingKeepsSound.{Agree, agree-both, agree-i
 use Rattle.model.proofs.TablesOnlyGrow.{Attached, settled-attached, Onward, later-delivered, delivered-agree, delivered-receiver, delivered-onward}
 use Rattle.model.proofs.NoRoom.{NoRoom, no-room-by, no-room-grows, full-no-room, gapless, filled-by, node-learned}
 use Rattle.model.proofs.Reaching.{Reaching}
-use Rattle.model.proofs.Told.{Yes, Told}
+use Rattle.model.proofs.Told.{Yes, old-node, Told}
 
 module _ (s₀ t₀ : List ℕ) (Y : Yes s₀ t₀) (s t : List ℕ) (S : Sound s t) (on : Onward s₀ t₀ s t) (count : nodeCount s ≡ nodeCount s₀ + 1)
     (R : Reaching s₀ s t) (y : ℕ) (c : CanDeliver s (nodeCount s₀ + 1) y) where
   abbrev x : ℕ
   x = nodeCount s₀ + 1
-
-  abbrev d : Delivery
-  d = delivery s t (nodeCount s₀ + 1) y
 
   abbrev s₁ : List ℕ
   s₁ = delivered s t (nodeCount s₀ + 1) y (delivery s t (nodeCount s₀ + 1) y) .state
@@ -45,15 +42,11 @@ module _ (s₀ t₀ : List ℕ) (Y : Yes s₀ t₀) (s t : List ℕ) (S : Sound 
   abbrev t₁ : List ℕ
   t₁ = delivered s t (nodeCount s₀ + 1) y (delivery s t (nodeCount s₀ + 1) y) .tables
 
-  -- a node of the state but x is one of those at the yes
-  was : (u : ℕ) → IsNode s u → u ≢ x → IsNode s₀ u
-  was u n e = record { low = n .low; high = omega (arith, n .high, count, e) }
-
   attached : (u : ℕ) → IsNode s₀ u → Attached s u
   attached u n = settled-attached s u (R .is-node u n) (R .in-system u n)
 
   pub receiver-old : IsNode s₀ y
-  receiver-old = was y (c .receiver) (to-receiver s t S x y c .other)
+  receiver-old = old-node s₀ t₀ Y count y (c .receiver) (to-receiver s t S x y c .other)
 
   -- ---- below the attach level every entry for x is full
 
@@ -93,7 +86,7 @@ module _ (s₀ t₀ : List ℕ) (Y : Yes s₀ t₀) (s t : List ℕ) (S : Sound 
           let p : ℕ = slotPlace e j k in
           let f = stands-node s (S .settings) y (to-receiver s t S x y c .attached) Ty (own s t S y (c .receiver)) p
           (omega (arith, he, digit-lt (idOf s x) e, l, S .settings .digits-most, S .settings .depth-most)) nz in
-          was (slotAt Ty e j k) (f .0) (attached-other s x (slotAt Ty e j k) (waiting-away s x (w .status)) (f .1))
+          old-node s₀ t₀ Y count (slotAt Ty e j k) (f .0) (attached-other s x (slotAt Ty e j k) (waiting-away s x (w .status)) (f .1))
 
       full-below : (u : ℕ) → IsNode s₀ u → (i : ℕ) → i < suc e → i ≤ suffixOf s u x → NoRoom s (tableOf t u) x i
       full-below u n i less low =
@@ -111,7 +104,7 @@ module _ (s₀ t₀ : List ℕ) (Y : Yes s₀ t₀) (s t : List ℕ) (S : Sound 
               let near = slot-near k o in
               let between = suffix-through (digits s) (idOf s x) (idOf s u) (idOf s v) i (omega (arith, low, suffix-sym (digits s) (idOf s x) (idOf s u))) (omega (arith, near, less)) in
               subst (λ (j : ℕ). roomFor (depth s) (tableOf t u) i j v ≡ false) (sym (suffix-digit (digits s) (idOf s x) (idOf s v) i (omega (arith, near, less))))
-              (R .room u (attached u n) v (slot-old k l nz) i between hi)
+              (R .no-room u (attached u n) v (slot-old k l nz) i between hi)
 
     pub attach-low : (u : ℕ) → IsNode s₀ u → (i : ℕ) → i < levelAt s t (nodeCount s₀ + 1) y → i ≤ suffixOf s u (nodeCount s₀ + 1)
         → NoRoom s (tableOf t u) (nodeCount s₀ + 1) i
@@ -122,7 +115,7 @@ module _ (s₀ t₀ : List ℕ) (Y : Yes s₀ t₀) (s t : List ℕ) (S : Sound 
 
   -- ---- telling y
 
-  module _ (s′ : List ℕ) (a : Agree (nodeCount s₀ + 1) s s′) (k before rest notices : ℕ) (floor : floorOf s′ (nodeCount s₀ + 1) ≡ k)
+  module _ (s′ : List ℕ) (a : Agree (nodeCount s₀ + 1) s s′) (k before rest : ℕ) (floor : floorOf s′ (nodeCount s₀ + 1) ≡ k)
       (reach : k ≤ suffixOf s (nodeCount s₀ + 1) y) (T : Told s₀ t₀ Y s t k (λ v. (hasNode rest v ≡ true) ⊎ (v ≡ y)) before)
       (theirs : delivery s t (nodeCount s₀ + 1) y .receiverTable ≡ learn s′ y (nodeCount s₀ + 1) (tableOf t y)) where
     abbrev told : ℕ

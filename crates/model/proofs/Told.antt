@@ -36,6 +36,10 @@ module _ (s₀ t₀ : List ℕ) (Y : Yes s₀ t₀) where
   abbrev x : ℕ
   x = nodeCount s₀ + 1
 
+  -- a node but x was there at the yes
+  pub old-node : {s : List ℕ} → nodeCount s ≡ nodeCount s₀ + 1 → (u : ℕ) → IsNode s u → u ≢ nodeCount s₀ + 1 → IsNode s₀ u
+  old-node count u n e = record { low = n .low; high = omega (arith, n .high, count, e) }
+
   -- x attached at level k and has told these nodes; `Due` are those that it is still to tell
   pub record Told (s t : List ℕ) (k : ℕ) (Due : ℕ → Type 0) (told : ℕ) : Type 0 where
     pub old : told < 2 ^ nodeCount s₀
@@ -98,9 +102,6 @@ module _ (s₀ t₀ : List ℕ) (Y : Yes s₀ t₀) where
     no-room : Attached s (nodeCount s₀ + 1) → (u z i : ℕ) → IsNode s u → IsNode s z → i ≤ suffixOf s u z → i < digits s → NoRoom s (tableOf t u) z i
     no-room joined u z i nu nz low hi = go (ℕ-discrete u x) (ℕ-discrete z x)
       where
-        was : (v : ℕ) → IsNode s v → v ≢ x → IsNode s₀ v
-        was v n e = record { low = n .low; high = omega (arith, n .high, count, e) }
-
         for-x : IsNode s₀ u → i ≤ suffixOf s u x → NoRoom s (tableOf t u) x i
         for-x n low = by-level (decLt i k)
           where
@@ -110,10 +111,10 @@ module _ (s₀ t₀ : List ℕ) (Y : Yes s₀ t₀) where
 
         go : Dec (u ≡ x) → Dec (z ≡ x) → NoRoom s (tableOf t u) z i
         go (yes e) (yes q) = subst (λ (z : ℕ). NoRoom s (tableOf t u) z i) (e ∙ sym q) (own-no-room s t S u i nu hi)
-        go (yes e) (no q) = R .room u (subst (Attached s) (sym e) joined) z (was z nz q) i low hi
-        go (no e) (no q) = R .room u (settled-attached s u nu (R .in-system u (was u nu e))) z (was z nz q) i low hi
+        go (yes e) (no q) = R .no-room u (subst (Attached s) (sym e) joined) z (old-node count z nz q) i low hi
+        go (no e) (no q) = R .no-room u (settled-attached s u nu (R .in-system u (old-node count u nu e))) z (old-node count z nz q) i low hi
         go (no e) (yes q) =
-            subst (λ (z : ℕ). NoRoom s (tableOf t u) z i) (sym q) (for-x (was u nu e) (subst (λ (z : ℕ). i ≤ suffixOf s u z) q low))
+            subst (λ (z : ℕ). NoRoom s (tableOf t u) z i) (sym q) (for-x (old-node count u nu e) (subst (λ (z : ℕ). i ≤ suffixOf s u z) q low))
 
     pub told-whole : Attached s (nodeCount s₀ + 1) → Whole s t
     told-whole joined = no-room-whole s t S (no-room joined)

@@ -12,8 +12,9 @@ use Rattle.model.specs.Refusals.{lookupRefusal, stateRefusal}
 use Rattle.model.specs.Calls.{refused, taken, lookupFields, lookupCall, surveyCall}
 use Rattle.model.specs.Run.{isTaken}
 use Rattle.model.proofs.Bools.{or-none-left, or-none-right}
-use Rattle.model.proofs.Status.{is-node, is-node-of, attached-in-system}
+use Rattle.model.proofs.Status.{is-node, is-node-of}
 use Rattle.model.proofs.Sound.{Sound}
+use Rattle.model.proofs.TablesOnlyGrow.{settled-attached}
 use Rattle.model.proofs.NextHop.{Agreeing, level-below}
 use Rattle.model.proofs.Lookup.{path-left}
 use Rattle.model.proofs.Consistency.{consistent-whole}
@@ -73,7 +74,7 @@ arrives m failed p few u z a b left =
     (λ u a ne.
     whole-no-room (m .state) (m .tables) S (consistent-whole (m .state) (m .tables) (passes-whole m p)) u z (suffixOf (m .state) u z) (a .node) nz
     (le-refl (suffixOf (m .state) u z)) (level-below (m .state) (m .tables) S u z (a .node) nz ne))
-    u (record { node = nu; status = attached-in-system (m .state) u (settled m (p .taken) u nu) })
+    u (settled-attached (m .state) u nu (settled m (p .taken) u nu))
 
 pub failures : Failures
 failures = record {

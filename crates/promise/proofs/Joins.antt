@@ -1,4 +1,4 @@
--- Joins from a verdict that said yes, one after another or many at once. Assumes nothing.
+-- Joins one after another, and many at once. Assumes nothing.
 use Prim.Native.Nat.{ℕ, _+_, _<_}
 use mathlib.Core.Path.{_≡_, refl, sym, ap, subst, _∙_}
 use mathlib.Core.Logic.{⊎-elim}
@@ -38,11 +38,12 @@ use Rattle.promise.proofs.Steps.{Effect, still, begins, withdraws, deli
 use Rattle.promise.proofs.Run.{begin-after, begin-answer, begun-number, withdraw-after, withdraw-answer, withdraw-away, deliver-after, deliver-answer, run-goes}
 use Rattle.promise.proofs.Promise.{lookup-answer}
 use Rattle.promise.proofs.Withdrawals.{withdrawals}
+use Rattle.promise.proofs.Deliveries.{deliveries-few}
 use Rattle.promise.proofs.OneJoin.{passes-yes, yes-passes, can-taken, AloneIn, taken-alone, alone-passes, one-join}
 
 -- ---- one after another
 
--- x, the node that joined since m, is taken back by its withdrawal
+-- the withdrawal of the node that began to join since m, while it has not attached, gives m back
 abbrev Back : Memory → Memory → Type 0
 Back m M =
     isAttached (M .state) (nodeCount (m .state) + 1) ≡ false → after M (withdraw (nodeCount (m .state) + 1)) ≡ m
@@ -223,5 +224,8 @@ joins-keep = record {
   in-turn = λ m cs p g t e. turn-passes (play m cs) e (play-turn m cs g t (passes p));
   founding = founding-passes;
   reached = arrives;
+  bounded = λ m cs e g x.
+      let S = state-taken m (taken-number m sound e) in
+      omega (arith, deliveries-few m cs S g x, run-goes m cs S g .onward .digits);
   never-stuck = stuck-never;
 }

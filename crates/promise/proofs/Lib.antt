@@ -12,5 +12,6 @@ pub mod Records
 pub mod Withdrawals
 pub mod Failures
 pub mod OneJoin
+pub mod Deliveries
 pub mod Joins
 pub mod NoneFailed

@@ -170,10 +170,11 @@ begin-counts m id gateway cs x =
     either n false b = refl
 
 pub one-join : (m : Memory) (id gateway : ℕ) (cs : List Call) → Passes m → isTaken (step m (begin id gateway) .answer) ≡ true
-    → OnlyDeliveries (after m (begin id gateway)) cs → OneJoin m id gateway cs (begunAs m id gateway)
+    → OnlyDeliveries (after m (begin id gateway)) cs
+    → OneJoin m (play m (begin id gateway ∷ cs)) (begunAs m id gateway) (deliveriesOf (begunAs m id gateway) (history m (begin id gateway ∷ cs)))
 unfolding play
 one-join m id gateway cs p e only =
-    subst (OneJoin m id gateway cs) (sym (begun-number m id gateway r)) record {
+    subst (λ (x : ℕ). OneJoin m M x (deliveriesOf x (history m (begin id gateway ∷ cs)))) (sym (begun-number m id gateway r)) record {
       within = omega (arith, from-begin, alone-bound (m .state) (m .tables) Y (M .state) (M .tables) n A);
       alone = only-its m Y M n A;
       goes-on = some-its m Y M n A;

@@ -15,6 +15,7 @@ use Rattle.model.specs.Run.{Call, found, read, begin, withdraw, deliver, lookup
 use Rattle.model.proofs.Bools.{and-left, and-right, and-intro, or-none-right}
 use Rattle.model.proofs.Status.{IsNode, is-node}
 use Rattle.model.proofs.NodeCounts.{Fresh}
+use Rattle.model.proofs.RequestBound.{requests-most}
 use Rattle.model.proofs.Sound.{Sound}
 use Rattle.model.proofs.FoundingIsSound.{founded-fresh, founded-ok}
 use Rattle.model.proofs.LoadingIsSound.{loaded-fresh, loaded-ok}
@@ -126,7 +127,7 @@ requests-bound : (m : Memory) (c : Call) → starts m c ≡ true → (cs : List 
 requests-bound m c start cs on x =
     omega (
       arith,
-      few (λ (x : ℕ). 0) (after m c) cs (λ x n. started m c start .fresh x n .0) (started m c start .sound) on (λ x. omega arith) x,
+      few requestCount requests-kept 1 requests-most (λ (x : ℕ). 0) (after m c) cs (λ x n. started m c start .fresh x n .0) (started m c start .sound) on (λ x. omega arith) x,
       run-tally m c start requestCount requests-kept x 0 cs,
     )
 

@@ -22,7 +22,6 @@ use Rattle.model.proofs.BeginningKeepsSound.{CanBegin, begun-count, begun-kept,
 use Rattle.model.proofs.Withdrawing.{withdrawn-kept}
 use Rattle.model.proofs.ReplacingKeepsSound.{agree-node, agree-kept}
 use Rattle.model.proofs.TablesOnlyGrow.{delivered-id, delivered-count}
-use Rattle.model.proofs.RequestBound.{requests-most}
 use Rattle.model.proofs.DeliveryCounts.{delivery-adds}
 use Rattle.model.proofs.Taken.{begin-taken, withdraw-taken, deliver-taken}
 use Rattle.promise.proofs.Steps.{event, quiet, Effect, still, begins, withdraws, delivers, effect}
@@ -219,24 +218,23 @@ module _ (k : Count) (K : Kept k) where
       run-counted (next m c count) (after m c) cs (step-counted count m c H (not-true (starts m c) (and-left (not (starts m c)) _ g)))
       (and-right (not (starts m c)) _ g)
 
--- ---- no number has sent more than d + 1 requests, whether a node has it or not
+-- ---- a count that in a sound state is at most d and so many more is so of every number, whether a node has it or not
 
-pub few : (count : ℕ → ℕ) (m : Memory) (cs : List Call) → Counted requestCount requests-kept count m → Sound (m .state) (m .tables) → goesOn m cs ≡ true
-    → ((x : ℕ) → count x ≤ digits (m .state) + 1) → (x : ℕ) → total requestCount requests-kept m cs count x ≤ digits (play m cs .state) + 1
-unfolding goesOn history play tallyFrom
-few count m [] H S g f = f
-few count m (c ∷ cs) H S g f =
-    few (next requestCount requests-kept m c count) (after m c) cs (step-counted requestCount requests-kept count m c H on) (one .sound)
-    (and-right (not (starts m c)) _ g) (λ x. bound x (counts-nodes requestCount requests-kept count m c on x))
-  where
-    on : starts m c ≡ false
-    on = not-true (starts m c) (and-left (not (starts m c)) _ g)
+module _ (k : Count) (K : Kept k) (more : ℕ) (most : (s t : List ℕ) → Sound s t → (x : ℕ) → IsNode s x → k .of (nodeOf s x) ≤ digits s + more) where
+  pub few : (count : ℕ → ℕ) (m : Memory) (cs : List Call) → Counted k K count m → Sound (m .state) (m .tables) → goesOn m cs ≡ true
+      → ((x : ℕ) → count x ≤ digits (m .state) + more) → (x : ℕ) → total k K m cs count x ≤ digits (play m cs .state) + more
+  unfolding goesOn history play tallyFrom
+  few count m [] H S g f = f
+  few count m (c ∷ cs) H S g f =
+      few (next k K m c count) (after m c) cs (step-counted k K count m c H on) (one .sound) (and-right (not (starts m c)) _ g)
+      (λ x. bound x (counts-nodes k K count m c on x))
+    where
+      on : starts m c ≡ false
+      on = not-true (starts m c) (and-left (not (starts m c)) _ g)
 
-    one : Goes m (after m c)
-    one = step-goes m c S on
+      one : Goes m (after m c)
+      one = step-goes m c S on
 
-    bound : (x : ℕ) → (next requestCount requests-kept m c count x ≡ count x) ⊎ IsNode (after m c .state) x
-        → next requestCount requests-kept m c count x ≤ digits (after m c .state) + 1
-    bound x (inl e) = omega (arith, e, f x, one .onward .digits)
-    bound x (inr n) =
-        omega (arith, step-counted requestCount requests-kept count m c H on x n, requests-most (after m c .state) (after m c .tables) (one .sound) x n)
+      bound : (x : ℕ) → (next k K m c count x ≡ count x) ⊎ IsNode (after m c .state) x → next k K m c count x ≤ digits (after m c .state) + more
+      bound x (inl e) = omega (arith, e, f x, one .onward .digits)
+      bound x (inr n) = omega (arith, step-counted k K count m c H on x n, most (after m c .state) (after m c .tables) (one .sound) x n)

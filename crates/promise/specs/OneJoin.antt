@@ -1,4 +1,4 @@
--- One join keeps the network whole, of the calls (document 02, Ticket 7), and what else holds of joins from a verdict that said yes.
+-- One join keeps the network whole, of the calls (document 02, Ticket 7), and what else holds of joins.
 use Prim.Native.Nat.{ℕ, _+_, _≤_, _<_}
 use mathlib.Core.Path.{_≡_}
 use mathlib.Core.Logic.{_⊎_}
@@ -16,7 +16,7 @@ use Rattle.promise.specs.Withdrawals.{begunAs}
 -- ---- one join
 
 -- no other call changes the network: each call of the list is a delivery, or leaves the memory as it was, as a refused call, a lookup, a survey, a
--- verdict and a writing do
+-- verdict, a writing and the check of the state do
 abbrev pub OnlyDeliveries : Memory → List Call → Type 0
 OnlyDeliveries m cs =
     (early late : List Call) (c : Call) → cs ≡ early ++ c ∷ late
@@ -26,20 +26,18 @@ OnlyDeliveries m cs =
 abbrev pub deliveriesOf : ℕ → List Event → ℕ
 deliveriesOf x es = tallyFrom 0 (λ kind. true) x 0 es
 
--- x began to join in m, and the calls cs followed
-pub record OneJoin (m : Memory) (id gateway : ℕ) (cs : List Call) (x : ℕ) : Type 0 where
-  -- at most d + n of its deliveries were taken, n being the nodes before it
-  pub within : deliveriesOf x (history m (begin id gateway ∷ cs)) ≤ digits (m .state) + nodeCount (m .state)
+-- x began to join in m, M is the memory after some calls more, and so many deliveries of x were taken until then
+pub record OneJoin (m M : Memory) (x taken : ℕ) : Type 0 where
+  -- they are at most d + n, n being the nodes before x
+  pub within : taken ≤ digits (m .state) + nodeCount (m .state)
   -- no delivery of another node can be taken
-  pub alone : (y z : ℕ) → isTaken (step (play m (begin id gateway ∷ cs)) (deliver y z) .answer) ≡ true → y ≡ x
-  -- while it has not settled some delivery of its own can
-  pub goes-on : isInSystem (play m (begin id gateway ∷ cs) .state) x ≡ false
-      → (y : ℕ) × (isTaken (step (play m (begin id gateway ∷ cs)) (deliver x y) .answer) ≡ true)
+  pub alone : (y z : ℕ) → isTaken (step M (deliver y z) .answer) ≡ true → y ≡ x
+  -- while x has not settled some delivery of its own can
+  pub goes-on : isInSystem (M .state) x ≡ false → (y : ℕ) × (isTaken (step M (deliver x y) .answer) ≡ true)
   -- so after d + n of them it has settled
-  pub settles : deliveriesOf x (history m (begin id gateway ∷ cs)) ≡ digits (m .state) + nodeCount (m .state)
-      → isInSystem (play m (begin id gateway ∷ cs) .state) x ≡ true
+  pub settles : taken ≡ digits (m .state) + nodeCount (m .state) → isInSystem (M .state) x ≡ true
   -- and once it has settled the network passes the verdict again
-  pub whole : isInSystem (play m (begin id gateway ∷ cs) .state) x ≡ true → Passes (play m (begin id gateway ∷ cs))
+  pub whole : isInSystem (M .state) x ≡ true → Passes M
 
 -- ---- many joins
 
@@ -54,7 +52,8 @@ InTurn m cs =
 pub record Joins : Type 0 where
   -- where the network passes the verdict, one join
   pub one : (m : Memory) (id gateway : ℕ) (cs : List Call) → Passes m → isTaken (step m (begin id gateway) .answer) ≡ true
-      → OnlyDeliveries (after m (begin id gateway)) cs → OneJoin m id gateway cs (begunAs m id gateway)
+      → OnlyDeliveries (after m (begin id gateway)) cs
+      → OneJoin m (play m (begin id gateway ∷ cs)) (begunAs m id gateway) (deliveriesOf (begunAs m id gateway) (history m (begin id gateway ∷ cs)))
   -- and any number of joins one after another, withdrawn or not: the network passes wherever every node has settled
   pub in-turn : (m : Memory) (cs : List Call) → Passes m → goesOn m cs ≡ true → InTurn m cs
       → isTaken (verdictCall (play m cs) .answer) ≡ true → Passes (play m cs)
@@ -65,6 +64,9 @@ pub record Joins : Type 0 where
   pub reached : (m : Memory) (cs : List Call) → Passes m → goesOn m cs ≡ true → (u z failed : ℕ) → NodeIn (play m cs) u
       → isAttached (play m cs .state) u ≡ true → NodeIn m z → endFailed failed u z ≡ false → failedNodes (play m cs) failed < depth (m .state)
       → getD (lookupCall (play m cs) u z failed .answer) 1 0 ≡ 1
-  -- in any sound state in which a node has not settled, some delivery can be taken
+  -- joins end, however many are under way: from any sound state at most d + 64 deliveries of a node are taken since the latest beginning of its number,
+  pub bounded : (m : Memory) (cs : List Call) → isTaken (step m sound .answer) ≡ true → goesOn m cs ≡ true → (x : ℕ)
+      → deliveriesOf x (history m cs) ≤ digits (m .state) + 64
+  -- and in any sound state in which a node has not settled some delivery can be taken
   pub never-stuck : (m : Memory) → isTaken (step m sound .answer) ≡ true → (x : ℕ) → NodeIn m x → isInSystem (m .state) x ≡ false
       → (w : ℕ) × (y : ℕ) × (isTaken (step m (deliver w y) .answer) ≡ true)
