@@ -12,7 +12,7 @@ use Rattle.model.specs.Nodes.{isNode}
 use Rattle.model.specs.Join.{Delivery, notifyingNode, kindAttached, kindNotified, delivery}
 use Rattle.model.specs.Run.{Call, found, read, begin, withdraw, deliver, lookup, survey, verdict, write, sound, play, Event, history, isTaken, goesOn, keepsAsking, tallied, tally, tallyFrom}
 use Rattle.model.proofs.Memory.{same-status, same-requests}
-use Rattle.model.proofs.Status.{IsNode, is-node, is-node-of, StatusOk, is-in-system, is-copying, is-waiting, is-notifying}
+use Rattle.model.proofs.Status.{IsNode, is-node, is-node-of}
 use Rattle.model.proofs.Sound.{Sound}
 use Rattle.model.proofs.Sender.{CanDeliver}
 use Rattle.model.proofs.Settling.{Settling, settles, stays}

@@ -21,7 +21,7 @@ const SETTINGS: [[u64; 3]; 6] = [
 
 pub fn nothing_else(a: &dyn Engine, b: &dyn Engine) -> Result<Met, String> {
     let mut met = Met::new();
-    for (seed, settings) in seeds(7_000, 24).zip(SETTINGS.into_iter().cycle()) {
+    for (seed, settings) in seeds(7_000, 72).zip(SETTINGS.into_iter().cycle()) {
         let rng = &mut Rng::new(seed);
         let (origin, nodes) = (rng.pick(&Origin::ALL), rng.between(1, 9) as usize);
         let network = origin.network(rng, settings, nodes);
@@ -54,7 +54,7 @@ fn join_watched(pair: &mut Pair, rng: &mut Rng, met: &mut Met) -> Result<(), Str
     same_network(["alone", "looked at"], &alone, pair.memory())
 }
 
-/// Lookups, with failed nodes too, which may be refused, and surveys; a verdict and a writing, which are refused; a founding and a reading out of range.
+/// Lookups, with failed nodes too, which may be refused, and surveys; a verdict and a writing, which are refused; a founding out of range and a reading of no image.
 fn looks(pair: &mut Pair, rng: &mut Rng, node: u64, met: &mut Met) -> Result<(), String> {
     for failed in [0, rng.word() & rng.word()] {
         for (from, to) in [(1, node), (node, 1), (rng.between(1, node), node)] {

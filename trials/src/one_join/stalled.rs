@@ -9,12 +9,18 @@ use crate::lent::Lent;
 use crate::random::Rng;
 use crate::script::{Call, Script};
 use crate::second::network::Network;
-use crate::steps::network;
+use crate::steps::{call, network};
 
 /// Calls on ten nodes. Nodes 5, 6 and 7 stall once they have attached, and go on when all others have settled.
 const SAMPLE: &str = concat!(
     env!("CARGO_MANIFEST_DIR"),
     "/../samples/concurrent-joins.script"
+);
+
+/// Where they end.
+const IMAGE: &str = concat!(
+    env!("CARGO_MANIFEST_DIR"),
+    "/../samples/concurrent-joins.image"
 );
 
 /// The nodes of the sample.
@@ -24,7 +30,7 @@ const IDS: [u32; 10] = [
 ];
 const STALLED: [usize; 3] = [5, 6, 7];
 
-/// No call of the sample is refused and each node settles; these are the answers of its last two lines, a verdict and a lookup.
+/// No call of the sample is refused, each node settles, and the image is the sample's; these are the answers of its last two lines, a verdict and a lookup.
 pub fn sample(a: &dyn Engine, b: &dyn Engine) -> Result<[u64; 2], String> {
     let text = fs::read_to_string(SAMPLE).map_err(|error| format!("{SAMPLE}: {error}"))?;
     let lines = text.lines().filter(|line| !line.starts_with('#'));
@@ -42,6 +48,11 @@ pub fn sample(a: &dyn Engine, b: &dyn Engine) -> Result<[u64; 2], String> {
     let ids = network.iter().map(|(_, node)| node.id);
     if !network.all_in_system() || !ids.eq(IDS) {
         return Err(format!("ends with {network:?}"));
+    }
+    let image = fs::read(IMAGE).map_err(|error| format!("{IMAGE}: {error}"))?;
+    let length = call(&mut pair, Call::Write)? >> 8;
+    if pair.memory().out[..length as usize] != image {
+        return Err(format!("{IMAGE} is another image"));
     }
     Ok(answers)
 }
