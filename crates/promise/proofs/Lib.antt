@@ -1,4 +1,5 @@
--- The three demands, the total of a survey, what reading says of records, what a withdrawal undoes and leaves alone, and lookups around failed nodes, proved.
+-- The three demands, the total of a survey, what reading says of records, what a withdrawal undoes and leaves alone, lookups around failed nodes, and joins,
+-- proved.
 pub mod Demand1
 pub mod Demand2
 -- ---- demand 3: each step, any list of them, the claim
@@ -11,7 +12,8 @@ pub mod Survey
 pub mod Records
 pub mod Withdrawals
 pub mod Failures
+pub mod NoneFailed
+-- ---- joins
 pub mod OneJoin
 pub mod Deliveries
 pub mod Joins
-pub mod NoneFailed
