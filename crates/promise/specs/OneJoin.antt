@@ -60,7 +60,7 @@ pub record Joins : Type 0 where
   -- a founding passes
   pub founding : (m : Memory) (b d K id : ℕ) → isTaken (step m (found b d K id) .answer) ≡ true → Passes (after m (found b d K id))
   -- since the network passed, whatever joins are under way, and while fewer nodes than K have failed: a lookup from any attached node to any node of
-  -- that time arrives
+  -- that time arrives, if neither has failed
   pub reached : (m : Memory) (cs : List Call) → Passes m → goesOn m cs ≡ true → (u z failed : ℕ) → NodeIn (play m cs) u
       → isAttached (play m cs .state) u ≡ true → NodeIn m z → endFailed failed u z ≡ false → failedNodes (play m cs) failed < depth (m .state)
       → getD (lookupCall (play m cs) u z failed .answer) 1 0 ≡ 1
