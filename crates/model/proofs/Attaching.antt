@@ -26,7 +26,7 @@ use Rattle.model.proofs.Sender.{CanDeliver}
 use Rattle.model.proofs.DeliveryDid.{stateAt, Attaches, to-receiver}
 use Rattle.model.proofs.ReplacingKeepsSound.{Agree, agree-kept, agree-id, agree-digits, agree-depth, agree-range, agree-suffix}
 use Rattle.model.proofs.DeliveryKeepsSound.{delivered-ok}
-use Rattle.model.proofs.TablesOnlyGrow.{later-delivered, delivered-count, delivered-sender, attach-agree}
+use Rattle.model.proofs.TablesOnlyGrow.{delivered-later, delivered-count, delivered-sender, attach-agree}
 use Rattle.model.proofs.Floors.{Floors, floor-in-system, floor-same}
 use Rattle.model.proofs.NoRoom.{NoRoom, no-room-cases, full-no-room, place, held-place, filled-by, no-room-by, table-learned}
 
@@ -79,7 +79,7 @@ module _ (s t : List ℕ) (S : Sound s t) (x y : ℕ) (c : CanDeliver s x y) (w 
   gapless i j hi hj =
       let s₁ : List ℕ = delivered s t x y d .state in
       let T₁ : List ℕ = tableOf (delivered s t x y d .tables) x in
-      let l = later-delivered s t S x y c in
+      let l = delivered-later s t S x y c in
       let n : IsNode (delivered s t x y d .state) x = record { low = c .sender .low; high = omega (arith, c .sender .high, delivered-count s t S x y c) } in
       subst₂ (λ (K : ℕ) (T : List ℕ). GapFree K T i j) (l .depth) (delivered-sender s t S x y c)
       (gap-free s₁ x T₁ (entries-of s₁ x T₁ (delivered-ok s t S x y c .tables x n)) i j (omega (arith, hi, l .digits)) (omega (arith, hj, l .base)))

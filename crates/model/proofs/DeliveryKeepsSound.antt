@@ -26,6 +26,7 @@ module _ (s t : List ℕ) (S : Sound s t) (x y : ℕ) (c : CanDeliver s x y) whe
   s₁ = withNode s x (d .sender)
 
   l : Later s s₁
+  unfolding delivered
   l = delivered-later s t S x y c
 
   on : (z : ℕ) → IsNode s z → IsNode s₁ z

@@ -23,7 +23,7 @@ use Rattle.model.proofs.SoundEntries.{entry-fits}
 use Rattle.model.proofs.NextHop.{front-behind, level-below, digit-below}
 use Rattle.model.proofs.Lookup.{walk, path-hop, arrives-path, loses-path}
 use Rattle.model.proofs.Consistency.{consistent-whole}
-use Rattle.model.proofs.NoRoom.{NoRoom, whole-no-room}
+use Rattle.model.proofs.NoRoom.{NoRoom, whole-hop}
 use Rattle.model.proofs.Failures.{lost-full}
 
 module _ (s t s′ t′ : List ℕ) (S : Sound s t) (S′ : Sound s′ t′) (on : Onward s t s′ t′) where
@@ -57,7 +57,7 @@ module _ (s t s′ t′ : List ℕ) (S : Sound s t) (S′ : Sound s′ t′) (on
         grows = on .grows u (attached u nu)
 
         no-room : NoRoom s (tableOf t u) z (suffixOf s u z)
-        no-room = whole-no-room s t S (consistent-whole s t whole) u z i nu nz (le-refl i) (level-below s t S u z nu nz ne)
+        no-room = whole-hop s t S (consistent-whole s t whole) u z nu nz ne
 
         -- a next hop stays; where none was left the entry was full, and stays
         same : nextHop s′ t′ failed u z ≡ nextHop s t failed u z

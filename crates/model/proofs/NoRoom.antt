@@ -6,7 +6,7 @@ use mathlib.Core.Logic.{_≢_, _⊎_, inl, inr, ⊎-elim}
 use mathlib.Core.Bool.{Bool, true, false, cond, not, _&&_}
 use mathlib.Core.List.{List, _∷_}
 use native.Mathlib.Decide.{decLt}
-use native.Mathlib.Nat.{lt-of-not-le}
+use native.Mathlib.Nat.{le-refl, lt-of-not-le}
 use native.Mathlib.Omega.{arith}
 use lib.Dec.{ltb}
 use lib.ListN.{length, getD}
@@ -25,9 +25,10 @@ use Rattle.model.proofs.Ids.{InRange, digit-lt, valid-digit, qualified-
 use Rattle.model.proofs.Tables.{size-le, size-filled, holds-not, GapFree, gap-rest, append-here, Grows, grown-size}
 use Rattle.model.proofs.Status.{IsNode}
 use Rattle.model.proofs.Sound.{SlotOk, Sound}
+use Rattle.model.proofs.SoundNodes.{suffix-below}
 use Rattle.model.proofs.Learning.{learn-at-grows, learn-place-is, learn-place-grows}
 use Rattle.model.proofs.LearningKeepsRules.{entries-of, gap-free}
-use Rattle.model.proofs.SoundEntries.{nodes-least, size-is-length, entry-slot, entry-node, entry-qualifies, entry-differ}
+use Rattle.model.proofs.SoundEntries.{nodes-least, slot-in, slots-differ, size-is-length, entry-slot, entry-node, entry-qualifies, entry-differ}
 use Rattle.model.proofs.Consistency.{Whole, entry-fewer}
 
 -- ---- an entry
@@ -191,19 +192,14 @@ module _ (s t : List ℕ) (S : Sound s t) where
         → roomFor (depth s) T′ i′ j′ (slotAt (tableOf t u) i j k) ≡ false)
         → entrySize (depth s) T′ i′ j′ ≡ depth s
     filled-by full T′ i′ j′ g none =
-        different-full (depth s) T′ i′ j′ g (slotAt T i j) (λ k l. (filled k l, none k l (slot k l) (filled k l))) differ
+        different-full (depth s) T′ i′ j′ g (slotAt T i j) (λ k l. (filled k l, none k l (slot-in s t S u i j nu hi hj k (in-it k l)) (filled k l)))
+        (λ k l p q. slots-differ s t S u i j nu hi hj k l (in-it k p) (in-it l q))
       where
+        in-it : (k : ℕ) → k < depth s → k < entrySize (depth s) T i j
+        in-it k l = omega (arith, full, l)
+
         filled : (k : ℕ) → k < depth s → slotAt T i j k ≢ 0
-        filled k l = size-filled (depth s) T i j k (omega (arith, full, l))
-
-        slot : (k : ℕ) → k < depth s → SlotOk s u T i j k
-        slot k l = S .tables u nu .slots i j k hi hj l (filled k l)
-
-        differ : (k l : ℕ) → k < depth s → l < depth s → slotAt T i j k ≡ slotAt T i j l → k ≡ l
-        differ k l p q e =
-            let less : k < l → ⊥ = λ g. slot l q .fresh k g e in
-            let more : l < k → ⊥ = λ g. slot k p .fresh l g (sym e) in
-            omega (arith, less, more)
+        filled k l = size-filled (depth s) T i j k (in-it k l)
 
     -- a node of the entry stands at some place of it as a list
     pub held-entry : (z : ℕ) → 1 ≤ z → holds (depth s) (tableOf t u) i j z ≡ true
@@ -272,6 +268,10 @@ module _ (s t : List ℕ) (S : Sound s t) where
       let hj = valid-digit (base s) (digits s) (idOf s z) i (S .ids z nz) hi in
       whole-entry u i (digitOf (idOf s z) i) nu hi hj (w u i (digitOf (idOf s z) i) nu hi hj) z nz
       (qualified-of (digits s) (idOf s u) (idOf s z) i (digitOf (idOf s z) i) low refl)
+
+  -- and so where a lookup to z is at u
+  pub whole-hop : Whole s t → (u z : ℕ) → IsNode s u → IsNode s z → u ≢ z → NoRoom s (tableOf t u) z (suffixOf s u z)
+  whole-hop w u z nu nz ne = whole-no-room w u z (suffixOf s u z) nu nz (le-refl (suffixOf s u z)) (suffix-below s t S u z nu nz (λ e. ne (sym e)))
 
   pub no-room-whole : Roomless → Whole s t
   no-room-whole none u i j nu hi hj =

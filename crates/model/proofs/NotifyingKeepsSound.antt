@@ -127,6 +127,7 @@ module _ (s t : List ℕ) (S : Sound s t) (x y : ℕ) (c : CanDeliver s x y) (s�
       a₁ = agree-node s x fits (d .sender) (delivered-id s t S x y c)
 
       l₁ : Later s s₁
+      unfolding delivered
       l₁ = delivered-later s t S x y c
 
       on₁ : (z : ℕ) → IsNode s z → IsNode s₁ z

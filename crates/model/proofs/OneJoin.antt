@@ -31,8 +31,8 @@ use Rattle.model.proofs.TablesOnlyGrow.{Attached, settled-attached, Onw
 use Rattle.model.proofs.Progress.{only-own}
 use Rattle.model.proofs.Consistency.{Whole}
 use Rattle.model.proofs.Floors.{floor-notifying}
-use Rattle.model.proofs.Reaching.{Reaching, whole-reaching, begun-reaching, delivered-reaching}
-use Rattle.model.proofs.Told.{Yes, old-node, Told, told-due, told-whole}
+use Rattle.model.proofs.Reaching.{Yes, Reaching, yes-reaching, begun-reaching, delivered-reaching}
+use Rattle.model.proofs.Told.{old-node, Told, told-due, told-whole}
 use Rattle.model.proofs.Telling.{receiver-old, attach-low, telling}
 
 module _ (s₀ t₀ : List ℕ) (Y : Yes s₀ t₀) where
@@ -95,7 +95,7 @@ module _ (s₀ t₀ : List ℕ) (Y : Yes s₀ t₀) where
         sound = begun-ok s₀ t₀ id gateway (Y .sound) c;
         onward = begun-onward s₀ t₀ id gateway (Y .sound) c;
         count = begun-count s₀ t₀ id gateway (Y .sound) c;
-        reaching = begun-reaching s₀ s₀ t₀ id gateway (Y .sound) c (whole-reaching s₀ t₀ (Y .sound) (Y .in-system) (Y .whole));
+        reaching = begun-reaching s₀ s₀ t₀ id gateway (Y .sound) c (yes-reaching s₀ t₀ Y);
         stage = asks (copying-away (begun s₀ t₀ id gateway .state) x (same-status new)) (omega (arith, same-requests new));
       }
 

@@ -30,6 +30,12 @@ use Rattle.model.proofs.Failures.{few-failed}
 use Rattle.model.proofs.Floors.{Floors, settled-floors, begun-floors, withdrawn-floors, delivered-floors}
 use Rattle.model.proofs.Attaching.{attached-no-room}
 
+-- the network passes the verdict
+pub record Yes (s t : List ℕ) : Type 0 where
+  pub sound : Sound s t
+  pub in-system : (u : ℕ) → IsNode s u → isInSystem s u ≡ true
+  pub whole : Whole s t
+
 module _ (s₀ : List ℕ) where
   -- the nodes of that time are in system, and no attached node has room for them
   pub record Reaching (s t : List ℕ) : Type 0 where
@@ -142,10 +148,10 @@ module _ (s₀ : List ℕ) where
         })
 
 -- at that point itself
-pub whole-reaching : (s t : List ℕ) → Sound s t → ((u : ℕ) → IsNode s u → isInSystem s u ≡ true) → Whole s t → Reaching s s t
-whole-reaching s t S all w = record {
-  floors = settled-floors s t S all;
+pub yes-reaching : (s t : List ℕ) → Yes s t → Reaching s s t
+yes-reaching s t Y = record {
+  floors = settled-floors s t (Y .sound) (Y .in-system);
   is-node = λ z n. n;
-  in-system = all;
-  no-room = λ u a z n i. whole-no-room s t S w u z i (a .node) n;
+  in-system = Y .in-system;
+  no-room = λ u a z n i. whole-no-room s t (Y .sound) (Y .whole) u z i (a .node) n;
 }

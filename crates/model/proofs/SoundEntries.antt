@@ -1,4 +1,4 @@
--- An entry of a node's table in a sound state, as a list: each of its nodes qualifies for it, and no two are the same. Assumes nothing.
+-- An entry of a node's table in a sound state, by its slots and as a list: each of its nodes qualifies for it, and no two are the same. Assumes nothing.
 use Prim.Native.Nat.{ℕ, _+_, _-_, _≤_, _<_}
 use mathlib.Core.Path.{_≡_, sym, subst, _∙_}
 use mathlib.Core.Logic.{_≢_}
@@ -34,6 +34,22 @@ module _ (s t : List ℕ) (S : Sound s t) (x i j : ℕ) (nx : IsNode s x) (hi : 
   pub size-is-length : length (neighbors s t x i j) ≡ entrySize (depth s) (tableOf t x) i j
   size-is-length = entry-length (depth s) (tableOf t x) i j entry-fits
 
+  -- ---- by its slots
+
+  pub slot-in : (k : ℕ) → k < entrySize (depth s) (tableOf t x) i j → SlotOk s x (tableOf t x) i j k
+  slot-in k h =
+      S .tables x nx .slots i j k hi hj (omega (arith, h, size-le (depth s) (tableOf t x) i j)) (size-filled (depth s) (tableOf t x) i j k h)
+
+  -- two of them hold different nodes
+  pub slots-differ : (k l : ℕ) → k < entrySize (depth s) (tableOf t x) i j → l < entrySize (depth s) (tableOf t x) i j
+      → slotAt (tableOf t x) i j k ≡ slotAt (tableOf t x) i j l → k ≡ l
+  slots-differ k l h g e =
+      let below : k < l → ⊥ = λ p. slot-in l g .fresh k p e in
+      let above : l < k → ⊥ = λ p. slot-in k h .fresh l p (sym e) in
+      omega (arith, below, above)
+
+  -- ---- as a list
+
   module _ (k : ℕ) (h : k < length (neighbors s t x i j)) where
     in-size : k < entrySize (depth s) (tableOf t x) i j
     in-size = subst (λ (n : ℕ). k < n) size-is-length h
@@ -42,23 +58,13 @@ module _ (s t : List ℕ) (S : Sound s t) (x i j : ℕ) (nx : IsNode s x) (hi : 
     pub entry-slot : getD (neighbors s t x i j) k 0 ≡ slotAt (tableOf t x) i j k
     entry-slot = entry-at (depth s) (tableOf t x) i j entry-fits k in-size
 
-    slot-filled : slotAt (tableOf t x) i j k ≢ 0
-    slot-filled = size-filled (depth s) (tableOf t x) i j k in-size
-
-    slot-in : SlotOk s x (tableOf t x) i j k
-    slot-in = S .tables x nx .slots i j k hi hj (omega (arith, in-size, size-le (depth s) (tableOf t x) i j)) slot-filled
-
     pub entry-node : IsNode s (getD (neighbors s t x i j) k 0)
-    entry-node = subst (IsNode s) (sym entry-slot) (record { low = omega (arith, slot-filled); high = slot-in .within })
+    entry-node = subst (IsNode s) (sym entry-slot) (record { low = omega (arith, size-filled (depth s) (tableOf t x) i j k in-size); high = slot-in k in-size .within })
 
     pub entry-qualifies : qualifies s x i j (getD (neighbors s t x i j) k 0) ≡ true
-    entry-qualifies = subst (λ (v : ℕ). qualifies s x i j v ≡ true) (sym entry-slot) (slot-in .qual)
+    entry-qualifies = subst (λ (v : ℕ). qualifies s x i j v ≡ true) (sym entry-slot) (slot-in k in-size .qual)
 
   -- two places of the entry hold different nodes
   pub entry-differ : (k l : ℕ) → k < length (neighbors s t x i j) → l < length (neighbors s t x i j)
       → getD (neighbors s t x i j) k 0 ≡ getD (neighbors s t x i j) l 0 → k ≡ l
-  entry-differ k l h g e =
-      let v : slotAt (tableOf t x) i j k ≡ slotAt (tableOf t x) i j l = sym (entry-slot k h) ∙ e ∙ entry-slot l g in
-      let below : k < l → ⊥ = λ p. slot-in l g .fresh k p v in
-      let above : l < k → ⊥ = λ p. slot-in k h .fresh l p (sym v) in
-      omega (arith, below, above)
+  entry-differ k l h g e = slots-differ k l (in-size k h) (in-size l g) (sym (entry-slot k h) ∙ e ∙ entry-slot l g)

@@ -155,16 +155,12 @@ module _ (s t : List ℕ) (S : Sound s t) (x y : ℕ) (c : CanDeliver s x y) whe
   unfolding delivered
   delivered-count = agree-count x s (withNode s x (d .sender)) (agree-node s x fits (d .sender) (does .id)) (nx .low)
 
-  pub delivered-later : Later s (withNode s x (delivery s t x y .sender))
+  pub delivered-later : Later s (delivered s t x y (delivery s t x y) .state)
+  unfolding delivered
   delivered-later =
       agree-later x s (withNode s x (d .sender)) (agree-node s x fits (d .sender) (does .id)) (nx .low)
       (does .attached (withNode s x (d .sender)) (node-stored s x (d .sender) fits))
       (λ q. absurd (not-both (isInSystem s x) q (does .out)))
-
-  -- the same of the memory after it
-  pub later-delivered : Later s (delivered s t x y (delivery s t x y) .state)
-  unfolding delivered
-  later-delivered = delivered-later
 
   -- the records and the two tables then
   pub delivered-record : nodeOf (delivered s t x y (delivery s t x y) .state) x ≡ delivery s t x y .sender
@@ -205,5 +201,5 @@ module _ (s t : List ℕ) (S : Sound s t) (x y : ℕ) (c : CanDeliver s x y) whe
 
   pub delivered-onward : Onward s t (delivered s t x y (delivery s t x y) .state) (delivered s t x y (delivery s t x y) .tables)
   delivered-onward =
-      later-onward later-delivered
+      later-onward delivered-later
       (λ z a. delivered-each (λ z T. Grows (tableOf t z) T) (does .own) (does .their) (λ z n. grows-refl (tableOf t z)) z (a .node))

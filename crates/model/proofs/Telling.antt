@@ -26,10 +26,10 @@ use Rattle.model.proofs.Gather.{ToNotify, gather-takes, gather-keeps}
 use Rattle.model.proofs.Sender.{CanDeliver}
 use Rattle.model.proofs.DeliveryDid.{levelAt, Attaches, level-least, to-receiver}
 use Rattle.model.proofs.ReplacingKeepsSound.{Agree, agree-both, agree-id, agree-digits, agree-depth, agree-range, agree-suffix}
-use Rattle.model.proofs.TablesOnlyGrow.{Attached, settled-attached, Onward, later-delivered, delivered-agree, delivered-receiver, delivered-onward}
+use Rattle.model.proofs.TablesOnlyGrow.{Attached, settled-attached, Onward, delivered-later, delivered-agree, delivered-receiver, delivered-onward}
 use Rattle.model.proofs.NoRoom.{NoRoom, no-room-by, no-room-grows, full-no-room, gapless, filled-by, node-learned}
-use Rattle.model.proofs.Reaching.{Reaching}
-use Rattle.model.proofs.Told.{Yes, old-node, Told}
+use Rattle.model.proofs.Reaching.{Yes, Reaching}
+use Rattle.model.proofs.Told.{old-node, Told}
 
 module _ (s₀ t₀ : List ℕ) (Y : Yes s₀ t₀) (s t : List ℕ) (S : Sound s t) (on : Onward s₀ t₀ s t) (count : nodeCount s ≡ nodeCount s₀ + 1)
     (R : Reaching s₀ s t) (y : ℕ) (c : CanDeliver s (nodeCount s₀ + 1) y) where
@@ -133,7 +133,7 @@ module _ (s₀ t₀ : List ℕ) (Y : Yes s₀ t₀) (s t : List ℕ) (S : Sound 
     -- where there was no room there is none
     kept : (u : ℕ) → IsNode s₀ u → (i : ℕ) → i < digits s → NoRoom s (tableOf t u) x i → NoRoom s₁ (tableOf t₁ u) x i
     kept u n i hi e =
-        no-room-by s s₁ (tableOf t₁ u) x i (later-delivered s t S x y c .depth) (agree-id x s s₁ a₁ x)
+        no-room-by s s₁ (tableOf t₁ u) x i (delivered-later s t S x y c .depth) (agree-id x s s₁ a₁ x)
         (no-room-grows s (S .settings) (tableOf t u) (tableOf t₁ u) x i (delivered-onward s t S x y c .grows u (attached u n))
         (table-length t u (table-fits s t S u (R .is-node u n))) (omega arith) hi e)
 
@@ -172,10 +172,10 @@ module _ (s₀ t₀ : List ℕ) (Y : Yes s₀ t₀) (s t : List ℕ) (S : Sound 
       near = λ u n h.
           ⊎-elim (λ e. omega (arith, reach, suffix₁ x u, ap (suffixOf s x) e)) (λ h. omega (arith, T .near u n h, suffix₁ x u)) (which u n h);
       low = λ u n i l low hi.
-          let hi₀ : i < digits s = omega (arith, hi, later-delivered s t S x y c .digits) in
+          let hi₀ : i < digits s = omega (arith, hi, delivered-later s t S x y c .digits) in
           kept u n i hi₀ (T .low u n i l (omega (arith, low, suffix₁ u x)) hi₀);
       high = λ u n h i l low hi.
-          let hi₀ : i < digits s = omega (arith, hi, later-delivered s t S x y c .digits) in
+          let hi₀ : i < digits s = omega (arith, hi, delivered-later s t S x y c .digits) in
           let low₀ : i ≤ suffixOf s u x = omega (arith, low, suffix₁ u x) in
           ⊎-elim (λ e. subst (λ (u : ℕ). NoRoom s₁ (tableOf t₁ u) x i) (sym e) (learned i l (omega (arith, low₀, ap (λ (u : ℕ). suffixOf s u x) e)) hi₀))
           (λ h. kept u n i hi₀ (T .high u n h i l low₀ hi₀)) (which u n h);

@@ -22,15 +22,9 @@ use Rattle.model.proofs.TablesOnlyGrow.{Attached, settled-attached, Onw
 use Rattle.model.proofs.NextHop.{level-below, hop-place}
 use Rattle.model.proofs.Lookup.{hop-node, walk}
 use Rattle.model.proofs.Consistency.{Whole}
-use Rattle.model.proofs.NoRoom.{NoRoom, own-no-room, whole-no-room, no-room-whole}
+use Rattle.model.proofs.NoRoom.{NoRoom, own-no-room, Roomless, whole-hop, no-room-whole}
 use Rattle.model.proofs.Failures.{some-hop}
-use Rattle.model.proofs.Reaching.{Reaching}
-
--- the point at which the network passed
-pub record Yes (s₀ t₀ : List ℕ) : Type 0 where
-  pub sound : Sound s₀ t₀
-  pub in-system : (u : ℕ) → IsNode s₀ u → isInSystem s₀ u ≡ true
-  pub whole : Whole s₀ t₀
+use Rattle.model.proofs.Reaching.{Yes, Reaching}
 
 module _ (s₀ t₀ : List ℕ) (Y : Yes s₀ t₀) where
   abbrev x : ℕ
@@ -94,12 +88,11 @@ module _ (s₀ t₀ : List ℕ) (Y : Yes s₀ t₀) where
           walk s₀ t₀ (Y .sound) 0 v nv (λ (u : ℕ). hasNode told u ≡ true → hasNode told v ≡ true) (λ u nu e h. ap (hasNode told) (sym e) ∙ h)
           (λ u nu ne q h.
           absurd
-          (some-hop s₀ t₀ (Y .sound) 0 v nv (has-none v) none-failed u nu ne
-          (whole-no-room s₀ t₀ (Y .sound) (Y .whole) u v (suffixOf s₀ u v) nu nv (le-refl (suffixOf s₀ u v)) (level-below s₀ t₀ (Y .sound) u v nu nv ne)) q))
+          (some-hop s₀ t₀ (Y .sound) 0 v nv (has-none v) none-failed u nu ne (whole-hop s₀ t₀ (Y .sound) (Y .whole) u v nu nv ne) q))
           (λ u nu ne q ih h. ih (next-told u nu ne q h)) y ny first
 
     -- so no node has room for another
-    no-room : Attached s (nodeCount s₀ + 1) → (u z i : ℕ) → IsNode s u → IsNode s z → i ≤ suffixOf s u z → i < digits s → NoRoom s (tableOf t u) z i
+    no-room : Attached s (nodeCount s₀ + 1) → Roomless s t S
     no-room joined u z i nu nz low hi = go (ℕ-discrete u x) (ℕ-discrete z x)
       where
         for-x : IsNode s₀ u → i ≤ suffixOf s u x → NoRoom s (tableOf t u) x i

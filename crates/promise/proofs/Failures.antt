@@ -18,7 +18,7 @@ use Rattle.model.proofs.TablesOnlyGrow.{settled-attached}
 use Rattle.model.proofs.NextHop.{Agreeing, level-below}
 use Rattle.model.proofs.Lookup.{path-left}
 use Rattle.model.proofs.Consistency.{consistent-whole}
-use Rattle.model.proofs.NoRoom.{whole-no-room}
+use Rattle.model.proofs.NoRoom.{whole-hop}
 use Rattle.model.proofs.Failures.{few-failed}
 use Rattle.model.proofs.Taken.{state-taken, lookup-taken}
 use Rattle.model.proofs.Calls.{taken-zero, unless-same}
@@ -71,9 +71,7 @@ arrives m failed p few u z a b left =
     let nz = is-node (m .state) z b in
     ap (λ (l : List ℕ). getD l 1 0) (lookup-answer m S u z failed nu nz left)
     ∙ few-failed (m .state) (m .tables) S failed z nz (or-none-right (hasNode failed u) (hasNode failed z) left) few
-    (λ u a ne.
-    whole-no-room (m .state) (m .tables) S (consistent-whole (m .state) (m .tables) (passes-whole m p)) u z (suffixOf (m .state) u z) (a .node) nz
-    (le-refl (suffixOf (m .state) u z)) (level-below (m .state) (m .tables) S u z (a .node) nz ne))
+    (λ u a. whole-hop (m .state) (m .tables) S (consistent-whole (m .state) (m .tables) (passes-whole m p)) u z (a .node) nz)
     u (settled-attached (m .state) u nu (settled m (p .taken) u nu))
 
 pub failures : Failures

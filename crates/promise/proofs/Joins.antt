@@ -22,9 +22,8 @@ use Rattle.model.proofs.BeginningKeepsSound.{begun-new}
 use Rattle.model.proofs.Sender.{CanDeliver}
 use Rattle.model.proofs.TablesOnlyGrow.{delivered-onward, sender-out, kind-attaches}
 use Rattle.model.proofs.NoRoom.{single-whole}
-use Rattle.model.proofs.Reaching.{Reaching, reaching-arrives, begun-reaching, withdrawn-reaching, delivered-reaching, whole-reaching}
+use Rattle.model.proofs.Reaching.{Yes, Reaching, reaching-arrives, begun-reaching, withdrawn-reaching, delivered-reaching, yes-reaching}
 use Rattle.model.proofs.Progress.{some-delivery}
-use Rattle.model.proofs.Told.{Yes}
 use Rattle.model.proofs.OneJoin.{joiner, begun-alone}
 use Rattle.model.proofs.Taken.{found-taken, begin-taken, withdraw-taken, deliver-taken, state-taken, withdraw-free}
 use Rattle.model.proofs.Calls.{taken-is}
@@ -53,6 +52,12 @@ data Turn (M : Memory) : Type 0 where
   passes : Passes M → Turn M
   joins : (m : Memory) (Y : Yes (m .state) (m .tables)) (n : ℕ) → AloneIn m Y M n → isInSystem (M .state) (nodeCount (m .state) + 1) ≡ false
       → Back m M → Turn M
+
+-- where every node is in system none joins
+turn-passes : (M : Memory) → isTaken (verdictCall M .answer) ≡ true → Turn M → Passes M
+turn-passes M e (passes p) = p
+turn-passes M e (joins m Y n A out back) =
+    absurd (not-both (isInSystem (M .state) (nodeCount (m .state) + 1)) (settled M e _ (joiner (m .state) (m .tables) Y (M .state) (M .tables) n A)) out)
 
 -- a join begins where the network passes
 module _ (m : Memory) (p : Passes m) (id gateway : ℕ) (r : beginRefusal m id gateway ≡ 0) where
@@ -119,16 +124,13 @@ abbrev BeginsInTurn : Memory → Call → Type 0
 BeginsInTurn M c = (id gateway : ℕ) → c ≡ begin id gateway → isTaken (step M (begin id gateway) .answer) ≡ true → isTaken (verdictCall M .answer) ≡ true
 
 module _ (M : Memory) (c : Call) (ok : BeginsInTurn M c) where
-  turn-of : Call → Type 0
+  abbrev turn-of : Call → Type 0
   turn-of c = Turn (after M c)
 
   step-turn : Effect M c → Turn M → Turn (after M c)
-  unfolding turn-of
   step-turn (still e i) T = subst Turn (sym e) T
-  step-turn (begins id gateway e r) (passes p) = subst turn-of (sym e) (begun-turn M p id gateway r)
-  step-turn (begins id gateway e r) (joins m Y n A out back) =
-      let all = settled M (ok id gateway e (ap isTaken (begin-answer M id gateway r))) in
-      absurd (not-both (isInSystem (M .state) (nodeCount (m .state) + 1)) (all _ (joiner (m .state) (m .tables) Y (M .state) (M .tables) n A)) out)
+  step-turn (begins id gateway e r) T =
+      subst turn-of (sym e) (begun-turn M (turn-passes M (ok id gateway e (ap isTaken (begin-answer M id gateway r))) T) id gateway r)
   step-turn (withdraws z e r) (passes p) =
       let k = withdraw-taken M z r in
       let n : IsNode (M .state) (nodeCount (M .state)) = record { low = k .0 .some; high = omega arith } in
@@ -151,11 +153,6 @@ play-turn M (c ∷ cs) g t T =
     let ok : BeginsInTurn M c = λ id gateway e. t [] cs id gateway (ap (λ (c : Call). c ∷ cs) e) in
     play-turn (after M c) cs (and-right (not (starts M c)) _ g) (λ early late id gateway e. t (c ∷ early) late id gateway (ap (_∷_ c) e))
     (step-turn M c ok (effect M c f) T)
-
-turn-passes : (M : Memory) → isTaken (verdictCall M .answer) ≡ true → Turn M → Passes M
-turn-passes M e (passes p) = p
-turn-passes M e (joins m Y n A out back) =
-    absurd (not-both (isInSystem (M .state) (nodeCount (m .state) + 1)) (settled M e _ (joiner (m .state) (m .tables) Y (M .state) (M .tables) n A)) out)
 
 -- ---- a founding
 
@@ -202,7 +199,7 @@ arrives m cs p g u z failed a at b left few =
     let Y = passes-yes m p in
     let M : Memory = play m cs in
     let G = run-goes m cs (Y .sound) g in
-    let R = play-reaching (m .state) m cs g (whole-reaching (m .state) (m .tables) (Y .sound) (Y .in-system) (Y .whole)) in
+    let R = play-reaching (m .state) m cs g (yes-reaching (m .state) (m .tables) Y) in
     let nu = is-node (M .state) u a in
     let nz = is-node (m .state) z b in
     ap (λ (l : List ℕ). getD l 1 0) (lookup-answer M (G .sound) u z failed nu (R .is-node z nz) left)

@@ -21,7 +21,7 @@ use Rattle.model.proofs.Withdrawing.{withdrawn-count}
 use Rattle.model.proofs.Sender.{CanDeliver}
 use Rattle.model.proofs.Progress.{some-own}
 use Rattle.model.proofs.Consistency.{consistent-whole, whole-consistent}
-use Rattle.model.proofs.Told.{Yes}
+use Rattle.model.proofs.Reaching.{Yes}
 use Rattle.model.proofs.OneJoin.{Alone, joiner, others, alone-bound, alone-whole, begun-alone, delivered-alone}
 use Rattle.model.proofs.Taken.{begin-taken, withdraw-taken, deliver-taken, deliver-free, verdict-free}
 use Rattle.model.proofs.Calls.{taken-is}
