@@ -5,11 +5,10 @@ use mathlib.Core.Path.{_≡_, sym, ap, subst, _∙_}
 use mathlib.Core.Logic.{_≢_, _⊎_, inl, inr, ⊎-elim}
 use mathlib.Core.Bool.{true}
 use mathlib.Core.List.{List}
-use native.Mathlib.Nat.{le-refl}
 use native.Mathlib.Decide.{decLt, ℕ-discrete}
 use native.Mathlib.Omega.{arith}
 use lib.ListN.{getD}
-use Rattle.model.specs.Memory.{digits, depth, nodeCount, idOf, isInSystem, hasNode, tableOf}
+use Rattle.model.specs.Memory.{digits, depth, nodeCount, idOf, hasNode, tableOf}
 use Rattle.model.specs.Nodes.{suffixOf, countNodes}
 use Rattle.model.specs.Lookup.{nextHop}
 use Rattle.model.proofs.Loops.{count-none}
@@ -19,7 +18,7 @@ use Rattle.model.proofs.Nodes.{suffix-by}
 use Rattle.model.proofs.Status.{IsNode}
 use Rattle.model.proofs.Sound.{Sound}
 use Rattle.model.proofs.TablesOnlyGrow.{Attached, settled-attached, Onward}
-use Rattle.model.proofs.NextHop.{level-below, hop-place}
+use Rattle.model.proofs.NextHop.{hop-place}
 use Rattle.model.proofs.Lookup.{hop-node, walk}
 use Rattle.model.proofs.Consistency.{Whole}
 use Rattle.model.proofs.NoRoom.{NoRoom, own-no-room, Roomless, whole-hop, no-room-whole}

@@ -3,10 +3,8 @@ use Prim.Native.Nat.{ℕ, _<_}
 use mathlib.Core.Path.{_≡_, refl, ap, _∙_}
 use mathlib.Core.Bool.{true, false}
 use mathlib.Core.List.{List, []}
-use native.Mathlib.Nat.{le-refl}
 use lib.ListN.{getD}
 use Rattle.model.specs.Memory.{Memory, depth, hasNode}
-use Rattle.model.specs.Nodes.{suffixOf}
 use Rattle.model.specs.Lookup.{Lookup, endFailed}
 use Rattle.model.specs.Refusals.{lookupRefusal, stateRefusal}
 use Rattle.model.specs.Calls.{refused, taken, lookupFields, lookupCall, surveyCall}
@@ -15,7 +13,7 @@ use Rattle.model.proofs.Bools.{or-none-left, or-none-right}
 use Rattle.model.proofs.Status.{is-node, is-node-of}
 use Rattle.model.proofs.Sound.{Sound}
 use Rattle.model.proofs.TablesOnlyGrow.{settled-attached}
-use Rattle.model.proofs.NextHop.{Agreeing, level-below}
+use Rattle.model.proofs.NextHop.{Agreeing}
 use Rattle.model.proofs.Lookup.{path-left}
 use Rattle.model.proofs.Consistency.{consistent-whole}
 use Rattle.model.proofs.NoRoom.{whole-hop}
