@@ -150,7 +150,7 @@ unfolding goesOn play
 play-turn M [] g t T = T
 play-turn M (c ∷ cs) g t T =
     let f = not-true (starts M c) (and-left (not (starts M c)) _ g) in
-    let ok : BeginsInTurn M c = λ id gateway e. t [] cs id gateway (ap (λ (c : Call). c ∷ cs) e) in
+    let ok : BeginsInTurn M c = λ id gateway e h. t [] cs id gateway (ap (λ (c : Call). c ∷ cs) e) h in
     play-turn (after M c) cs (and-right (not (starts M c)) _ g) (λ early late id gateway e. t (c ∷ early) late id gateway (ap (_∷_ c) e))
     (step-turn M c ok (effect M c f) T)
 
