@@ -11,7 +11,7 @@ use Rattle.model.specs.Lookup.{Lookup, lookup}
 use Rattle.model.specs.Survey.{surveyCounts}
 use Rattle.model.specs.Consistency.{Verdict, verdict}
 use Rattle.model.specs.Image.{imageOf, loaded}
-use Rattle.model.specs.Refusals.{foundRefusal, readRefusal, recordPlace, beginRefusal, withdrawRefusal, deliverRefusal, lookupRefusal, verdictRefusal, writeRefusal, stateRefusal}
+use Rattle.model.specs.Refusals.{foundRefusal, readRefusal, recordPlace, beginRefusal, withdrawRefusal, deliverRefusal, lookupRefusal, verdictRefusal, writeRefusal, stateRefusal, traceRefusal, tracePlace}
 
 -- what a call leaves: the memory, the memory for output (none but for writing), and the answer's fields, of which the refusal is the first
 pub record Outcome : Type 0 where
@@ -96,6 +96,12 @@ unfoldable pub writeCall : Memory → List ℕ → Outcome
 writeCall m out =
     let im = imageOf (m .state) (m .tables) in
     unlessRefused (writeRefusal m out) (refused m out 1) (taken m (im ++ drop (length im) out) (length im ∷ []))
+
+-- answer: the refusal, and path and place, or step, that it is about
+unfoldable pub traceCall : Memory → List ℕ → Outcome
+traceCall m trace =
+    let number = traceRefusal m trace in
+    unlessRefused number (refusedAt m [] (tracePlace m trace number)) (taken m [] (0 ∷ 0 ∷ []))
 
 -- answer: the refusal alone, by the two sentences that every call on a state has first. (A call of ours: the paper has none such.)
 unfoldable pub soundCall : Memory → Outcome

@@ -16,6 +16,7 @@ pub mod Lookup
 pub mod Survey
 pub mod Consistency
 pub mod Image
+pub mod Traces
 pub mod Refusals
 pub mod Calls
 pub mod Run

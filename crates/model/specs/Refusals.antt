@@ -1,4 +1,4 @@
--- The refusals: document 01, "What a call declines", and document 02, Tickets 2, 5 and 6. Each call has its own sentences, in the papers' order.
+-- The refusals: document 01, "What a call declines", and document 02, Tickets 2, 5, 6 and 8. Each call has its own sentences, in the papers' order.
 use Prim.Native.Nat.{ℕ, _+_}
 use mathlib.Core.Bool.{Bool, cond, not, _&&_, _||_}
 use mathlib.Core.List.{List, [], _∷_, _++_}
@@ -13,6 +13,7 @@ use Rattle.model.specs.Join.{outstanding}
 use Rattle.model.specs.Lookup.{endFailed}
 use Rattle.model.specs.Image.{byteAt, imBase, imDigits, imDepth, imNodes, imRecords, lengthRight, imIdValid, imIdNew, recNodesGood}
 use Rattle.model.specs.Image.{recOrdered, recAllowed, recOwnerFirst, recordsOrdered, recordsAllowed, ownPresent, recordsOwned, imageOf}
+use Rattle.model.specs.Traces.{pathCount, placeCount, stepCount, traceCountsWrong, placeNamed, stepAllowed, placesNamed, stepsAllowed, firstFault}
 
 -- a sentence: its test, and its number
 abbrev pub Sentence : Type 0
@@ -166,3 +167,21 @@ writeSentences m out =
 
 unfoldable pub writeRefusal : Memory → List ℕ → ℕ
 writeRefusal m out = firstTrue (stateSentences m ++ writeSentences m out)
+
+-- 22, the trace's counts are wrong; 9, some place has no node; 23, some step is not allowed; each sentence over the whole trace
+abbrev pub traceSentences : Memory → List ℕ → List Sentence
+traceSentences m trace =
+    (traceCountsWrong trace, 22)
+    ∷ (not (placesNamed (m .state) trace), 9)
+    ∷ (not (stepsAllowed (m .state) (m .tables) trace), 23)
+    ∷ []
+
+unfoldable pub traceRefusal : Memory → List ℕ → ℕ
+traceRefusal m trace = firstTrue (stateSentences m ++ traceSentences m trace)
+
+-- the path and the place that a refusal of a trace gives: for 9 those of the first place that has no node, for 23 those of the first step that is not
+-- allowed; for every other number zeros
+unfoldable pub tracePlace : Memory → List ℕ → ℕ → List ℕ
+tracePlace m trace number =
+    cond (eqb number 9) (firstFault (pathCount trace) (placeCount trace) (placeNamed (m .state) trace))
+    (cond (eqb number 23) (firstFault (pathCount trace) (stepCount trace) (stepAllowed (m .state) (m .tables) trace)) (0 ∷ 0 ∷ []))

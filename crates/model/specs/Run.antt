@@ -7,7 +7,7 @@ use lib.ListN.{getD}
 use lib.Dec.{eqb}
 use Rattle.model.specs.Memory.{Memory}
 use Rattle.model.specs.Join.{kindCopied, kindSentOn, kindNotified}
-use Rattle.model.specs.Calls.{Outcome, foundCall, readCall, beginCall, withdrawCall, deliverCall, lookupCall, surveyCall, verdictCall, writeCall, soundCall}
+use Rattle.model.specs.Calls.{Outcome, foundCall, readCall, beginCall, withdrawCall, deliverCall, lookupCall, surveyCall, verdictCall, writeCall, traceCall, soundCall}
 
 -- a call with its arguments
 pub data Call : Type 0 where
@@ -28,6 +28,8 @@ pub data Call : Type 0 where
   verdict : Call
   -- the memory for output
   write : List ℕ → Call
+  -- the trace
+  trace : List ℕ → Call
   sound : Call
 
 -- a call, done on the memory that the call before it left
@@ -41,6 +43,7 @@ step m (lookup u z failed) = lookupCall m u z failed
 step m (survey failed) = surveyCall m failed
 step m verdict = verdictCall m
 step m (write out) = writeCall m out
+step m (trace file) = traceCall m file
 step m sound = soundCall m
 
 -- the memory after a call
@@ -76,6 +79,7 @@ isStart (lookup u z failed) = false
 isStart (survey failed) = false
 isStart verdict = false
 isStart (write out) = false
+isStart (trace file) = false
 isStart sound = false
 
 -- a founding or reading that is taken, and so begins a run
@@ -105,6 +109,7 @@ tallied first counts x (lookup u z failed) answer n = n
 tallied first counts x (survey failed) answer n = n
 tallied first counts x verdict answer n = n
 tallied first counts x (write out) answer n = n
+tallied first counts x (trace file) answer n = n
 tallied first counts x sound answer n = n
 
 -- by an event; a refused call changes no count

@@ -1,13 +1,13 @@
--- Demand 1, about every memory and every call: a refused call changes nothing and gives its number alone, but for the place that reading gives,
--- and no call reads or changes what lies past the fixed lengths (document 01, "What a call declines"; document 02, Ticket 2).
+-- Demand 1, about every memory and every call: a refused call changes nothing and gives its number alone, but for the places that reading and traces
+-- give, and no call reads or changes what lies past the fixed lengths (document 01, "What a call declines"; document 02, Tickets 2 and 8).
 use Prim.Native.Nat.{ℕ, suc}
 use mathlib.Core.Path.{_≡_}
 use mathlib.Core.Bool.{false}
 use mathlib.Core.List.{List, [], _∷_}
 use lib.ListN.{getD}
 use Rattle.model.specs.Memory.{Memory}
-use Rattle.model.specs.Refusals.{recordPlace}
-use Rattle.model.specs.Run.{Call, found, read, begin, withdraw, deliver, lookup, survey, verdict, write, sound, step, isTaken}
+use Rattle.model.specs.Refusals.{recordPlace, tracePlace}
+use Rattle.model.specs.Run.{Call, found, read, begin, withdraw, deliver, lookup, survey, verdict, write, trace, sound, step, isTaken}
 use Rattle.promise.specs.Fixed.{fixed, past}
 
 -- the memory for output that a call is lent: none but for writing
@@ -21,26 +21,28 @@ outputOf (lookup u z failed) = []
 outputOf (survey failed) = []
 outputOf verdict = []
 outputOf (write out) = out
+outputOf (trace file) = []
 outputOf sound = []
 
--- what a refusal with this number carries: reading's the place of a record, and no other call's anything
-abbrev pub carried : Call → ℕ → List ℕ
-carried (found b d K id) number = []
-carried (read im) number = recordPlace im number ∷ []
-carried (begin id gateway) number = []
-carried (withdraw x) number = []
-carried (deliver x y) number = []
-carried (lookup u z failed) number = []
-carried (survey failed) number = []
-carried verdict number = []
-carried (write out) number = []
-carried sound number = []
+-- what a refusal with this number carries: reading's the place of a record, a trace's path and place, and no other call's anything
+abbrev pub carried : Memory → Call → ℕ → List ℕ
+carried m (found b d K id) number = []
+carried m (read im) number = recordPlace im number ∷ []
+carried m (begin id gateway) number = []
+carried m (withdraw x) number = []
+carried m (deliver x y) number = []
+carried m (lookup u z failed) number = []
+carried m (survey failed) number = []
+carried m verdict number = []
+carried m (write out) number = []
+carried m (trace file) number = tracePlace m file number
+carried m sound number = []
 
 -- a refused call leaves memory and output as they were, and every field of its answer is zero but the refusal and what it carries
 pub record ChangesNothing (m : Memory) (c : Call) : Type 0 where
   pub memory : step m c .memory ≡ m
   pub output : step m c .out ≡ outputOf c
-  pub fields : (k : ℕ) → getD (step m c .answer) (suc k) 0 ≡ getD (carried c (getD (step m c .answer) 0 0)) k 0
+  pub fields : (k : ℕ) → getD (step m c .answer) (suc k) 0 ≡ getD (carried m c (getD (step m c .answer) 0 0)) k 0
 
 -- memory that differs from m past the fixed lengths at most gives the same answer, output and memory up to there
 pub record SameUpToThere (m m′ : Memory) (c : Call) : Type 0 where

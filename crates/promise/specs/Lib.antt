@@ -1,5 +1,5 @@
--- The three demands, the total of a survey, what reading says of records, what a withdrawal undoes and leaves alone, lookups around failed nodes, and joins,
--- as statements about the book's calls. docs/SOURCES.md says what they are.
+-- The three demands, the total of a survey, what reading says of records, what a withdrawal undoes and leaves alone, lookups around failed nodes, joins,
+-- and traces, as statements about the book's calls. docs/SOURCES.md says what they are.
 pub mod Fixed
 pub mod Demand1
 pub mod Demand2
@@ -10,3 +10,4 @@ pub mod Withdrawals
 pub mod Failures
 pub mod NoneFailed
 pub mod OneJoin
+pub mod Traces
