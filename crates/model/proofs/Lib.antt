@@ -62,6 +62,7 @@ pub mod Lookup
 pub mod Survey
 pub mod Consistency
 pub mod NoRoom
+pub mod MayGo
 pub mod Failures
 pub mod HopsUnchanged
 -- ---- images: read, written, and back

@@ -34,7 +34,7 @@ use Rattle.model.proofs.Consistency.{Whole, entry-fewer}
 -- ---- an entry
 
 module _ (K : ℕ) (T : List ℕ) (i j : ℕ) where
-  slot-held : (z k : ℕ) → k < K → slotAt T i j k ≡ z → holds K T i j z ≡ true
+  pub slot-held : (z k : ℕ) → k < K → slotAt T i j k ≡ z → holds K T i j z ≡ true
   unfolding holds
   slot-held z k l e = any-of K (slotIs T i j z) k l (eq-eqb (slotAt T i j k) z e)
 
@@ -75,7 +75,7 @@ module _ (K : ℕ) (T : List ℕ) (i j : ℕ) where
 
   module _ (gapless : GapFree K T i j) where
     -- a node of the entry has its place before the end
-    place-before : (z : ℕ) → z ≢ 0 → holds K T i j z ≡ true → place z < entrySize K T i j
+    pub place-before : (z : ℕ) → z ≢ 0 → holds K T i j z ≡ true → place z < entrySize K T i j
     place-before z some e =
         lt-of-not-le (λ l. some (sym (held-place z e .1) ∙ gap-rest K T i j gapless (place z) l (held-place z e .0)))
 

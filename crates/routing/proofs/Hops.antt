@@ -1,46 +1,70 @@
--- One hop as the code takes it, over what it has read: the ids a of u and b of z, the settings' digits d and depth K, their common suffix m.
--- Assumes nothing.
+-- One hop as the code takes it, over what it has read: the settings' digits d and depth K, u's table T, and the entry e in which it looks. Assumes nothing.
 use Prim.Native.Nat.{ℕ, _-_, _≤_, _<_}
 use mathlib.Core.Path.{_≡_, sym, ap, subst, _∙_}
 use mathlib.Core.Logic.{_≢_}
+use mathlib.Core.Bool.{Bool}
 use mathlib.Core.List.{List}
 use native.Mathlib.Decide.{ℕ-discrete}
 use native.Mathlib.Omega.{arith}
 use lib.ListN.{length}
 use Rattle.model.specs.Ids.{digitOf, commonSuffix}
 use Rattle.model.specs.Memory.{digits, depth, idOf, tableOf}
-use Rattle.model.specs.Tables.{slotPlace, slotAt, entry}
+use Rattle.model.specs.Tables.{slotPlace, slotAt, entry, holds}
 use Rattle.model.specs.Nodes.{suffixOf}
 use Rattle.model.specs.Lookup as book
 use Rattle.model.specs.Lookup.{NextHop, hopEntry, frontmost, nextHop}
+use Rattle.model.specs.Traces.{mayGo}
 use Rattle.model.proofs.Status.{IsNode}
-use Rattle.model.proofs.Sound.{Sound, standing}
+use Rattle.model.proofs.Sound.{Sound, standing, id-fits}
 use Rattle.model.proofs.SoundNodes.{suffix-below}
 use Rattle.model.proofs.Lookup.{oneHopMore, lostAt, loses-is, hop-node, left-falls, lookup-hop, hops-bound}
-use Rattle.tables.specs.Places.{Entry, Numbers}
+use Rattle.tables.specs.Places as Places
+use Rattle.tables.specs.Places.{Numbers}
+use Rattle.model.proofs.MayGo.{may-go}
+use Rattle.routing.specs.declared.Entry.{Entry}
 use Rattle.routing.specs.declared.answer.Lookup.{Lookup}
 use Rattle.routing.specs.Answer.{bookLookup}
+use Rattle.routing.specs.Hop.{IdReadable, HopEntry}
 
--- the frontmost of the entry at the common suffix
-pub reads-next : (s t T : List ℕ) (failed u z d K a b m j : ℕ) (r : NextHop) → a ≡ idOf s u → b ≡ idOf s z → d ≡ digits s → K ≡ depth s
-    → m ≡ commonSuffix d a b → T ≡ tableOf t u → j ≡ digitOf b m → r ≡ frontmost failed (entry K T m j) → r ≡ nextHop s t failed u z
+-- a node's id can be read
+pub readable : (s t : List ℕ) → Sound s t → (x : ℕ) → IsNode s x → IdReadable s x
+readable s t S x n =
+    record {
+      placed = record { long = S .long .state; first = n .low; last = omega (arith, n .high, S .few) };
+      fits = id-fits s t S x n;
+    }
+
+-- the entry at the common suffix, for z's digit there
+pub reads-entry : (s : List ℕ) (d u z a b m j : ℕ) → a ≡ idOf s u → b ≡ idOf s z → m ≡ commonSuffix d a b → j ≡ digitOf b m → j < 16
+    → HopEntry s d u z (record { level = m; digit = j })
+reads-entry s d u z a b m j ea eb em ej low = record { level = cc; digit = cc; low = low }
+
+-- its frontmost is the next hop
+pub reads-next : (s t T : List ℕ) (failed u z d K : ℕ) (e : Entry) (r : NextHop) → HopEntry s d u z e → d ≡ digits s → K ≡ depth s → T ≡ tableOf t u
+    → r ≡ frontmost failed (entry K T (e .level) (e .digit)) → r ≡ nextHop s t failed u z
 unfolding nextHop hopEntry
-reads-next s t T failed u z d K a b m j r ea eb ed eK em eT ej er = let w : m ≡ suffixOf s u z = cc in cc
+reads-next s t T failed u z d K e r h ed eK eT er = cc (h .level, h .digit)
+
+-- a path may go to the nodes that it holds
+pub reads-may-go : (s t T : List ℕ) → Sound s t → (u v z : ℕ) → IsNode s u → IsNode s v → IsNode s z → u ≢ z → (d K : ℕ) (e : Entry) (r : Bool)
+    → HopEntry s d u z e → d ≡ digits s → K ≡ depth s → T ≡ tableOf t u → r ≡ holds K T (e .level) (e .digit) v → r ≡ mayGo s t u v z
+reads-may-go s t T S u v z nu nv nz ne d K e r h ed eK eT er =
+    let g = may-go s t S u v z nu nz ne (λ q. omega (arith, nv .low)) in cc (h .level, h .digit)
 
 -- that entry stands in the table, since two nodes have no common suffix of all digits
-pub entry-stands : (s t : List ℕ) → Sound s t → (u z : ℕ) → IsNode s u → IsNode s z → u ≢ z → (T : List ℕ) (d K a b m j : ℕ) → a ≡ idOf s u
-    → b ≡ idOf s z → d ≡ digits s → K ≡ depth s → m ≡ commonSuffix d a b → length T ≡ 512 → j < 16 → Entry T K m j
-entry-stands s t S u z nu nz ne T d K a b m j ea eb ed eK em long low =
-    let w : m ≡ suffixOf s u z = cc in
+pub entry-stands : (s t : List ℕ) → Sound s t → (u z : ℕ) → IsNode s u → IsNode s z → u ≢ z → (T : List ℕ) (d K : ℕ) (e : Entry)
+    → HopEntry s d u z e → d ≡ digits s → K ≡ depth s → length T ≡ 512 → Places.Entry T K (e .level) (e .digit)
+entry-stands s t S u z nu nz ne T d K e h ed eK long =
+    let w : e .level ≡ suffixOf s u z = cc (h .level) in
     record {
       long = omega arith;
       depth = omega (arith, S .settings .depth-most);
       level = omega (arith, suffix-below s t S u z nu nz (λ e. ne (sym e)), S .settings .digits-most);
-      digit = low;
+      digit = h .low;
     }
 
 -- and holds numbers of nodes
-pub numbers : (s t : List ℕ) → Sound s t → (u : ℕ) → IsNode s u → (T : List ℕ) → T ≡ tableOf t u → (K i j : ℕ) → Entry T K i j → Numbers T K i j
+pub numbers : (s t : List ℕ) → Sound s t → (u : ℕ) → IsNode s u → (T : List ℕ) → T ≡ tableOf t u → (K i j : ℕ) → Places.Entry T K i j → Numbers T K i j
 numbers s t S u nu T e K i j E k h = go (ℕ-discrete (slotAt T i j k) 0)
   where
     place : slotPlace i j k < 512

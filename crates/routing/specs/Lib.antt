@@ -1,2 +1,3 @@
 -- What the contracts of lookup cite.
 pub mod Answer
+pub mod Hop
