@@ -40,7 +40,7 @@ fn sentences_on(state: &[u64], tables: &[u8], id: u32, gateway: u64) -> u64
     if id_taken(state, s.nodes, id) {
         return Refusal::ID_TAKEN;
     }
-    if !sentences::is_node(state, gateway) {
+    if !settings::is_node(state, gateway) {
         return Refusal::NO_SUCH_NODE;
     }
     if s.nodes == 64 {

@@ -13,6 +13,7 @@ use answers::refusal::Refusal;
 use state::record;
 use state::record::Node;
 use state::sets;
+use state::settings;
 use state::status::Status;
 
 // The node copies or waits, and its request goes to y.
@@ -75,10 +76,10 @@ pub fn refusal(state: &[u64], tables: &[u8], sender: u64, receiver: u64) -> u64
     if r != 0 {
         return r;
     }
-    if !sentences::is_node(state, sender) {
+    if !settings::is_node(state, sender) {
         return Refusal::NO_SUCH_NODE;
     }
-    if !sentences::is_node(state, receiver) {
+    if !settings::is_node(state, receiver) {
         return Refusal::NO_SUCH_NODE;
     }
     sentences_on(state, sender as usize, receiver as usize)

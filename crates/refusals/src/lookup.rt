@@ -5,6 +5,7 @@ ghost use Rattle.state.specs.Lent.{memory};
 use crate::sentences;
 use answers::refusal::Refusal;
 use state::sets;
+use state::settings;
 
 pub fn refusal(state: &[u64], tables: &[u8], from: u64, to: u64, failed: u64) -> u64
     ensures { λ r. ⌜ r ≡ lookupRefusal (memory (now (state .entry)) (now (tables .entry))) from to failed ⌝ }
@@ -13,10 +14,10 @@ pub fn refusal(state: &[u64], tables: &[u8], from: u64, to: u64, failed: u64) ->
     if r != 0 {
         return r;
     }
-    if !sentences::is_node(state, from) {
+    if !settings::is_node(state, from) {
         return Refusal::NO_SUCH_NODE;
     }
-    if !sentences::is_node(state, to) {
+    if !settings::is_node(state, to) {
         return Refusal::NO_SUCH_NODE;
     }
     if sets::has_either(failed, from as usize, to as usize) {

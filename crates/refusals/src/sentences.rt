@@ -1,9 +1,6 @@
 // Sentences that several calls judge: document 01, "What a call declines".
 ghost use mathlib.Core.Path.{_≡_};
-ghost use Prim.Native.Nat.{_≤_};
-ghost use lib.ListN.{length};
-ghost use Rattle.model.specs.Memory.{stateLength, isInSystem};
-ghost use Rattle.model.specs.Nodes as book;
+ghost use Rattle.model.specs.Memory.{isInSystem};
 ghost use Rattle.model.specs.Refusals.{stateRefusal};
 ghost use Rattle.model.specs.Nodes.{allNodes};
 ghost use Rattle.state.specs.Lent.{memory};
@@ -26,17 +23,6 @@ pub fn state_refusal(state: &[u64], tables: &[u8]) -> u64
         return Refusal::UNSOUND;
     }
     0
-}
-
-// x is the number of a node.
-pub fn is_node(state: &[u64], x: u64) -> bool
-    requires { ⌜ stateLength ≤ length (now state) ⌝ }
-    ensures { λ r. ⌜ r ≡ book.isNode (now (state .entry)) x ⌝ }
-{
-    if x < 1 {
-        return false;
-    }
-    x <= settings::load(state).nodes as u64
 }
 
 // Not 15: every node is in system.

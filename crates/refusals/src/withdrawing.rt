@@ -34,7 +34,7 @@ pub fn refusal(state: &[u64], tables: &[u8], node: u64) -> u64
     if r != 0 {
         return r;
     }
-    if !sentences::is_node(state, node) {
+    if !settings::is_node(state, node) {
         return Refusal::NO_SUCH_NODE;
     }
     sentences_on(state, node as usize)

@@ -4,6 +4,7 @@ ghost use Prim.Native.Nat.{_≤_};
 ghost use lib.ListN.{length, set};
 ghost use Rattle.model.specs.Join.{withSettings};
 ghost use Rattle.model.specs.Memory.{stateLength, digits};
+ghost use Rattle.model.specs.Nodes.{isNode};
 ghost use Rattle.state.specs.Loaded.{SettingsOf};
 
 pub struct Settings {
@@ -23,6 +24,17 @@ pub fn load(state: &[u64]) -> Settings
         depth: state[2] as usize,
         nodes: state[3] as usize,
     }
+}
+
+// x is the number of a node.
+pub fn is_node(state: &[u64], x: u64) -> bool
+    requires { ⌜ stateLength ≤ length (now state) ⌝ }
+    ensures { λ r. ⌜ r ≡ isNode (now (state .entry)) x ⌝ }
+{
+    if x < 1 {
+        return false;
+    }
+    x <= load(state).nodes as u64
 }
 
 // The number of digits alone, of memory of any length: 0 where it ends before.

@@ -3,8 +3,8 @@ use mathlib.Core.Path.{ap}
 use lib.Dec.{leb}
 use Rattle.model.proofs.Early.{le-leaves, le-goes}
 use borrow.Author.Needs.{needs}
-use Rattle.refusals.proofs.sentences.is_node.Statement.{statement}
-use Rattle.refusals.proofs.sentences.is_node.Tie as tie
+use Rattle.state.proofs.settings.is_node.Statement.{statement}
+use Rattle.state.proofs.settings.is_node.Tie as tie
 
 returns : tie.Need-returns
 returns c = search (needs, le-leaves)

@@ -1,0 +1,2 @@
+-- Laws that the proofs of reading a trace cite.
+pub mod Counts

@@ -1,0 +1,2 @@
+-- What the contracts of reading a trace cite.
+pub mod Read

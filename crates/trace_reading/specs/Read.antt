@@ -1,0 +1,16 @@
+-- The count of a path, as it is read where the path starts.
+use Prim.Native.Nat.{ℕ, _+_}
+use mathlib.Core.Bool.{Bool, cond, _&&_}
+use mathlib.Core.List.{List}
+use lib.Dec.{leb, ltb}
+use lib.ListN.{length}
+use Rattle.model.specs.Image.{byteAt}
+use Rattle.trace_reading.specs.declared.Count.{Count}
+use Rattle.trace_reading.specs.declared.Count.the-variants.{Places, Wrong}
+
+-- the path that starts at `at` has its count, and the trace its places
+unfoldable pub countRightAt : List ℕ → ℕ → Bool
+countRightAt trace at = leb 1 (byteAt trace at) && (leb (byteAt trace at) 9 && ltb (at + byteAt trace at) (length trace))
+
+unfoldable pub countAt : List ℕ → ℕ → Count
+countAt trace at = cond (countRightAt trace at) (Places (byteAt trace at)) Wrong

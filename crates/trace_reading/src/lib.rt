@@ -1,0 +1,31 @@
+// Reading a trace: how many places the path has that starts at a place of it.
+ghost use mathlib.Core.Path.{_≡_};
+ghost use Rattle.trace_reading.specs.Read.{countAt};
+
+// A path's count.
+pub enum Count {
+    // from 1 to 9, and the trace holds as many bytes behind it
+    Places(usize),
+    // any other, or none
+    Wrong,
+}
+
+// The count of the path that starts at `at`.
+pub fn count_at(trace: &[u8], at: usize) -> Count
+    ensures { λ r. ⌜ r ≡ countAt (now (trace .entry)) at ⌝ }
+{
+    if trace.len() <= at {
+        return Count::Wrong;
+    }
+    let places = trace[at] as usize;
+    if places < 1 {
+        return Count::Wrong;
+    }
+    if 9 < places {
+        return Count::Wrong;
+    }
+    if trace.len() - at <= places {
+        return Count::Wrong;
+    }
+    Count::Places(places)
+}
