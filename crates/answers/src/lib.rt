@@ -1,5 +1,5 @@
 // What the calls answer, and the refusals by name. Founding, withdrawing and `sound` answer the refusal alone, 0 for none. In the others it is the first
-// field, or of a delivery a kind of its own, and on a refusal every other field is zero or false, but for the place that reading gives.
+// field, or of a delivery a kind of its own, and on a refusal every other field is zero or false, but for the places that reading and tracing give.
 pub mod refusal;
 
 // Reading an image: with refusals 10, 17 and 18 the place of the record, counted from 1, or 0 where an own entry has no record.
@@ -59,4 +59,12 @@ pub struct VerdictAnswer {
 pub struct WriteAnswer {
     pub refusal: u64,
     pub bytes: u64,
+}
+
+// A trace: with refusal 9 path and place of the first number that is no node's, with 23 path and step of the first step that is not allowed, all
+// counted from 1.
+pub struct TraceAnswer {
+    pub refusal: u64,
+    pub path: u64,
+    pub place: u64,
 }

@@ -1,4 +1,4 @@
-// The refusals by name: document 01, "What a call declines", and document 02, Tickets 2, 5 and 6. include/overlay.h has the same names behind OVERLAY_.
+// The refusals by name: document 01, "What a call declines", and document 02, Tickets 2, 5, 6 and 8. include/overlay.h has the same names behind OVERLAY_.
 pub struct Refusal {
     pub number: u64,
 }
@@ -28,7 +28,7 @@ impl Refusal {
     // a node has the id already, or two of the image have it
     pub const ID_TAKEN: u64 = 8;
 
-    // a number of the call, but for those of a set, or of a record of the image, is no node's
+    // a number of the call, but for those of a set, or of a record of the image, or at a place of the trace, is no node's
     pub const NO_SUCH_NODE: u64 = 9;
 
     // a record's level or digit is out of range, or it is below the one before it
@@ -66,4 +66,10 @@ impl Refusal {
 
     // the start or the destination of a lookup has failed
     pub const HAS_FAILED: u64 = 21;
+
+    // the trace is empty, a path's count is not from 1 to 9, or its length is not what the counts say
+    pub const TRACE_COUNTS: u64 = 22;
+
+    // a path of the trace goes on from its destination, or to no node of the entry that the lookup rule names
+    pub const STEP_NOT_ALLOWED: u64 = 23;
 }
