@@ -1,5 +1,5 @@
--- On memories alike in the fixed lengths lookup, survey, verdict and image are the same. Assumes nothing.
-use Prim.Native.Nat.{ℕ, zero, suc, _+_, _≤_, _<_}
+-- On memories alike in the fixed lengths lookup, survey, verdict, image and the steps of a trace are the same. Assumes nothing.
+use Prim.Native.Nat.{ℕ, zero, suc, _+_, _-_, _≤_, _<_}
 use mathlib.Core.Path.{_≡_, refl, sym, ap, fun-ext, _∙_}
 use mathlib.Core.Logic.{_≢_}
 use mathlib.Core.Bool.{Bool, true, false, not}
@@ -13,10 +13,12 @@ use Rattle.model.specs.Lookup.{hopEntry, NextHop, frontmost, nextHop, ve
 use Rattle.model.specs.Survey.{arrivesIn, isLost, isPair, ofPair, pairsFrom, countPairs, hopPairs, lostPairs, surveyCounts}
 use Rattle.model.specs.Consistency.{Verdict, howMany, entryWhole, levelWhole, nodeWhole, consistent, nodeShort, levelShort, entryShort, firstShort, verdict}
 use Rattle.model.specs.Image.{idBytes, entryRecords, levelRecords, nodeRecords, allRecords, imageOf}
+use Rattle.model.specs.Traces.{pathCount, placeCount, placeAt, destination, stepCount, mayGo, stepAllowed, placesNamed}
 use Rattle.model.proofs.Loops.{all-same, count-same, sum-same, first-same, join-same, first-fails}
 use Rattle.model.proofs.Status.{IsNode}
 use Rattle.model.proofs.Sound.{Sound}
 use Rattle.model.proofs.NextHop.{Agreeing, front-same, entry-hop}
+use Rattle.model.proofs.Traces.{places-named}
 use Rattle.model.proofs.Lookup.{Step, arrives, loses, hops, step-of, arrives-path, loses-path, hops-path, hop-node}
 use Rattle.model.proofs.Alike as same
 use Rattle.model.proofs.Alike.{LongAlike, base-same, digits-same, depth-same, id-same, alike-to, suffix-alike, table-same}
@@ -44,24 +46,34 @@ module _ (s t s′ t′ : List ℕ) (L : LongAlike s t s′ t′) (S : Sound s t
   few : (x : ℕ) → x ≤ nodeCount s → x ≤ 64
   few x h = omega (arith, S .few)
 
+  -- ---- the entry that a lookup looks into, and the steps of a trace
+
+  hop-entry-same : (u z : ℕ) → IsNode s u → IsNode s z → hopEntry s′ t′ u z ≡ hopEntry s t u z
+  unfolding hopEntry
+  hop-entry-same u z nu nz =
+      cc (
+        depth-same s s′ a,
+        suffix-alike (alike-to s s′ a) u z (few u (nu .high)) (few z (nz .high)),
+        id-same s s′ a z (few z (nz .high)),
+        table-same s t s′ t′ L u (nu .low) (few u (nu .high)),
+      )
+
+  -- where every place has a node
+  pub step-same : (trace : List ℕ) → placesNamed s trace ≡ true → (p k : ℕ) → p < pathCount trace → k < stepCount trace p
+      → stepAllowed s′ t′ trace p k ≡ stepAllowed s t trace p k
+  unfolding stepAllowed mayGo
+  step-same trace e p k l h =
+      let named = places-named s trace e in
+      cc (hop-entry-same (placeAt trace p k) (destination trace p) (named p k l (omega arith)) (named p (placeCount trace p - 1) l (omega arith)))
+
   -- ---- lookup and survey, with sets of failed nodes that say the same of every node
 
   module _ (failed failed′ : ℕ) (agree : Agreeing s failed failed′) where
     module _ (z : ℕ) (nz : IsNode s z) where
-      hop-entry-same : (u : ℕ) → IsNode s u → hopEntry s′ t′ u z ≡ hopEntry s t u z
-      unfolding hopEntry
-      hop-entry-same u nu =
-          cc (
-            depth-same s s′ a,
-            suffix-alike (alike-to s s′ a) u z (few u (nu .high)) (few z (nz .high)),
-            id-same s s′ a z (few z (nz .high)),
-            table-same s t s′ t′ L u (nu .low) (few u (nu .high)),
-          )
-
       next-same : (u : ℕ) → IsNode s u → u ≢ z → nextHop s′ t′ failed′ u z .node ≡ nextHop s t failed u z .node
       unfolding nextHop
       next-same u nu ne =
-          ap (λ (E : List ℕ). frontmost failed′ E .node) (hop-entry-same u nu)
+          ap (λ (E : List ℕ). frontmost failed′ E .node) (hop-entry-same u z nu nz)
           ∙ ap (λ (r : NextHop). r .node)
           (front-same failed failed′ (hopEntry s t u z) (λ k l. agree _ (entry-hop s t S u z nu nz ne k l .0)))
 

@@ -1,6 +1,6 @@
--- On memories alike in the fixed lengths each call is refused alike. Assumes nothing.
+-- On memories alike in the fixed lengths each call is refused alike, and a trace at the same place. Assumes nothing.
 use Prim.Native.Nat.{ℕ, _+_, _≤_}
-use mathlib.Core.Path.{_≡_, refl, ap, ap₂, _∙_}
+use mathlib.Core.Path.{_≡_, refl, sym, ap, ap₂, _∙_}
 use mathlib.Core.Bool.{Bool, true, false, cond, not, _||_}
 use mathlib.Core.List.{List, [], _∷_, _++_}
 use native.Mathlib.Omega.{arith}
@@ -11,15 +11,17 @@ use Rattle.model.specs.Memory.{Memory, nodeCount, nodeOf, isInSystem}
 use Rattle.model.specs.Nodes.{isNode}
 use Rattle.model.specs.Sound.{sound}
 use Rattle.model.specs.Join.{outstanding}
-use Rattle.model.specs.Refusals.{Sentence, firstTrue, memoryShort, unsound, hasId, areNodes, someNotInSystem, stateSentences, beginSentences, withdrawSentences, deliverSentences, lookupSentences, verdictSentences, writeSentences, foundRefusal, readRefusal, stateRefusal, beginRefusal, withdrawRefusal, deliverRefusal, lookupRefusal, verdictRefusal, writeRefusal}
+use Rattle.model.specs.Traces.{pathCount, placeCount, placeAt, stepCount, placeNamed, stepAllowed}
+use Rattle.model.specs.Refusals.{Sentence, firstTrue, memoryShort, unsound, hasId, areNodes, someNotInSystem, stateSentences, beginSentences, withdrawSentences, deliverSentences, lookupSentences, verdictSentences, writeSentences, traceSentences, foundRefusal, readRefusal, stateRefusal, beginRefusal, withdrawRefusal, deliverRefusal, lookupRefusal, verdictRefusal, writeRefusal, traceRefusal, tracePlace}
 use Rattle.model.proofs.Loops.{all-same, any-same}
 use Rattle.model.proofs.Memory.{same-status, same-target, same-pending}
 use Rattle.model.proofs.Status.{IsNode, is-node, in-system-same, attached-same}
 use Rattle.model.proofs.Sound.{Sound, sound-ok}
-use Rattle.model.proofs.Taken.{long-of, both-nodes}
+use Rattle.model.proofs.Taken.{long-of, both-nodes, not-short}
+use Rattle.model.proofs.Traces.{in-paths-same, fault-same, refused-9, refused-23, by-refusal, trace-place-none}
 use Rattle.model.proofs.NextHop.{Agreeing}
 use Rattle.model.proofs.Alike.{Alike, LongAlike, base-same, digits-same, count-same, id-same, record-same, short-same, sound-same}
-use Rattle.model.proofs.AlikeLooking.{nodes-same, image-same}
+use Rattle.model.proofs.AlikeLooking.{nodes-same, image-same, step-same}
 
 -- lists of sentences are judged alike where each test is the same, if no test before it was true
 sentence-same : (test test′ : Bool) (n : ℕ) (later later′ : List Sentence) → test′ ≡ test
@@ -83,12 +85,15 @@ module _ (m m′ : Memory) (a : Alike (m .state) (m .tables) (m′ .state) (m′
   unfolding stateRefusal
   state-same = past-sound [] [] (λ L S. refl)
 
+  is-node-same : (x : ℕ) → isNode s′ x ≡ isNode s x
+  is-node-same x = cc (count-same s s′ (a .state))
+
+  are-nodes-same : (x y : ℕ) → areNodes s′ x y ≡ areNodes s x y
+  are-nodes-same x y = cc (is-node-same x, is-node-same y)
+
   module _ (S : Sound (m .state) (m .tables)) where
     node-few : (x : ℕ) → IsNode s x → x ≤ 64
     node-few x n = omega (arith, n .high, S .few)
-
-    is-node-same : (x : ℕ) → isNode s′ x ≡ isNode s x
-    is-node-same x = cc (count-same s s′ (a .state))
 
     node-there : (x : ℕ) → not (isNode s x) ≡ false → x ≤ 64
     node-there x e = node-few x (is-node s x (not-false (isNode s x) e))
@@ -98,9 +103,6 @@ module _ (m m′ : Memory) (a : Alike (m .state) (m .tables) (m′ .state) (m′
 
     nodes-there : (x y : ℕ) → areNodes s x y ≡ true → (x ≤ 64) × (y ≤ 64)
     nodes-there x y e = let n = both-nodes m x y (ap not e) in (node-few x (n .0), node-few y (n .1))
-
-    are-nodes-same : (x y : ℕ) → areNodes s′ x y ≡ areNodes s x y
-    are-nodes-same x y = cc (is-node-same x, is-node-same y)
 
     taken-same : (id : ℕ) → anyBelow (nodeCount s′) (λ k. hasId s′ id (k + 1)) ≡ anyBelow (nodeCount s) (λ k. hasId s id (k + 1))
     taken-same id =
@@ -122,7 +124,7 @@ module _ (m m′ : Memory) (a : Alike (m .state) (m .tables) (m′ .state) (m′
       (λ e₇.
       sentence-same _ _ 8 _ _ (taken-same S id)
       (λ e₈.
-      sentence-same _ _ 9 _ _ (ap not (is-node-same S gateway))
+      sentence-same _ _ 9 _ _ (ap not (is-node-same gateway))
       (λ e₉.
       sentence-same _ _ 11 _ _ (cc (count-same s s′ (a .state)))
       (λ e₁₁. sentence-same _ _ 12 [] [] (ap not (in-system-there S gateway (node-there S gateway e₉))) (λ e₁₂. refl))))))
@@ -132,7 +134,7 @@ module _ (m m′ : Memory) (a : Alike (m .state) (m .tables) (m′ .state) (m′
   withdraw-same x =
       past-sound (withdrawSentences s x) (withdrawSentences s′ x)
       (λ L S.
-      sentence-same _ _ 9 _ _ (ap not (is-node-same S x))
+      sentence-same _ _ 9 _ _ (ap not (is-node-same x))
       (λ e₉.
       sentence-same _ _ 19 _ _ (cc (count-same s s′ (a .state)))
       (λ e₁₉.
@@ -143,7 +145,7 @@ module _ (m m′ : Memory) (a : Alike (m .state) (m .tables) (m′ .state) (m′
   deliver-same x y =
       past-sound (deliverSentences s x y) (deliverSentences s′ x y)
       (λ L S.
-      deliver-judged s s′ x y (are-nodes-same S x y)
+      deliver-judged s s′ x y (are-nodes-same x y)
       (λ e. let n = nodes-there S x y e in (record-same s s′ (a .state) x (n .0), in-system-there S y (n .1))))
 
   pub lookup-same : (u z failed failed′ : ℕ) → Agreeing s failed failed′ → lookupRefusal m′ u z failed′ ≡ lookupRefusal m u z failed
@@ -151,7 +153,7 @@ module _ (m m′ : Memory) (a : Alike (m .state) (m .tables) (m′ .state) (m′
   lookup-same u z failed failed′ agree =
       past-sound (lookupSentences s u z failed) (lookupSentences s′ u z failed′)
       (λ L S.
-      sentence-same _ _ 9 _ _ (ap not (are-nodes-same S u z))
+      sentence-same _ _ 9 _ _ (ap not (are-nodes-same u z))
       (λ e₉.
       let n = both-nodes m u z e₉ in
       sentence-same _ _ 21 [] [] (ap₂ _||_ (agree u (n .0)) (agree z (n .1))) (λ e₂₁. refl)))
@@ -169,3 +171,39 @@ module _ (m m′ : Memory) (a : Alike (m .state) (m .tables) (m′ .state) (m′
       (λ L S.
       sentence-same _ _ 15 _ _ (not-in-system-same S)
       (λ e₁₅. sentence-same _ _ 16 [] [] (cc (image-same s (m .tables) s′ (m′ .tables) L S)) (λ e₁₆. refl)))
+
+  -- ---- traces
+
+  named-same : (trace : List ℕ) (p k : ℕ) → placeNamed s′ trace p k ≡ placeNamed s trace p k
+  unfolding placeNamed
+  named-same trace p k = is-node-same (placeAt trace p k)
+
+  pub trace-same : (trace : List ℕ) → traceRefusal m′ trace ≡ traceRefusal m trace
+  unfolding traceRefusal
+  trace-same trace =
+      past-sound (traceSentences m trace) (traceSentences m′ trace)
+      (λ L S.
+      sentence-same _ _ 22 _ _ refl
+      (λ e₂₂.
+      sentence-same _ _ 9 _ _
+      (ap not (in-paths-same (pathCount trace) (placeCount trace) (placeNamed s trace) (placeNamed s′ trace) (λ p k l h. named-same trace p k)))
+      (λ e₉.
+      sentence-same _ _ 23 [] []
+      (ap not
+      (in-paths-same (pathCount trace) (stepCount trace) (stepAllowed s (m .tables) trace) (stepAllowed s′ (m′ .tables) trace)
+      (step-same s (m .tables) s′ (m′ .tables) L S trace (not-false _ e₉))))
+      (λ e₂₃. refl))))
+
+  -- and a refusal points at the same place
+  pub traced-same : (trace : List ℕ) → tracePlace m′ trace (traceRefusal m trace) ≡ tracePlace m trace (traceRefusal m trace)
+  unfolding tracePlace
+  traced-same trace =
+      by-refusal m trace (λ (n : ℕ). tracePlace m′ trace n ≡ tracePlace m trace n)
+      (λ e.
+      fault-same (pathCount trace) (placeCount trace) (placeNamed s trace) (placeNamed s′ trace) (λ p k l h. named-same trace p k)
+      (refused-9 m trace e .1))
+      (λ e.
+      let r = refused-23 m trace e in
+      fault-same (pathCount trace) (stepCount trace) (stepAllowed s (m .tables) trace) (stepAllowed s′ (m′ .tables) trace)
+      (step-same s (m .tables) s′ (m′ .tables) (long-alike (not-short m (r .0 .long))) (r .0) trace (r .2)) (r .3))
+      (λ n b c. trace-place-none m′ trace n b c ∙ sym (trace-place-none m trace n b c))

@@ -1,10 +1,10 @@
 -- How large the fields of an answer are: below 256, but for the length of a written image and the counts of a survey, which are at most
 -- 4,096. Assumes nothing.
 use Prim.Native.Nat.{ℕ, zero, suc, _*_, _≤_, _<_}
-use mathlib.Core.Path.{_≡_, refl}
+use mathlib.Core.Path.{_≡_, refl, sym, subst}
 use mathlib.Core.Logic.{_⊎_, inl, inr}
 use mathlib.Core.Bool.{Bool, true, false, cond}
-use mathlib.Core.List.{List, [], _∷_}
+use mathlib.Core.List.{List, [], _∷_, _++_}
 use native.Mathlib.Nat.{mul-le-mul}
 use native.Mathlib.Omega.{arith}
 use lib.Dec.{eqb}
@@ -17,8 +17,9 @@ use Rattle.model.specs.Join.{delivery}
 use Rattle.model.specs.Lookup.{lookup}
 use Rattle.model.specs.Survey.{countPairs, surveyCounts}
 use Rattle.model.specs.Consistency.{consistent, nodeShort, levelShort, entryShort, firstShort, verdict}
-use Rattle.model.specs.Refusals.{Sentence, firstTrue, stateRefusal, beginRefusal, deliverRefusal, lookupRefusal, verdictRefusal}
-use Rattle.model.specs.Calls.{Outcome, refusedAt, refused, taken, unlessRefused, verdictFields, beginCall, deliverCall, lookupCall, surveyCall, verdictCall}
+use Rattle.model.specs.Traces.{pathCount, placeCount, stepCount, placeNamed, stepAllowed, inPaths, firstFault}
+use Rattle.model.specs.Refusals.{Sentence, firstTrue, stateSentences, traceSentences, stateRefusal, beginRefusal, deliverRefusal, lookupRefusal, verdictRefusal, traceRefusal, tracePlace}
+use Rattle.model.specs.Calls.{Outcome, refusedAt, refused, taken, unlessRefused, verdictFields, beginCall, deliverCall, lookupCall, surveyCall, verdictCall, traceCall}
 use Rattle.model.proofs.Refusals.{numbered, sentences-below}
 use Rattle.model.proofs.Calls.{either-end, taken-zero}
 use Rattle.model.proofs.Loops.{first-le}
@@ -28,6 +29,7 @@ use Rattle.model.proofs.DeliveryDid.{delivery-small}
 use Rattle.model.proofs.Lookup.{arrives-is, loses-is, lookup-hop, hops-bound, walk}
 use Rattle.model.proofs.Survey.{one-or-none, pairs-most}
 use Rattle.model.proofs.Taken.{state-taken, begin-taken, deliver-taken, lookup-taken, verdict-taken}
+use Rattle.model.proofs.Traces.{trace-counts, fault, refused-9, refused-23, by-refusal, trace-place-none, trace-answer}
 
 -- each field is below n
 unfoldable pub Below : ℕ → List ℕ → Type 0
@@ -132,6 +134,33 @@ pub verdict-bytes : (m : Memory) → Bytes (verdictCall m .answer)
 unfolding Below verdictRefusal verdictCall taken numbered
 verdict-bytes m =
     bytes-unless m [] _ 4 _ refl (λ z. (omega arith, judged-bytes (m .state) (m .tables) (verdict-taken m z .0)))
+
+-- ---- a trace
+
+-- where a test first fails, in fewer than 256 paths of at most 9 places
+fault-bytes : (n : ℕ) (size : ℕ → ℕ) (test : ℕ → ℕ → Bool) → n < 256 → ((p : ℕ) → p < n → size p ≤ 9) → inPaths n size test ≡ false
+    → Bytes (firstFault n size test)
+unfolding Below
+fault-bytes n size test few short e =
+    let f = fault n size test e in
+    subst Bytes (sym (f .is)) (omega (arith, f .path-in), (omega (arith, f .index-in, short (f .path) (f .path-in)), _))
+
+-- the count of paths is a byte
+pub trace-bytes : (m : Memory) (trace : List ℕ) → pathCount trace < 256 → Bytes (traceCall m trace .answer)
+unfolding Below traceRefusal tracePlace numbered
+trace-bytes m trace few =
+    subst Bytes (sym (trace-answer m trace)) (
+      sentences-below (stateSentences m ++ traceSentences m trace) refl,
+      by-refusal m trace (λ (n : ℕ). Bytes (tracePlace m trace n))
+          (λ e.
+          let r = refused-9 m trace e in
+          fault-bytes (pathCount trace) (placeCount trace) (placeNamed (m .state) trace) few (λ p l. trace-counts trace (r .0) .counts p l .1) (r .1))
+          (λ e.
+          let r = refused-23 m trace e in
+          fault-bytes (pathCount trace) (stepCount trace) (stepAllowed (m .state) (m .tables) trace) few
+          (λ p l. omega (arith, trace-counts trace (r .1) .counts p l .1)) (r .3))
+          (λ n a b. subst Bytes (sym (trace-place-none m trace n a b)) (omega arith, (omega arith, _))),
+    )
 
 -- ---- a survey
 

@@ -83,6 +83,7 @@ pub mod Counts
 pub mod Taken
 pub mod Places
 pub mod Calls
+pub mod Traces
 pub mod RequestsSent
 pub mod DeliveryCounts
 pub mod Fields

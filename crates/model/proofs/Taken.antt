@@ -37,7 +37,7 @@ long-of m e =
     }
 
 -- 1 and 2
-sound-past : (m : Memory) → memoryShort m ≡ false → unsound m ≡ false → Sound (m .state) (m .tables)
+pub sound-past : (m : Memory) → memoryShort m ≡ false → unsound m ≡ false → Sound (m .state) (m .tables)
 sound-past m e f = sound-ok (m .state) (m .tables) (long-of m e) (not-false (sound (m .state) (m .tables)) f)
 
 pub state-taken : (m : Memory) → stateRefusal m ≡ 0 → Sound (m .state) (m .tables)
