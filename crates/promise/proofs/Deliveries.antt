@@ -10,7 +10,7 @@ use lib.ListN.{getD}
 use Rattle.model.specs.Memory.{Memory, Node, digits, nodeOf, statusOf, requestsOf, noticesOf, inSystem, copying, waiting, notifying}
 use Rattle.model.specs.Nodes.{isNode}
 use Rattle.model.specs.Join.{Delivery, notifyingNode, kindAttached, kindNotified, delivery}
-use Rattle.model.specs.Run.{Call, found, read, begin, withdraw, deliver, lookup, survey, verdict, write, sound, play, Event, history, isTaken, goesOn, keepsAsking, tallied, tally, tallyFrom}
+use Rattle.model.specs.Run.{Call, found, read, begin, withdraw, deliver, lookup, survey, verdict, write, trace, sound, play, Event, history, isTaken, goesOn, keepsAsking, tallied, tally, tallyFrom}
 use Rattle.model.proofs.Memory.{same-status, same-requests}
 use Rattle.model.proofs.Status.{IsNode, is-node, is-node-of}
 use Rattle.model.proofs.Sound.{Sound}
@@ -135,6 +135,7 @@ tally-less x a b l e = either (isTaken (e .answer)) (by-call (e .call))
     by-call (survey failed) = l
     by-call verdict = l
     by-call (write out) = l
+    by-call (trace file) = l
     by-call sound = l
 
 tally-fewer : (x a b : ℕ) → a ≤ b → (es : List Event) → tallyFrom 0 every x a es ≤ tallyFrom 1 every x b es

@@ -13,9 +13,9 @@ use Rattle.model.specs.Lookup as routing
 use Rattle.model.specs.Survey.{surveyCounts}
 use Rattle.model.specs.Consistency as consistency
 use Rattle.model.specs.Image.{imageOf, loaded}
-use Rattle.model.specs.Refusals.{foundRefusal, readRefusal, recordPlace, beginRefusal, withdrawRefusal, deliverRefusal, lookupRefusal, verdictRefusal, writeRefusal, stateRefusal}
-use Rattle.model.specs.Calls.{Outcome, refusedAt, taken, unlessRefused, deliveryFields, lookupFields, verdictFields, foundCall, readCall, beginCall, withdrawCall, deliverCall, lookupCall, surveyCall, verdictCall, writeCall, soundCall}
-use Rattle.model.specs.Run.{Call, found, read, begin, withdraw, deliver, lookup, survey, verdict, write, sound, step, after, play, history, isTaken}
+use Rattle.model.specs.Refusals.{foundRefusal, readRefusal, recordPlace, beginRefusal, withdrawRefusal, deliverRefusal, lookupRefusal, verdictRefusal, writeRefusal, traceRefusal, tracePlace, stateRefusal}
+use Rattle.model.specs.Calls.{Outcome, refusedAt, taken, unlessRefused, deliveryFields, lookupFields, verdictFields, foundCall, readCall, beginCall, withdrawCall, deliverCall, lookupCall, surveyCall, verdictCall, writeCall, traceCall, soundCall}
+use Rattle.model.specs.Run.{Call, found, read, begin, withdraw, deliver, lookup, survey, verdict, write, trace, sound, step, after, play, history, isTaken}
 use Rattle.model.proofs.Sound.{Long}
 use Rattle.model.proofs.Taken.{state-taken, found-taken, read-taken, begin-taken, withdraw-taken, deliver-taken, lookup-taken, verdict-taken, write-taken, not-short}
 use Rattle.model.proofs.OwnTable.{own-long}
@@ -44,20 +44,22 @@ number m (lookup u z failed) = lookupRefusal m u z failed
 number m (survey failed) = stateRefusal m
 number m verdict = verdictRefusal m
 number m (write out) = writeRefusal m out
+number m (trace file) = traceRefusal m file
 number m sound = stateRefusal m
 
 -- the other fields of its answer where it is refused with number n
-abbrev others : Call → ℕ → List ℕ
-others (found b d K id) n = []
-others (read im) n = recordPlace im n ∷ []
-others (begin id gateway) n = replicate 1 0
-others (withdraw x) n = []
-others (deliver x y) n = replicate 3 0
-others (lookup u z failed) n = replicate 3 0
-others (survey failed) n = replicate 9 0
-others verdict n = replicate 4 0
-others (write out) n = replicate 1 0
-others sound n = []
+abbrev others : Memory → Call → ℕ → List ℕ
+others m (found b d K id) n = []
+others m (read im) n = recordPlace im n ∷ []
+others m (begin id gateway) n = replicate 1 0
+others m (withdraw x) n = []
+others m (deliver x y) n = replicate 3 0
+others m (lookup u z failed) n = replicate 3 0
+others m (survey failed) n = replicate 9 0
+others m verdict n = replicate 4 0
+others m (write out) n = replicate 1 0
+others m (trace file) n = tracePlace m file n
+others m sound n = []
 
 -- what it leaves where it is taken
 record Work : Type 0 where
@@ -80,13 +82,14 @@ work m verdict = record { memory = m; out = []; fields = verdictFields (consiste
 work m (write out) =
     let im = imageOf (m .state) (m .tables) in
     record { memory = m; out = im ++ drop (length im) out; fields = length im ∷ [] }
+work m (trace file) = record { memory = m; out = []; fields = 0 ∷ 0 ∷ [] }
 work m sound = record { memory = m; out = []; fields = [] }
 
 abbrev ended : Memory → Call → ℕ → Work → Outcome
-ended m c n w = unlessRefused n (refusedAt m (outputOf c) (others c n)) (taken (w .memory) (w .out) (w .fields))
+ended m c n w = unlessRefused n (refusedAt m (outputOf c) (others m c n)) (taken (w .memory) (w .out) (w .fields))
 
 step-is : (m : Memory) (c : Call) → step m c ≡ ended m c (number m c) (work m c)
-unfolding step foundCall readCall beginCall withdrawCall deliverCall lookupCall surveyCall verdictCall writeCall soundCall
+unfolding step foundCall readCall beginCall withdrawCall deliverCall lookupCall surveyCall verdictCall writeCall traceCall soundCall
 step-is m (found b d K id) = refl
 step-is m (read im) = refl
 step-is m (begin id gateway) = refl
@@ -96,19 +99,20 @@ step-is m (lookup u z failed) = refl
 step-is m (survey failed) = refl
 step-is m verdict = refl
 step-is m (write out) = refl
+step-is m (trace file) = refl
 step-is m sound = refl
 
 -- what holds of both ends holds of the call
 by-ends : (P : Outcome → Type 0) (m : Memory) (c : Call)
-    → (number m c ≢ 0 → P (refusedAt m (outputOf c) (others c (number m c)) (number m c)))
+    → (number m c ≢ 0 → P (refusedAt m (outputOf c) (others m c (number m c)) (number m c)))
     → (number m c ≡ 0 → P (taken (work m c .memory) (work m c .out) (work m c .fields))) → P (step m c)
 by-ends P m c f g =
-    subst P (sym (step-is m c)) (either-end P (number m c) (refusedAt m (outputOf c) (others c (number m c))) _ f g)
+    subst P (sym (step-is m c)) (either-end P (number m c) (refusedAt m (outputOf c) (others m c (number m c))) _ f g)
 
 -- the number of a call that was taken is 0
 pub taken-number : (m : Memory) (c : Call) → isTaken (step m c .answer) ≡ true → number m c ≡ 0
 taken-number m c e =
-    taken-zero m (number m c) (outputOf c) (others c (number m c)) _ (subst (λ (o : Outcome). isTaken (o .answer) ≡ true) (step-is m c) e)
+    taken-zero m (number m c) (outputOf c) (others m c (number m c)) _ (subst (λ (o : Outcome). isTaken (o .answer) ≡ true) (step-is m c) e)
 
 -- ---- a refused call
 
@@ -118,17 +122,18 @@ zeros zero (suc j) = refl
 zeros (suc k) zero = refl
 zeros (suc k) (suc j) = zeros k j
 
-others-carried : (c : Call) (n k : ℕ) → getD (others c n) k 0 ≡ getD (carried c n) k 0
-others-carried (found b d K id) n k = refl
-others-carried (read im) n k = refl
-others-carried (begin id gateway) n k = zeros 1 k
-others-carried (withdraw x) n k = refl
-others-carried (deliver x y) n k = zeros 3 k
-others-carried (lookup u z failed) n k = zeros 3 k
-others-carried (survey failed) n k = zeros 9 k
-others-carried verdict n k = zeros 4 k
-others-carried (write out) n k = zeros 1 k
-others-carried sound n k = refl
+others-carried : (m : Memory) (c : Call) (n k : ℕ) → getD (others m c n) k 0 ≡ getD (carried m c n) k 0
+others-carried m (found b d K id) n k = refl
+others-carried m (read im) n k = refl
+others-carried m (begin id gateway) n k = zeros 1 k
+others-carried m (withdraw x) n k = refl
+others-carried m (deliver x y) n k = zeros 3 k
+others-carried m (lookup u z failed) n k = zeros 3 k
+others-carried m (survey failed) n k = zeros 9 k
+others-carried m verdict n k = zeros 4 k
+others-carried m (write out) n k = zeros 1 k
+others-carried m (trace file) n k = refl
+others-carried m sound n k = refl
 
 changes-nothing : (m : Memory) (c : Call) → isTaken (step m c .answer) ≡ false → ChangesNothing m c
 unfolding refusedAt taken
@@ -138,12 +143,12 @@ changes-nothing m c e = record { memory = go .0; output = go .1; fields = go .2 
     Same o =
         (o .memory ≡ m)
         × (o .out ≡ outputOf c)
-        × ((k : ℕ) → getD (o .answer) (suc k) 0 ≡ getD (carried c (getD (o .answer) 0 0)) k 0)
+        × ((k : ℕ) → getD (o .answer) (suc k) 0 ≡ getD (carried m c (getD (o .answer) 0 0)) k 0)
 
     go : Same (step m c)
     go =
         by-ends (λ (o : Outcome). isTaken (o .answer) ≡ false → Same o) m c
-        (λ nz q. (refl, refl, others-carried c (number m c))) (λ z q. absurd (true≢false q)) e
+        (λ nz q. (refl, refl, others-carried m c (number m c))) (λ z q. absurd (true≢false q)) e
 
 -- ---- what lies past the fixed lengths is kept
 
@@ -191,6 +196,7 @@ work-past m (lookup u v failed) z = refl
 work-past m (survey failed) z = refl
 work-past m verdict z = refl
 work-past m (write out) z = refl
+work-past m (trace file) z = refl
 work-past m sound z = refl
 
 past-kept : (m : Memory) (c : Call) → past (step m c .memory) ≡ past m
@@ -231,7 +237,22 @@ module _ (m m′ : Memory) (e : fixed m′ ≡ fixed m) where
   number-same (survey failed) = alike.state-same m m′ a
   number-same verdict = alike.verdict-same m m′ a
   number-same (write out) = alike.write-same m m′ a out
+  number-same (trace file) = alike.trace-same m m′ a file
   number-same sound = alike.state-same m m′ a
+
+  -- and what a refusal carries
+  others-same : (c : Call) → others m′ c (number m c) ≡ others m c (number m c)
+  others-same (found b d K id) = refl
+  others-same (read im) = refl
+  others-same (begin id gateway) = refl
+  others-same (withdraw x) = refl
+  others-same (deliver x y) = refl
+  others-same (lookup u z failed) = refl
+  others-same (survey failed) = refl
+  others-same verdict = refl
+  others-same (write out) = refl
+  others-same (trace file) = alike.traced-same m m′ a file
+  others-same sound = refl
 
   both : Long s t → LongAlike s t s′ t′
   both l = long-alike m m′ a (not-short m l)
@@ -309,6 +330,7 @@ module _ (m m′ : Memory) (e : fixed m′ ≡ fixed m) where
         out = ap (λ (im : List ℕ). im ++ drop (length im) out) i;
         memory = e;
       }
+  work-same (trace file) z = looks (0 ∷ 0 ∷ []) (0 ∷ 0 ∷ []) refl
   work-same sound z = looks [] [] refl
 
   same-up-there : (c : Call) → SameUpToThere m m′ c
@@ -325,8 +347,8 @@ module _ (m m′ : Memory) (e : fixed m′ ≡ fixed m) where
       go =
           by-ends (λ (o : Outcome). Same o (step m′ c)) m c
           (λ nz.
-          by-ends (Same (refusedAt m (outputOf c) (others c (number m c)) (number m c))) m′ c
-          (λ nz′. (ap (λ (n : ℕ). n ∷ others c n) n, refl, e)) (λ z. absurd (nz (sym n ∙ z))))
+          by-ends (Same (refusedAt m (outputOf c) (others m c (number m c)) (number m c))) m′ c
+          (λ nz′. (ap (λ (n : ℕ). n ∷ others m′ c n) n ∙ ap (_∷_ (number m c)) (others-same c), refl, e)) (λ z. absurd (nz (sym n ∙ z))))
           (λ z.
           by-ends (Same (taken (work m c .memory) (work m c .out) (work m c .fields))) m′ c (λ nz′. absurd (nz′ (n ∙ z)))
           (λ z′. let w = work-same c z in (ap (_∷_ 0) (w .fields), w .out, w .memory)))

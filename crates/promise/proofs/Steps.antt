@@ -8,8 +8,8 @@ use native.Mathlib.Decide.{ℕ-discrete}
 use borrow.Author.Tests.{ne-eqb}
 use Rattle.model.specs.Memory.{Memory}
 use Rattle.model.specs.Refusals.{beginRefusal, withdrawRefusal, deliverRefusal}
-use Rattle.model.specs.Calls.{Outcome, refusedAt, unlessRefused, foundCall, readCall, beginCall, withdrawCall, deliverCall, lookupCall, surveyCall, verdictCall, writeCall, soundCall}
-use Rattle.model.specs.Run.{Call, found, read, begin, withdraw, deliver, lookup, survey, verdict, write, sound, step, after, Event, isTaken, starts, tallied, tally}
+use Rattle.model.specs.Calls.{Outcome, refusedAt, unlessRefused, foundCall, readCall, beginCall, withdrawCall, deliverCall, lookupCall, surveyCall, verdictCall, writeCall, traceCall, soundCall}
+use Rattle.model.specs.Run.{Call, found, read, begin, withdraw, deliver, lookup, survey, verdict, write, trace, sound, step, after, Event, isTaken, starts, tallied, tally}
 use Rattle.model.proofs.Calls.{refused-is, looks-on, not-taken-same}
 
 -- the call as an event of the history
@@ -48,7 +48,7 @@ refused-still m c out fields n done nz e =
 
 module _ (m : Memory) where
   pub effect : (c : Call) → starts m c ≡ false → Effect m c
-  unfolding starts step after foundCall readCall beginCall withdrawCall deliverCall lookupCall surveyCall verdictCall writeCall soundCall
+  unfolding starts step after foundCall readCall beginCall withdrawCall deliverCall lookupCall surveyCall verdictCall writeCall traceCall soundCall
   effect (found b d K id) f =
       still (not-taken-same m _ [] _ _ [] [] f) (looks (λ p q x a n. refl))
   effect (read im) f = still (not-taken-same m _ [] _ _ [] (0 ∷ []) f) (looks (λ p q x a n. refl))
@@ -71,4 +71,5 @@ module _ (m : Memory) where
   effect (survey failed) f = still (looks-on m _ [] _ [] _) (looks (λ p q x a n. refl))
   effect verdict f = still (looks-on m _ [] _ [] _) (looks (λ p q x a n. refl))
   effect (write out) f = still (looks-on m _ out _ _ _) (looks (λ p q x a n. refl))
+  effect (trace file) f = still (looks-on m _ [] _ [] _) (looks (λ p q x a n. refl))
   effect sound f = still (looks-on m _ [] _ [] _) (looks (λ p q x a n. refl))

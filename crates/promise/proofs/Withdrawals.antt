@@ -13,8 +13,8 @@ use Rattle.model.specs.Ids.{validId}
 use Rattle.model.specs.Memory.{Memory, nodeCount, idOf, isInSystem, isAttached}
 use Rattle.model.specs.Join.{Delivery, kindAttached, withdrawn}
 use Rattle.model.specs.Refusals.{beginRefusal, withdrawRefusal, deliverRefusal}
-use Rattle.model.specs.Calls.{Outcome, taken, deliveryFields, lookupCall, surveyCall, verdictCall, writeCall, soundCall}
-use Rattle.model.specs.Run.{Call, found, read, begin, withdraw, deliver, lookup, survey, verdict, write, sound, step, after, play, history, isTaken}
+use Rattle.model.specs.Calls.{Outcome, taken, deliveryFields, lookupCall, surveyCall, verdictCall, writeCall, traceCall, soundCall}
+use Rattle.model.specs.Run.{Call, found, read, begin, withdraw, deliver, lookup, survey, verdict, write, trace, sound, step, after, play, history, isTaken}
 use Rattle.model.proofs.Bools.{and-left, and-right, and-intro, or-right, or-intro-right, true-or-false}
 use Rattle.model.proofs.Memory.{same-id}
 use Rattle.model.proofs.Status.{IsNode, is-node, attached-other}
@@ -126,7 +126,7 @@ module _ (m : Memory) where
 
   -- a call of the node's own that was taken, or one that changes no network
   own-more : (m′ : Memory) (c : Call) → More m′ → isTaken (step m′ c .answer) ≡ true → isOwn x₀ c (step m′ c .answer) ≡ true → More (after m′ c)
-  unfolding step after lookupCall surveyCall verdictCall writeCall soundCall
+  unfolding step after lookupCall surveyCall verdictCall writeCall traceCall soundCall
   own-more m′ (found b d K id) h e q = absurd (false≢true q)
   own-more m′ (read im) h e q = absurd (false≢true q)
   own-more m′ (begin id gateway) h e q = absurd (false≢true q)
@@ -145,6 +145,7 @@ module _ (m : Memory) where
   own-more m′ (survey failed) h e q = same (looks-on m′ _ [] _ [] _) h
   own-more m′ verdict h e q = same (looks-on m′ _ [] _ [] _) h
   own-more m′ (write out) h e q = same (looks-on m′ _ out _ _ _) h
+  own-more m′ (trace file) h e q = same (looks-on m′ _ [] _ [] _) h
   own-more m′ sound h e q = same (looks-on m′ _ [] _ [] _) h
 
   step-more : (m′ : Memory) (c : Call) → More m′ → (not (isTaken (step m′ c .answer)) || isOwn x₀ c (step m′ c .answer)) ≡ true → More (after m′ c)
