@@ -3,7 +3,7 @@
 use Prim.Native.Nat.{ℕ, zero, suc, _+_, _*_, _/_, _%_, _^_, _≤_, _<_}
 use mathlib.Core.Path.{_≡_, refl, sym, ap, ap₂, subst, _∙_}
 use mathlib.Core.Bool.{true}
-use native.Mathlib.Nat.{pow-suc, pow-succ', one-le-pow, mod-one, mod-lt, mod-eq-of-lt, div-eq-of-lt, div-lt-iff-lt-mul, zero-lt-suc, le-refl, le-trans, le-of-eq, le-antisymm, le-step, lt-suc-self, lt-of-lt-of-le, one-mul, mul-suc}
+use native.Mathlib.Nat.{pow-suc, pow-succ', one-le-pow, mod-one, mod-lt, mod-eq-of-lt, div-eq-of-lt, div-lt-iff-lt-mul, zero-lt-suc, le-refl, le-trans, le-of-eq, le-antisymm, le-step, lt-suc-self, lt-irrefl, lt-of-lt-of-le, one-mul, mul-suc}
 use native.Mathlib.Decide.{le-ind}
 use native.Mathlib.Numerals.{add-one, lt-of-le-of-ne}
 use native.Mathlib.Omega.{arith}
@@ -139,6 +139,13 @@ suffix-sym d x y = le-antisymm (half x y) (half y x)
 pub suffix-through : (d x y z i : ℕ) → i ≤ commonSuffix d x y → i ≤ commonSuffix d x z → i ≤ commonSuffix d y z
 suffix-through d x y z i a b =
     suffix-of-low d y z i (le-trans a (suffix-le d x y)) (sym (suffix-low d x y i a) ∙ suffix-low d x z i b)
+
+-- an id that shares more digits with a third than x does shares with x as many as the third does
+pub suffix-nearer : (d x y z : ℕ) → commonSuffix d x z < commonSuffix d y z → commonSuffix d x y ≡ commonSuffix d x z
+suffix-nearer d x y z l =
+    let m : ℕ = commonSuffix d x z in
+    le-antisymm (le-of-not-lt (λ g. lt-irrefl m (suffix-through d y x z (suc m) (omega (arith, suffix-sym d x y)) l)))
+    (suffix-through d z x y m (omega (arith, suffix-sym d x z)) (omega (arith, suffix-sym d y z)))
 
 pub suffix-self : (d x : ℕ) → commonSuffix d x x ≡ d
 suffix-self d x = le-antisymm (suffix-le d x x) (suffix-of-low d x x d (le-refl d) refl)

@@ -84,6 +84,7 @@ pub mod Taken
 pub mod Places
 pub mod Calls
 pub mod Traces
+pub mod TracedHops
 pub mod RequestsSent
 pub mod DeliveryCounts
 pub mod Fields

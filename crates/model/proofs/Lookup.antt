@@ -1,7 +1,7 @@
 -- Laws of lookup in a sound state: each hop matches the destination in more digits, so a lookup ends, within d less the digits already
 -- matched, and does not depend on how many steps it may take. Assumes nothing.
 use Prim.Native.Nat.{ℕ, zero, suc, _+_, _-_, _≤_, _<_}
-use mathlib.Core.Path.{_≡_, sym, ap, subst, _∙_}
+use mathlib.Core.Path.{_≡_, refl, sym, ap, subst, _∙_}
 use mathlib.Core.Logic.{_≢_, _⊎_, inl, inr}
 use mathlib.Core.Bool.{true, false, cond}
 use mathlib.Core.List.{List, [], _∷_}
@@ -56,6 +56,15 @@ path-starts n s t failed u z = go (step-of s t failed u z)
     go (hops e q) = (veryHopsWithin n s t failed (nextHop s t failed u z .node) z, hops-path n s t failed u z e q)
 
 -- ---- the answer, read off the path
+
+-- the last node of a path stands at its end
+pub last-at : (path : List ℕ) → getD path (length path - 1) 0 ≡ lastOf path
+unfolding lastOf
+last-at [] = refl
+last-at (u ∷ []) = refl
+last-at (u ∷ v ∷ path) =
+    let e : length (u ∷ v ∷ path) - 1 ≡ suc (length (v ∷ path) - 1) = omega arith in
+    ap (λ (k : ℕ). getD (u ∷ v ∷ path) k 0) e ∙ last-at (v ∷ path)
 
 abbrev pub arrivedAt : ℕ → Lookup
 arrivedAt u = record { arrived = 1; hops = 0; last = u }

@@ -114,6 +114,11 @@ pub taken-number : (m : Memory) (c : Call) → isTaken (step m c .answer) ≡ tr
 taken-number m c e =
     taken-zero m (number m c) (outputOf c) (others m c (number m c)) _ (subst (λ (o : Outcome). isTaken (o .answer) ≡ true) (step-is m c) e)
 
+-- and back
+pub number-taken : (m : Memory) (c : Call) → number m c ≡ 0 → isTaken (step m c .answer) ≡ true
+unfolding taken
+number-taken m c z = by-ends (λ (o : Outcome). isTaken (o .answer) ≡ true) m c (λ nz. absurd (nz z)) (λ z. refl)
+
 -- ---- a refused call
 
 zeros : (k j : ℕ) → getD {A = ℕ} (replicate k 0) j 0 ≡ 0

@@ -1,5 +1,5 @@
--- The three demands, the total of a survey, what reading says of records, what a withdrawal undoes and leaves alone, lookups around failed nodes, and joins,
--- proved.
+-- The three demands, the total of a survey, what reading says of records, what a withdrawal undoes and leaves alone, lookups around failed nodes, joins,
+-- and traces, proved.
 pub mod Demand1
 pub mod Demand2
 -- ---- demand 3: each step, any list of them, the claim
@@ -17,3 +17,5 @@ pub mod NoneFailed
 pub mod OneJoin
 pub mod Deliveries
 pub mod Joins
+-- ---- traces of other routers
+pub mod Traces

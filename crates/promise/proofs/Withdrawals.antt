@@ -13,7 +13,7 @@ use Rattle.model.specs.Ids.{validId}
 use Rattle.model.specs.Memory.{Memory, nodeCount, idOf, isInSystem, isAttached}
 use Rattle.model.specs.Join.{Delivery, kindAttached, withdrawn}
 use Rattle.model.specs.Refusals.{beginRefusal, withdrawRefusal, deliverRefusal}
-use Rattle.model.specs.Calls.{Outcome, taken, deliveryFields, lookupCall, surveyCall, verdictCall, writeCall, traceCall, soundCall}
+use Rattle.model.specs.Calls.{deliveryFields, lookupCall, surveyCall, verdictCall, writeCall, traceCall, soundCall}
 use Rattle.model.specs.Run.{Call, found, read, begin, withdraw, deliver, lookup, survey, verdict, write, trace, sound, step, after, play, history, isTaken}
 use Rattle.model.proofs.Bools.{and-left, and-right, and-intro, or-right, or-intro-right, true-or-false}
 use Rattle.model.proofs.Memory.{same-id}
@@ -27,9 +27,9 @@ use Rattle.model.proofs.Withdrawing.{withdrawn-long, withdrawn-count, withdrawn
 use Rattle.model.proofs.Undoing.{Beside, begun-beside, withdrawn-beside, delivered-beside, undone}
 use Rattle.model.proofs.Invisible.{refused-alike, done-alike, done-beside}
 use Rattle.model.proofs.Taken.{begin-taken, withdraw-taken, deliver-taken, sound-free, begin-free, withdraw-free}
-use Rattle.model.proofs.Calls.{taken-is, looks-on}
+use Rattle.model.proofs.Calls.{looks-on}
 use Rattle.promise.specs.Withdrawals.{isOwn, onlyOwn, begunAs, Apart, Undone, Unseen, Withdrawals}
-use Rattle.promise.proofs.Demand1.{taken-number, demand1}
+use Rattle.promise.proofs.Demand1.{taken-number, number-taken, demand1}
 use Rattle.promise.proofs.Run.{begin-after, begin-answer, begun-number, withdraw-after, withdraw-answer, withdraw-away, deliver-after, deliver-answer, deliver-refused, not-taken}
 
 -- ---- what it leaves alone
@@ -67,10 +67,6 @@ module _ (m : Memory) (S : Sound (m .state) (m .tables)) (away : isAttached (m .
         room = omega (arith, withdrawn-count s t S, S .few, S .some);
       }
 
-  sound-taken : isTaken (step m₁ sound .answer) ≡ true
-  unfolding step soundCall taken
-  sound-taken = ap (λ (o : Outcome). isTaken (o .answer)) (taken-is _ _ _ (sound-free m₁ S₁))
-
   apart : Apart m (withdrawn s t) x
   unfolding m₁
   apart = record {
@@ -81,7 +77,7 @@ module _ (m : Memory) (S : Sound (m .state) (m .tables)) (away : isAttached (m .
     words = word-kept s t S;
     bytes = byte-kept s t S;
     long = withdrawn-long s t S;
-    sound = sound-taken;
+    sound = number-taken m₁ sound (sound-free m₁ S₁);
     again = λ id gateway e.
         begun-number m₁ id gateway (taken-number m₁ (begin id gateway) e) ∙ omega (arith, withdrawn-count s t S, S .some);
     free = λ gateway n e.
