@@ -5,9 +5,8 @@ use mathlib.Core.Logic.{_≢_}
 use mathlib.Core.Bool.{Bool, true, false, not, _&&_}
 use mathlib.Core.List.{List}
 use native.Mathlib.Omega.{arith}
-use lib.Dec.{eqb}
 use lib.ListN.{length, getD}
-use borrow.Author.Tests.{eqb-true, eq-eqb, ne-eqb}
+use borrow.Author.Tests.{eq-eqb, ne-eqb}
 use Rattle.model.specs.Ids.{digitOf}
 use Rattle.model.specs.Memory.{base, digits, depth, idOf, tableOf}
 use Rattle.model.specs.Tables.{slotAt, entrySize, holds}
@@ -15,13 +14,13 @@ use Rattle.model.specs.Nodes.{suffixOf}
 use Rattle.model.specs.Lookup.{hopEntry}
 use Rattle.model.specs.Traces.{among, mayGo}
 use Rattle.model.proofs.Bools.{same-test}
-use Rattle.model.proofs.Loops.{any-of, any-found}
 use Rattle.model.proofs.Tables.{size-le}
 use Rattle.model.proofs.Status.{IsNode}
 use Rattle.model.proofs.Sound.{Sound}
 use Rattle.model.proofs.SoundEntries.{size-is-length, entry-slot}
 use Rattle.model.proofs.LearningKeepsRules.{entries-of, gap-free}
 use Rattle.model.proofs.NextHop.{level-below, digit-below}
+use Rattle.model.proofs.Traces.{among-at, among-of}
 use Rattle.model.proofs.NoRoom.{place, held-place, slot-held, place-before}
 
 -- no path goes on from its destination
@@ -54,23 +53,19 @@ module _ (s t : List ℕ) (S : Sound s t) (u v z : ℕ) (nu : IsNode s u) (nz : 
   at = entry-slot s t S u level digit nu below low
 
   held-among : holds (depth s) T level digit v ≡ true → among (hopEntry s t u z) v ≡ true
-  unfolding among
   held-among e =
       let k : ℕ = place (depth s) T level digit v in
       let l = place-before (depth s) T level digit (gap-free s u T (entries-of s u T (S .tables u nu)) level digit below low) v some e in
       let w : k < length (hopEntry s t u z) = omega (arith, l, long) in
-      any-of (length (hopEntry s t u z)) (λ k. eqb (getD (hopEntry s t u z) k 0) v) k w
-      (eq-eqb _ v (at k w ∙ held-place (depth s) T level digit v e .1))
+      among-of (hopEntry s t u z) v k w (at k w ∙ held-place (depth s) T level digit v e .1)
 
   among-held : among (hopEntry s t u z) v ≡ true → holds (depth s) T level digit v ≡ true
-  unfolding among
   among-held e =
-      let f = any-found (length (hopEntry s t u z)) (λ k. eqb (getD (hopEntry s t u z) k 0) v) e in
-      slot-held (depth s) T level digit v (f .0) (omega (arith, f .1, long, size-le (depth s) T level digit))
-      (sym (at (f .0) (f .1)) ∙ eqb-true _ v (f .2))
+      let a = among-at (hopEntry s t u z) v e in
+      slot-held (depth s) T level digit v (a .0) (omega (arith, a .1, long, size-le (depth s) T level digit)) (sym (at (a .0) (a .1)) ∙ a .2)
 
-  pub may-go : holds (depth s) T level digit v ≡ mayGo s t u v z
+  pub may-go-held : holds (depth s) T level digit v ≡ mayGo s t u v z
   unfolding mayGo
-  may-go =
+  may-go-held =
       same-test (holds (depth s) T level digit v) (among (hopEntry s t u z) v) held-among among-held
       ∙ ap (λ (b : Bool). not b && among (hopEntry s t u z) v) (sym (ne-eqb u z ne))

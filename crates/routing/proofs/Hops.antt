@@ -20,7 +20,7 @@ use Rattle.model.proofs.SoundNodes.{suffix-below}
 use Rattle.model.proofs.Lookup.{oneHopMore, lostAt, loses-is, hop-node, left-falls, lookup-hop, hops-bound}
 use Rattle.tables.specs.Places as Places
 use Rattle.tables.specs.Places.{Numbers}
-use Rattle.model.proofs.MayGo.{may-go}
+use Rattle.model.proofs.MayGo.{may-go-held}
 use Rattle.routing.specs.declared.Entry.{Entry}
 use Rattle.routing.specs.declared.answer.Lookup.{Lookup}
 use Rattle.routing.specs.Answer.{bookLookup}
@@ -49,7 +49,7 @@ reads-next s t T failed u z d K e r h ed eK eT er = cc (h .level, h .digit)
 pub reads-may-go : (s t T : List ℕ) → Sound s t → (u v z : ℕ) → IsNode s u → IsNode s v → IsNode s z → u ≢ z → (d K : ℕ) (e : Entry) (r : Bool)
     → HopEntry s d u z e → d ≡ digits s → K ≡ depth s → T ≡ tableOf t u → r ≡ holds K T (e .level) (e .digit) v → r ≡ mayGo s t u v z
 reads-may-go s t T S u v z nu nv nz ne d K e r h ed eK eT er =
-    let g = may-go s t S u v z nu nz ne (λ q. omega (arith, nv .low)) in cc (h .level, h .digit)
+    let g = may-go-held s t S u v z nu nz ne (λ q. omega (arith, nv .low)) in cc (h .level, h .digit)
 
 -- that entry stands in the table, since two nodes have no common suffix of all digits
 pub entry-stands : (s t : List ℕ) → Sound s t → (u z : ℕ) → IsNode s u → IsNode s z → u ≢ z → (T : List ℕ) (d K : ℕ) (e : Entry)

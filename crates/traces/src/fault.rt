@@ -1,7 +1,7 @@
 // Where a trace has its first fault of a kind.
 ghost use mathlib.Core.Path.{_≡_};
-ghost use Prim.Native.Nat.{_+_, _<_, _^_};
-ghost use Rattle.traces.specs.Faults.{absent, noted};
+ghost use Prim.Native.Nat.{_≤_};
+ghost use Rattle.traces.specs.Faults.{absent, faultAt};
 ghost use Rattle.traces.specs.Judged.{answer};
 use answers::TraceAnswer;
 
@@ -17,11 +17,11 @@ pub fn none() -> Fault
     Fault { path: 0, place: 0 }
 }
 
-// The fault of path p, which counts from 0, where the first of its n places or steps to fail is k; none where that is none of them.
-pub fn in_path(p: usize, n: usize, k: usize) -> Fault
-    requires { ⌜ p + 1 < 2 ^ 64 ⌝ }
-    requires { ⌜ n + 1 < 2 ^ 64 ⌝ }
-    ensures { λ r. ⌜ r ≡ inPath p n k ⌝ }
+// In path p, from 0, at k, the first of its n places or steps to fail; none where k is none of them.
+pub fn at_index(p: usize, n: usize, k: usize) -> Fault
+    requires { ⌜ p ≤ 255 ⌝ }
+    requires { ⌜ n ≤ 9 ⌝ }
+    ensures { λ r. ⌜ r ≡ faultAt p n k ⌝ }
 {
     if k < n {
         return Fault {
@@ -32,8 +32,8 @@ pub fn in_path(p: usize, n: usize, k: usize) -> Fault
     none()
 }
 
-// The answer of a trace that is refused.
-pub fn refused(refusal: u64, fault: Fault) -> TraceAnswer
+// A refusal, or 0, with the fault that it is about.
+pub fn answered(refusal: u64, fault: Fault) -> TraceAnswer
     ensures { λ r. ⌜ r ≡ answer refusal fault ⌝ }
 {
     TraceAnswer {

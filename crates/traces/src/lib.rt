@@ -3,10 +3,9 @@
 ghost use mathlib.Core.Path.{_≡_};
 ghost use Rattle.model.proofs.Sound.{Sound};
 ghost use Rattle.traces.specs.Judged.{sentencesRefusal, answerOf};
-use crate::cursor::Cursor;
 use crate::cursor::start;
+use crate::fault::answered;
 use crate::fault::none;
-use crate::fault::refused;
 use answers::TraceAnswer;
 use answers::refusal::Refusal;
 use trace_reading::Count;
@@ -22,15 +21,24 @@ pub fn judge(state: &[u64], tables: &[u8], trace: &[u8]) -> TraceAnswer
     ensures { λ r. ⌜ r ≡ answerOf (now (state .entry)) (now (tables .entry)) (now (trace .entry)) (sentencesRefusal (now (state .entry)) (now (tables .entry)) (now (trace .entry))) ⌝ }
 {
     if trace.len() == 0 {
-        return refused(Refusal::TRACE_COUNTS, none());
+        return answered(Refusal::TRACE_COUNTS, none());
     }
     let paths = trace[0] as usize;
     let mut c = start();
     while c.path < paths {
         let Count::Places(places) = count_at(trace, c.at) else {
-            return refused(Refusal::TRACE_COUNTS, none());
+            return answered(Refusal::TRACE_COUNTS, none());
         };
         c = c.pass(state, tables, trace, places);
     }
-    c.judged(trace)
+    if c.at != trace.len() {
+        return answered(Refusal::TRACE_COUNTS, none());
+    }
+    if c.unnamed.path != 0 {
+        return answered(Refusal::NO_SUCH_NODE, c.unnamed);
+    }
+    if c.forbidden.path != 0 {
+        return answered(Refusal::STEP_NOT_ALLOWED, c.forbidden);
+    }
+    answered(0, none())
 }

@@ -1,8 +1,11 @@
 // One path of a trace.
 ghost use mathlib.Core.Path.{_≡_};
+ghost use Prim.Native.Nat.{_-_, _≤_};
+ghost use lib.ListN.{length};
 ghost use Rattle.model.specs.Loops.{firstBelow};
+ghost use Rattle.model.specs.Memory.{stateLength};
 ghost use Rattle.model.proofs.Sound.{Sound};
-ghost use Rattle.traces.specs.Paths.{Stands, Named, unnamed, forbidden};
+ghost use Rattle.traces.specs.Paths.{Stands, PathNamed, unnamed, forbidden};
 use routing::may_go;
 use state::settings;
 
@@ -14,17 +17,15 @@ pub struct Path {
 }
 
 impl Path {
-    // How many places have nodes before the first that has none; all where each has one.
-    pub fn named(self, state: &[u64], tables: &[u8], trace: &[u8]) -> usize
-        requires { ⌜ Sound (now state) (now tables) ⌝ }
+    // How many places have nodes before the first that has none; all of them where each has one.
+    pub fn named(self, state: &[u64], trace: &[u8]) -> usize
+        requires { ⌜ stateLength ≤ length (now state) ⌝ }
         requires { ⌜ Stands (now trace) self ⌝ }
         ensures { λ r. ⌜ r ≡ firstBelow (self .places) (unnamed (now (state .entry)) (now (trace .entry)) (self .number)) ⌝ }
     {
-        let nodes = settings::load(state).nodes;
-        let first = self.at + 1;
         let mut k = 0;
         while k < self.places {
-            if !is_node(nodes, trace[first + k] as usize) {
+            if !settings::is_node(state, trace[self.at + 1 + k] as u64) {
                 return k;
             }
             k += 1;
@@ -32,19 +33,20 @@ impl Path {
         self.places
     }
 
-    // How many steps are allowed before the first that is not; all where each is.
+    // How many steps are allowed before the first that is not; all of them where each is.
     pub fn allowed(self, state: &[u64], tables: &[u8], trace: &[u8]) -> usize
         requires { ⌜ Sound (now state) (now tables) ⌝ }
         requires { ⌜ Stands (now trace) self ⌝ }
-        requires { ⌜ Named (now state) (now trace) self ⌝ }
+        requires { ⌜ PathNamed (now state) (now trace) self ⌝ }
         ensures { λ r. ⌜ r ≡ firstBelow (self .places - 1) (forbidden (now (state .entry)) (now (tables .entry)) (now (trace .entry)) (self .number)) ⌝ }
     {
-        let destination = trace[self.at + self.places] as usize;
-        let first = self.at + 1;
         let steps = self.places - 1;
+        let z = trace[self.at + 1 + steps] as usize;
         let mut k = 0;
         while k < steps {
-            if !may_go(state, tables, trace[first + k] as usize, trace[first + k + 1] as usize, destination) {
+            let u = trace[self.at + 1 + k] as usize;
+            let v = trace[self.at + 1 + (k + 1)] as usize;
+            if !may_go(state, tables, u, v, z) {
                 return k;
             }
             k += 1;
