@@ -7,16 +7,20 @@ use borrow.Author.Tests.{not-false}
 use Rattle.model.specs.Memory.{Memory, stateLength, tablesLength}
 use Rattle.model.specs.Lookup.{Lookup}
 use Rattle.model.specs.Consistency.{Verdict}
-use Rattle.model.specs.Calls.{Outcome, refusedAt, refused, taken, lookupFields, verdictFields, readCall, soundCall}
+use Rattle.model.specs.Calls.{Outcome, refusedAt, refused, taken, lookupFields, verdictFields, readCall, traceCall, soundCall}
 use Rattle.model.specs.Image.{byteAt, imageOf, loaded}
-use Rattle.model.specs.Refusals.{foundRefusal, readRefusal, recordPlace, beginRefusal, withdrawRefusal, deliverRefusal, lookupRefusal, verdictRefusal, writeRefusal, stateRefusal}
+use Rattle.model.specs.Refusals.{foundRefusal, readRefusal, recordPlace, beginRefusal, withdrawRefusal, deliverRefusal, lookupRefusal, verdictRefusal, writeRefusal, stateRefusal, traceRefusal}
 use Rattle.model.proofs.Calls.{either-end, refused-end, taken-end, work-left}
 use Rattle.model.proofs.Refusals.{numbered, testOf, passed}
 use Rattle.model.proofs.Sound.{Sound}
 use Rattle.model.proofs.Status.{IsNode}
 use Rattle.model.proofs.Sender.{CanDeliver}
 use Rattle.model.proofs.Taken.{state-taken, found-taken, read-taken, begin-taken, withdraw-taken, deliver-taken, lookup-taken, verdict-taken, write-taken}
+use Rattle.model.proofs.Traces.{trace-place-two, trace-is}
 use Rattle.answers.specs.declared.ReadAnswer.{ReadAnswer}
+use Rattle.answers.specs.declared.TraceAnswer.{TraceAnswer}
+use Rattle.state.specs.Lent.{memory}
+use Rattle.traces.specs.Judged as traced
 use Rattle.image_judging.specs.Judged.{answerOf}
 use Rattle.image_judging.proofs.Sentences.{counted-of}
 use Rattle.join.specs.Begins.{Begins}
@@ -40,6 +44,16 @@ sound-is m r e =
     ap (λ (r : ℕ). leaves m (r ∷ [])) e
     ∙ either-end (λ (o : Outcome). leaves m (stateRefusal m ∷ []) ≡ o) (stateRefusal m) (refused m [] 0) (taken m [] []) (λ nz. refl)
     (λ z. ap (λ (r : ℕ). leaves m (r ∷ [])) z)
+
+-- the check of a trace answers its refusal and place at either end
+pub trace-done : (s t trace : List ℕ) (a : TraceAnswer) → a ≡ traced.answerOf s t trace (traceRefusal (memory s t) trace)
+    → leaves (memory s t) (a .refusal ∷ a .path ∷ a .place ∷ []) ≡ traceCall (memory s t) trace
+unfolding traced.answerOf
+trace-done s t trace a e =
+    let number : ℕ = traceRefusal (memory s t) trace in
+    ap (λ (a : TraceAnswer). leaves (memory s t) (a .refusal ∷ a .path ∷ a .place ∷ [])) e
+    ∙ ap (λ (place : List ℕ). leaves (memory s t) (number ∷ place)) (sym (trace-place-two (memory s t) trace number))
+    ∙ sym (trace-is (memory s t) trace)
 
 -- reading: a is the answer that the code found
 module _ (m : Memory) (im : List ℕ) (a : ReadAnswer) (e : a ≡ answerOf im (readRefusal m im)) where

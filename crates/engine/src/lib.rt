@@ -7,6 +7,7 @@ pub mod lookup;
 pub mod reading;
 pub mod sound;
 pub mod survey;
+pub mod tracing;
 pub mod verdict;
 pub mod withdrawing;
 pub mod writing;

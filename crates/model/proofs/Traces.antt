@@ -2,7 +2,7 @@
 use Prim.Native.Nat.{ℕ, _+_, _≤_, _<_}
 use mathlib.Core.Path.{_≡_, refl, sym, ap, ap₂, subst, _∙_}
 use mathlib.Core.Logic.{_≢_}
-use mathlib.Core.Bool.{Bool, true, false, not, _||_}
+use mathlib.Core.Bool.{Bool, true, false, cond, not, _||_}
 use mathlib.Core.List.{List, [], _∷_, _++_}
 use native.Mathlib.Decide.{ℕ-discrete}
 use native.Mathlib.Omega.{arith}
@@ -235,9 +235,32 @@ module _ (m : Memory) (trace : List ℕ) where
   unfolding tracePlace
   trace-place-none n a b = rw (ne-eqb n 9 a, ne-eqb n 23 b)
 
-  -- the answer is the refusal and its place
-  pub trace-answer : traceCall m trace .answer ≡ traceRefusal m trace ∷ tracePlace m trace (traceRefusal m trace)
+  -- path and place
+  pub trace-place-two : (n : ℕ) → tracePlace m trace n ≡ getD (tracePlace m trace n) 0 0 ∷ getD (tracePlace m trace n) 1 0 ∷ []
+  unfolding tracePlace firstFault
+  trace-place-two n = go (eqb n 9) (eqb n 23)
+    where
+      nine : List ℕ
+      nine = firstFault (pathCount trace) (placeCount trace) (placeNamed (m .state) trace)
+
+      twenty-three : List ℕ
+      twenty-three = firstFault (pathCount trace) (stepCount trace) (stepAllowed (m .state) (m .tables) trace)
+
+      place : Bool → Bool → List ℕ
+      place a b = cond a nine (cond b twenty-three (0 ∷ 0 ∷ []))
+
+      go : (a b : Bool) → place a b ≡ getD (place a b) 0 0 ∷ getD (place a b) 1 0 ∷ []
+      go true b = refl
+      go false true = refl
+      go false false = refl
+
+  -- nothing changes, and the answer is the refusal and its place
+  pub trace-is : traceCall m trace ≡ record { memory = m; out = []; answer = traceRefusal m trace ∷ tracePlace m trace (traceRefusal m trace) }
   unfolding traceCall refusedAt taken tracePlace
-  trace-answer =
-      either-end (λ (o : Outcome). o .answer ≡ traceRefusal m trace ∷ tracePlace m trace (traceRefusal m trace)) (traceRefusal m trace) _ _ (λ nz. refl)
-      (λ z. ap (λ (n : ℕ). n ∷ tracePlace m trace n) (sym z))
+  trace-is =
+      either-end (λ (o : Outcome). o ≡ record { memory = m; out = []; answer = traceRefusal m trace ∷ tracePlace m trace (traceRefusal m trace) })
+      (traceRefusal m trace) _ _ (λ nz. refl)
+      (λ z. ap (λ (n : ℕ). record { memory = m; out = []; answer = n ∷ tracePlace m trace n }) (sym z))
+
+  pub trace-answer : traceCall m trace .answer ≡ traceRefusal m trace ∷ tracePlace m trace (traceRefusal m trace)
+  trace-answer = ap (λ (o : Outcome). o .answer) trace-is

@@ -1,4 +1,5 @@
 -- The laws by which the refusals meet the book.
 pub mod ReadLaws
+pub mod TraceLaws
 pub mod State
 pub mod DeliverLaws

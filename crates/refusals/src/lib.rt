@@ -5,6 +5,7 @@ pub mod founding;
 pub mod lookup;
 pub mod reading;
 pub mod sentences;
+pub mod tracing;
 pub mod verdict;
 pub mod withdrawing;
 pub mod writing;
