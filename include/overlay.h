@@ -9,12 +9,12 @@
  *   pointer is not used, and may be NULL. counts comes without a length: it is valid for OVERLAY_SURVEY_COUNTS words, and never NULL. So does the state
  *   of overlay_requests and overlay_notices: it is valid for OVERLAY_STATE_WORDS words, and never NULL.
  * - state and counts are aligned to 8.
- * - No two lent memories overlap: not state and tables, and neither of them an image, the memory for one, or counts.
+ * - No two lent memories overlap: not state and tables, and neither of them an image, the memory for one, a trace, or counts.
  * - Nobody else writes lent memory during a call, nor reads what the call may write.
  *
  * An answer is one number: bits 0 to 7 are the refusal, 0 for none. On a refusal no byte has changed, and every field that this header reads
- * off the answer is zero, but for the place of a record that reading's refusals 10, 17 and 18 carry. Where several refusals hold, the answer is
- * the first that holds, in the order of docs/REFUSALS.md. A later version may add refusals, give a new number where an old one stood, or let one carry
+ * off the answer is zero, but for the place of a record that reading's refusals 10, 17 and 18 carry, and the path and place that 9 and 23 of a trace
+ * carry. Where several refusals hold, the answer is the first that holds, in the order of docs/REFUSALS.md. A later version may add refusals, give a new number where an old one stood, or let one carry
  * fields: take the refusal by overlay_refusal, and what is not 0 as refused.
  * Nothing is kept between calls but in lent memory, so calls on different memories may run at the same time. Memory that one version filled
  * is for that version; between versions a network goes as an image.
@@ -33,7 +33,7 @@ extern "C" {
 /* ---- version: of this header and of the archive that comes with it; CHANGES.md has a section for each */
 
 #define OVERLAY_VERSION_MAJOR 1
-#define OVERLAY_VERSION_MINOR 7
+#define OVERLAY_VERSION_MINOR 8
 
 /* ---- lengths */
 
@@ -46,6 +46,11 @@ extern "C" {
 #define OVERLAY_SURVEY_COUNTS 9
 /* No written image of version 1 is longer: memory of this length is enough for every network. */
 #define OVERLAY_MOST_WRITTEN_BYTES 23816
+/* The paths of a trace, and the nodes of a path. */
+#define OVERLAY_MOST_PATHS 255
+#define OVERLAY_MOST_PLACES 9
+/* No trace that is accepted is longer. */
+#define OVERLAY_MOST_TRACE_BYTES 2551
 
 /* ---- refusals */
 
@@ -57,7 +62,7 @@ extern "C" {
 #define OVERLAY_IMAGE_COUNTS 6           /* no node count, or not 1 to 64; a length other than the counts say, or above 65,535 */
 #define OVERLAY_BAD_ID 7                 /* a digit not below the base, or a bit above the digits */
 #define OVERLAY_ID_TAKEN 8               /* the id is a node's already, or stands twice in the image */
-#define OVERLAY_NO_SUCH_NODE 9           /* no node has a number that the call (not in failed) or a record gives */
+#define OVERLAY_NO_SUCH_NODE 9           /* no node has a number that the call (not in failed), a record or a trace gives */
 #define OVERLAY_RECORD_ORDER 10          /* a record's level or digit is out of range, or it is below the one before it */
 #define OVERLAY_FULL 11                  /* there are 64 nodes */
 #define OVERLAY_GATEWAY_NOT_IN_SYSTEM 12 /* the gateway isn't in system */
@@ -70,6 +75,8 @@ extern "C" {
 #define OVERLAY_NOT_HIGHEST 19           /* the node isn't the highest-numbered one */
 #define OVERLAY_HAS_ATTACHED 20          /* the node is in system or notifying */
 #define OVERLAY_HAS_FAILED 21            /* the start or the destination of a lookup has failed */
+#define OVERLAY_TRACE_COUNTS 22          /* an empty trace; a path's count that isn't 1 to 9; a length other than the counts say */
+#define OVERLAY_STEP_NOT_ALLOWED 23      /* a path goes on from its destination, or to no node of the entry that the lookup rule names */
 
 /* ---- calls */
 
@@ -119,12 +126,21 @@ uint64_t overlay_verdict(const uint64_t *state, size_t state_len, const uint8_t 
 uint64_t overlay_write(const uint64_t *state, size_t state_len, const uint8_t *tables, size_t tables_len,
                        uint8_t *out, size_t out_len);
 
+/* Checks a trace of another router on this network's tables, and changes nothing. A trace is a count byte of paths, and then for each path a count byte, 1
+ * to 9, and so many node numbers of one byte, the last being the path's destination. It is accepted, with answer 0, exactly when each path's every step goes to
+ * some node, first or not, of the entry in which a lookup at the node that it leaves finds its next hop to the destination, and no path goes on from its
+ * destination; a trace of no paths is. Every path that a lookup takes is accepted, around any failed nodes: a lost one ends where it was lost. docs/TRACES.md
+ * works a trace through. 9 and 23 come with the path and the place that they are about, by overlay_trace_path and overlay_trace_place.
+ * Refusals 1, 2, 22, 9, 23, in this order over the whole trace. */
+uint64_t overlay_trace(const uint64_t *state, size_t state_len, const uint8_t *tables, size_t tables_len,
+                       const uint8_t *trace, size_t trace_len);
+
 /* Judges whether the memory holds a sound state, as every call but found and read does first, and changes nothing. Answers the refusal
  * alone, 0 for a sound state. A call like those above: the promises about every call and every run are about it too
  * (docs/PROMISES.md). Refusals 1, 2. */
 uint64_t overlay_sound(const uint64_t *state, size_t state_len, const uint8_t *tables, size_t tables_len);
 
-/* ---- the fields of an answer; on a refusal they are zero, but for the place that reading gives */
+/* ---- the fields of an answer; on a refusal they are zero, but for the places that reading and traces give */
 
 /* Of every answer, bits 0 to 7: the refusal, 0 for none. */
 static inline unsigned overlay_refusal(uint64_t answer) { return (unsigned)(answer & 0xff); }
@@ -174,6 +190,13 @@ static inline unsigned overlay_short_digit(uint64_t answer) { return (unsigned)(
 
 /* Of write, bits 8 to 39: the length of the image in bytes. */
 static inline uint32_t overlay_image_length(uint64_t answer) { return (uint32_t)(answer >> 8 & 0xffffffff); }
+
+/* Of trace, bits 8 to 15: with refusals 9 and 23 the path, 1 for the first of the trace; with every other refusal, and with none, 0. */
+static inline unsigned overlay_trace_path(uint64_t answer) { return (unsigned)(answer >> 8 & 0xff); }
+
+/* Of trace, bits 16 to 23: with refusal 9 the place in that path, 1 to 9, of the first number that no node has; with 23 its first step that is not allowed, 1
+ * to 8: step s leaves place s for the next; with every other refusal, and with none, 0. */
+static inline unsigned overlay_trace_place(uint64_t answer) { return (unsigned)(answer >> 16 & 0xff); }
 
 /* ---- sets of nodes, as failed of lookup and survey */
 

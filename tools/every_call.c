@@ -7,7 +7,8 @@ static int refused(uint64_t answer)
 {
     unsigned fields = overlay_new_node(answer) | overlay_kind(answer) | overlay_attach_level(answer) | overlay_settled(answer) |
                       overlay_arrived(answer) | overlay_hops(answer) | overlay_last_node(answer) | overlay_consistent(answer) |
-                      overlay_short_node(answer) | overlay_short_level(answer) | overlay_short_digit(answer);
+                      overlay_short_node(answer) | overlay_short_level(answer) | overlay_short_digit(answer) | overlay_trace_path(answer) |
+                      overlay_trace_place(answer);
     return overlay_refusal(answer) == OVERLAY_SHORT_MEMORY && fields == 0 && overlay_record(answer) == 0 &&
            overlay_image_length(answer) == 0;
 }
@@ -42,5 +43,6 @@ int main(void)
              refused(overlay_begin(NONE, NONE, 0, 1)) && refused(overlay_withdraw(NONE, NONE, 2)) &&
              refused(overlay_deliver(NONE, NONE, 2, 1)) && refused(overlay_lookup(NONE, NONE, 1, 1, 0)) &&
              refused(overlay_verdict(NONE, NONE)) && refused(overlay_write(NONE, NONE, NONE)) &&
-             refused(overlay_sound(NONE, NONE)) && refused(overlay_survey(NONE, NONE, 0, counts)));
+             refused(overlay_sound(NONE, NONE)) && refused(overlay_trace(NONE, NONE, NONE)) &&
+             refused(overlay_survey(NONE, NONE, 0, counts)));
 }

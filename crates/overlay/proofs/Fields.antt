@@ -7,7 +7,8 @@ use native.Mathlib.Omega.{arith}
 use native.Mathlib.Nat.{pow-succ', div-div-eq-div-mul, zero-div}
 use lib.ListN.{getD}
 use Rattle.model.specs.Memory.{Memory}
-use Rattle.model.specs.Calls.{Outcome, beginCall, deliverCall, lookupCall, verdictCall}
+use Rattle.model.specs.Traces.{pathCount}
+use Rattle.model.specs.Calls.{Outcome, beginCall, deliverCall, lookupCall, verdictCall, traceCall}
 use Rattle.answers.specs.declared.DeliverAnswer.{DeliverAnswer}
 use Rattle.delivery_parts.specs.Answers.{outcome, answerFields}
 use Rattle.state.specs.Lent.{memory}
@@ -17,7 +18,7 @@ use Rattle.packing.specs.Numbers.{listed}
 use Rattle.packing.specs.Packed.{packed, Fit}
 use Rattle.overlay.specs.Packed.{packing, gives}
 use Rattle.model.proofs.RoundTrip.{low-byte}
-use Rattle.model.proofs.Fields.{Below, Bytes, below-at, begin-bytes, deliver-bytes, lookup-bytes, verdict-bytes}
+use Rattle.model.proofs.Fields.{Below, Bytes, below-at, begin-bytes, deliver-bytes, lookup-bytes, verdict-bytes, trace-bytes}
 
 -- ---- shift and mask give a field back
 
@@ -96,3 +97,11 @@ module _ (m : Memory) (r b x i j : ℕ) (a : Bool) (e : leaves m (r ∷ cond a 1
 
   pub verdict-packs : (n : ℕ) → n ≡ packed (r ∷ b ∷ x ∷ i ∷ j ∷ []) → gives m n ≡ packing (verdictCall m)
   verdict-packs n h = packs (verdictCall m) (verdict-bytes m) m (r ∷ b ∷ x ∷ i ∷ j ∷ []) judged-is n h
+
+module _ (m : Memory) (trace : List ℕ) (few : pathCount trace < 256) (r p k : ℕ) (e : leaves m (r ∷ p ∷ k ∷ []) ≡ traceCall m trace) where
+  pub trace-fits : Fit r p k 0 0
+  trace-fits = fits (traceCall m trace) (trace-bytes m trace few) m (r ∷ p ∷ k ∷ []) e
+
+  pub trace-packs : (n : ℕ) → n ≡ packed (r ∷ p ∷ k ∷ 0 ∷ 0 ∷ []) → gives m n ≡ packing (traceCall m trace)
+  unfolding packed
+  trace-packs n h = packs (traceCall m trace) (trace-bytes m trace few) m (r ∷ p ∷ k ∷ []) e n h

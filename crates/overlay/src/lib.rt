@@ -2,7 +2,7 @@
 // bits; bits 0 to 7 are the refusal. The counts of a survey go to words that the caller lends.
 ghost use mathlib.Core.Path.{_≡_};
 ghost use mathlib.Core.List.{[], _∷_};
-ghost use Rattle.model.specs.Calls.{foundCall, readCall, beginCall, withdrawCall, deliverCall, lookupCall, surveyCall, verdictCall, writeCall, soundCall};
+ghost use Rattle.model.specs.Calls.{foundCall, readCall, beginCall, withdrawCall, deliverCall, lookupCall, surveyCall, verdictCall, writeCall, traceCall, soundCall};
 ghost use Rattle.state.specs.Lent.{memory};
 ghost use Rattle.engine.specs.Outcomes.{leaves};
 ghost use Rattle.overlay.specs.Packed.{gives, fills, packing, surveying};
@@ -131,4 +131,13 @@ pub extern "C" fn overlay_sound(state: &[u64], tables: &[u8]) -> u64
     ensures { λ r. ⌜ leaves (memory (now (state .entry)) (now (tables .entry))) (r ∷ []) ≡ soundCall (memory (now (state .entry)) (now (tables .entry))) ⌝ }
 {
     engine::sound::sound(state, tables)
+}
+
+// The check of a trace of another router. Answers, with refusals 9 and 23, path and place.
+#[no_mangle]
+pub extern "C" fn overlay_trace(state: &[u64], tables: &[u8], trace: &[u8]) -> u64
+    ensures { λ r. ⌜ gives (memory (now (state .entry)) (now (tables .entry))) r ≡ packing (traceCall (memory (now (state .entry)) (now (tables .entry))) (now (trace .entry))) ⌝ }
+{
+    let traced = engine::tracing::trace(state, tables, trace);
+    pack(traced.refusal, traced.path, traced.place, 0, 0)
 }
