@@ -1,6 +1,9 @@
 // Reading a trace: how many places the path has that starts at a place of it.
+pub mod reader;
+
 ghost use mathlib.Core.Path.{_≡_};
 ghost use Rattle.trace_reading.specs.Read.{countAt};
+use crate::reader::Reader;
 
 // A path's count.
 pub enum Count {
@@ -11,7 +14,7 @@ pub enum Count {
 }
 
 // The count of the path that starts at `at`.
-pub fn count_at(trace: &[u8], at: usize) -> Count
+fn count_at(trace: &[u8], at: usize) -> Count
     ensures { λ r. ⌜ r ≡ countAt (now (trace .entry)) at ⌝ }
 {
     if trace.len() <= at {
@@ -28,4 +31,11 @@ pub fn count_at(trace: &[u8], at: usize) -> Count
         return Count::Wrong;
     }
     Count::Places(places)
+}
+
+// The same by a reader at that place: what callers use, who have the trace and the place and no reader.
+pub fn path_at(trace: &[u8], at: usize) -> Count
+    ensures { λ r. ⌜ r ≡ countAt (now (trace .entry)) at ⌝ }
+{
+    Reader::new(trace, at).path()
 }

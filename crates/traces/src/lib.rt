@@ -9,7 +9,7 @@ use crate::fault::none;
 use answers::TraceAnswer;
 use answers::refusal::Refusal;
 use trace_reading::Count;
-use trace_reading::count_at;
+use trace_reading::path_at;
 
 mod cursor;
 mod fault;
@@ -26,7 +26,7 @@ pub fn judge(state: &[u64], tables: &[u8], trace: &[u8]) -> TraceAnswer
     let paths = trace[0] as usize;
     let mut c = start();
     while c.path < paths {
-        let Count::Places(places) = count_at(trace, c.at) else {
+        let Count::Places(places) = path_at(trace, c.at) else {
             return answered(Refusal::TRACE_COUNTS, none());
         };
         c = c.pass(state, tables, trace, places);

@@ -37,8 +37,8 @@ start-requires c κs = search needs
 loop-holds : tie.Need-loop-holds Inv-loop μ-loop
 loop-holds c = (starts _ _ _ (omega (arith, c .before .before .if1 .left)) _ (c .start .ensures), none-passed _ _ (c .start .ensures))
 
-count-at-requires : tie.Need-count-at-requires Inv-loop μ-loop
-count-at-requires c κs = search needs
+path-at-requires : tie.Need-path-at-requires Inv-loop μ-loop
+path-at-requires c κs = search needs
 
 enum-known-places : tie.Need-enum-known-places Inv-loop μ-loop
 enum-known-places c = search needs
@@ -55,12 +55,12 @@ answered-requires-2 c κs = search needs
 returns-2 : tie.Need-returns-2 Inv-loop μ-loop
 returns-2 c =
     let l = c .before .before .before .before .before .before .before .loop in
-    says-22 _ _ _ _ _ (path-wrong _ _ _ (l .c) (l .inv .0) (c .before .before .before .before .before .if2 .taken) (read-wrong _ _ (sym (c .before .before .before .before .count-at .ensures) ∙ c .before .before .enum-told .given .1))) (c .before .none2 .ensures) (c .answered2 .ensures)
+    says-22 _ _ _ _ _ (path-wrong _ _ _ (l .c) (l .inv .0) (c .before .before .before .before .before .if2 .taken) (read-wrong _ _ (sym (c .before .before .before .before .path-at .ensures) ∙ c .before .before .enum-told .given .1))) (c .before .none2 .ensures) (c .answered2 .ensures)
 
 pass-requires : tie.Need-pass-requires Inv-loop μ-loop
 pass-requires c κs =
     let l = c .before .before .before .before .before .before .loop in
-    let r = read-right _ _ _ (sym (c .before .before .before .count-at .ensures) ∙ c .before .places .given .1) in
+    let r = read-right _ _ _ (sym (c .before .before .before .path-at .ensures) ∙ c .before .places .given .1) in
     (c .before .before .before .before .before .before .before .before .before .before .before .before .before .pre, (l .inv .0, (omega (arith, c .before .before .before .before .if2 .taken, c .before .before .before .before .before .before .before .before .shared-slice-known4 .given 0), (r .0, r .1))))
 
 loop-less : tie.Need-loop-less Inv-loop μ-loop
@@ -120,7 +120,7 @@ judge-spec =
     cast-paths
     start-requires
     loop-holds
-    count-at-requires
+    path-at-requires
     enum-known-places
     enum-told
     none-requires-2
