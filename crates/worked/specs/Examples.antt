@@ -1,12 +1,12 @@
 -- P1 to P12 of document 01, "Trials at the edges", as one list about the book's definitions; the surveys of its images (document 02, Ticket 1); what
--- reading says of damaged ones (Ticket 2); the nine suffix masks (Ticket 4); and lookups around a failed node (Ticket 6).
+-- reading says of damaged ones (Ticket 2); the nine suffix masks (Ticket 4); lookups around a failed node (Ticket 6); and traces (Ticket 8).
 use Prim.Native.Nat.{ℕ, _+_, _^_}
 use mathlib.Core.Path.{_≡_}
 use mathlib.Core.List.{List, [], _∷_}
 use lib.ListN.{replicate}
 use Rattle.model.specs.Ids.{commonSuffix, suffixMask}
 use Rattle.model.specs.Memory.{Memory, stateLength, tablesLength}
-use Rattle.model.specs.Calls.{Outcome, foundCall, readCall, lookupCall, surveyCall, verdictCall}
+use Rattle.model.specs.Calls.{Outcome, foundCall, readCall, lookupCall, surveyCall, verdictCall, traceCall}
 
 -- lent memory with old contents in every place
 unfoldable pub dirty : Memory
@@ -20,7 +20,7 @@ founding b d K id = foundCall dirty b d K id
 unfoldable pub reading : List ℕ → Outcome
 reading im = readCall dirty im
 
--- the verdict, the lookup and the survey on what a call left
+-- the verdict, the lookup, the survey and the check of a trace on what a call left
 unfoldable pub verdictOn : Outcome → List ℕ
 verdictOn o = verdictCall (o .memory) .answer
 
@@ -29,6 +29,9 @@ lookupOn o u z failed = lookupCall (o .memory) u z failed .answer
 
 unfoldable pub surveyOn : Outcome → List ℕ
 surveyOn o = surveyCall (o .memory) 0 .answer
+
+unfoldable pub traceOn : Outcome → List ℕ → List ℕ
+traceOn o trace = traceCall (o .memory) trace .answer
 
 -- the first sixteen bytes of E1 with this record count, before the records
 unfoldable pub headOfE1 : ℕ → List ℕ → List ℕ
@@ -146,3 +149,20 @@ pub record Failed : Type 0 where
   pub itself : lookupOn (reading deep) 1 1 1 ≡ 21 ∷ 0 ∷ 0 ∷ 0 ∷ []
   -- a number that no node has, and a failed start. Excluded: 21 judged before 9.
   pub nobody : lookupOn (reading deep) 1 4 1 ≡ 9 ∷ 0 ∷ 0 ∷ 0 ∷ []
+
+-- Traces on E1 and on `deep`: the refusal, path and place.
+pub record Traced : Type 0 where
+  -- on E1 from node 1 to node 2, back, and node 1 alone. Excluded: a path of one node refused.
+  pub three-paths : traceOn (reading E1) (3 ∷ 2 ∷ 1 ∷ 2 ∷ 2 ∷ 2 ∷ 1 ∷ 1 ∷ 1 ∷ []) ≡ 0 ∷ 0 ∷ 0 ∷ []
+  -- no paths
+  pub none : traceOn (reading E1) (0 ∷ []) ≡ 0 ∷ 0 ∷ 0 ∷ []
+  -- from node 1 to node 2, and there once more. Excluded: a step past the destination; steps counted from 0.
+  pub past : traceOn (reading E1) (1 ∷ 3 ∷ 1 ∷ 2 ∷ 2 ∷ []) ≡ 23 ∷ 1 ∷ 2 ∷ []
+  -- a step from the destination, and then a number that no node has. Excluded: the fault that stands first.
+  pub number-first : traceOn (reading E1) (2 ∷ 2 ∷ 1 ∷ 1 ∷ 2 ∷ 1 ∷ 3 ∷ []) ≡ 9 ∷ 2 ∷ 2 ∷ []
+  -- a number that no node has, and then a path of no places
+  pub counts-first : traceOn (reading E1) (2 ∷ 2 ∷ 1 ∷ 3 ∷ 0 ∷ []) ≡ 22 ∷ 0 ∷ 0 ∷ []
+  -- on `deep` from node 1 to node 3 at once, which stands second in its entry. Excluded: only the first of an entry.
+  pub second : traceOn (reading deep) (1 ∷ 2 ∷ 1 ∷ 3 ∷ []) ≡ 0 ∷ 0 ∷ 0 ∷ []
+  -- from node 2 to node 3 by node 1, which matches node 3 in fewer digits
+  pub away : traceOn (reading deep) (1 ∷ 3 ∷ 2 ∷ 1 ∷ 3 ∷ []) ≡ 23 ∷ 1 ∷ 1 ∷ []
