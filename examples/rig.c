@@ -1,7 +1,7 @@
 /* A small rig: founds a network, lets seven nodes join it at the same time, delivers until all are in system, withdraws the join of one more that began by
  * the wrong gateway and begins it again, says what each join cost, looks nodes up, asks for the verdict and the hop survey, does both once more around a node
- * that has failed, saves the network as an image and reads it into other memory, after a look whether that holds a network already. README.md has the line
- * that builds it; examples/rig.out is what it prints. */
+ * that has failed, has the trace of a router of its own checked, saves the network as an image and reads it into other memory, after a look whether that
+ * holds a network already. README.md has the line that builds it; examples/rig.out is what it prints. */
 #include <stdio.h>
 #include <stdlib.h>
 #include <string.h>
@@ -43,6 +43,8 @@ static const char *const refusals[] = {
     [OVERLAY_NOT_HIGHEST] = "the node is not the highest-numbered",
     [OVERLAY_HAS_ATTACHED] = "the node has attached",
     [OVERLAY_HAS_FAILED] = "the start or the destination has failed",
+    [OVERLAY_TRACE_COUNTS] = "the trace's counts and length do not fit",
+    [OVERLAY_STEP_NOT_ALLOWED] = "a step that the tables do not allow",
 };
 
 /* The refusal of an answer in words; a later version may have more. */
@@ -181,6 +183,64 @@ static void join_again(struct network *network, uint32_t id, unsigned wrong, uns
     print_refusal("that of node 1", overlay_withdraw(LENT(network), 1));
 }
 
+/* ---- a router of one's own, on the tables as docs/MEMORY.md lays them out, and its trace, as docs/TRACES.md has it */
+
+/* Digit i of a node's id. */
+static unsigned digit(const struct network *network, unsigned node, unsigned i)
+{
+    return (unsigned)(network->state[8 * node] >> 4 * i & 15);
+}
+
+/* Where this router goes next from one node to another: to the last node of the entry of which a lookup takes the first. 0 if the entry is empty. */
+static unsigned next_node(const struct network *network, unsigned from, unsigned to)
+{
+    unsigned level = 0, next = 0;
+    while (digit(network, from, level) == digit(network, to, level))
+        level++;
+    const uint8_t *entry = network->tables + 512 * (from - 1) + 64 * level + 4 * digit(network, to, level);
+    for (unsigned slot = 0; slot < network->state[2] && entry[slot] != 0; slot++)
+        next = entry[slot];
+    return next;
+}
+
+/* Adds this router's path from one node to another to a trace of so many bytes; one that is lost ends where it was lost. Answers the new length. */
+static size_t add_path(const struct network *network, unsigned from, unsigned to, uint8_t *trace, size_t length)
+{
+    uint8_t *count = &trace[length++];
+    *count = 0;
+    for (unsigned node = from; node != 0; node = node == to ? 0 : next_node(network, node, to)) {
+        trace[length++] = (uint8_t)node;
+        ++*count;
+    }
+    ++trace[0];
+    return length;
+}
+
+static void print_trace(const struct network *network, const char *what, const uint8_t *trace, size_t length)
+{
+    uint64_t answer = overlay_trace(LENT(network), trace, length);
+    printf("%s: %s", what, refusal(answer));
+    if (overlay_trace_path(answer) != 0)
+        printf(", at path %u, place %u", overlay_trace_path(answer), overlay_trace_place(answer));
+    printf("\n");
+}
+
+/* The paths between all nodes, and then one more that goes on from its destination. */
+static void trace_router(const struct network *network, unsigned nodes)
+{
+    static uint8_t trace[OVERLAY_MOST_TRACE_BYTES];
+    size_t length = 1;
+    for (unsigned from = 1; from <= nodes; from++)
+        for (unsigned to = 1; to <= nodes; to++)
+            length = add_path(network, from, to, trace, length);
+    printf("a trace of %u paths, %u bytes\n", trace[0], (unsigned)length);
+    print_trace(network, "checked", trace, length);
+    print_trace(network, "without its last byte", trace, length - 1);
+    memcpy(trace + length, "\3\1\2\2", 4);
+    trace[0]++;
+    print_trace(network, "with a path on from its destination", trace, length + 4);
+}
+
 /* Exchanges a record of an image with the next. */
 static void exchange(uint8_t *record)
 {
@@ -229,6 +289,7 @@ int main(void)
         print_lookup(&first, nodes, to, 0);
     print_survey(&first, 4, 0);
     fail(&first, 2, nodes, nodes);
+    trace_router(&first, nodes);
     save_and_read(&first, &second, nodes);
     print_verdict(&second);
     return 0;
