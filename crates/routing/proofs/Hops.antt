@@ -53,15 +53,20 @@ reads-may-go s t T S u v z nu nv nz ne d K e r h ed eK eT er =
 
 -- that entry stands in the table, since two nodes have no common suffix of all digits
 pub entry-stands : (s t : List ℕ) → Sound s t → (u z : ℕ) → IsNode s u → IsNode s z → u ≢ z → (T : List ℕ) (d K : ℕ) (e : Entry)
-    → HopEntry s d u z e → d ≡ digits s → K ≡ depth s → length T ≡ 512 → Places.Entry T K (e .level) (e .digit)
-entry-stands s t S u z nu nz ne T d K e h ed eK long =
+    → HopEntry s d u z e → d ≡ digits s → length T ≡ 512 → K ≤ 4 → Places.Entry T K (e .level) (e .digit)
+entry-stands s t S u z nu nz ne T d K e h ed long shallow =
     let w : e .level ≡ suffixOf s u z = cc (h .level) in
     record {
       long = omega arith;
-      depth = omega (arith, S .settings .depth-most);
+      depth = shallow;
       level = omega (arith, suffix-below s t S u z nu nz (λ e. ne (sym e)), S .settings .digits-most);
       digit = h .low;
     }
+
+pub entry-of-depth : (s t : List ℕ) → Sound s t → (u z : ℕ) → IsNode s u → IsNode s z → u ≢ z → (T : List ℕ) (d K : ℕ) (e : Entry)
+    → HopEntry s d u z e → d ≡ digits s → length T ≡ 512 → K ≡ depth s → Places.Entry T K (e .level) (e .digit)
+entry-of-depth s t S u z nu nz ne T d K e h ed long eK =
+    entry-stands s t S u z nu nz ne T d K e h ed long (omega (arith, S .settings .depth-most))
 
 -- and holds numbers of nodes
 pub numbers : (s t : List ℕ) → Sound s t → (u : ℕ) → IsNode s u → (T : List ℕ) → T ≡ tableOf t u → (K i j : ℕ) → Places.Entry T K i j → Numbers T K i j

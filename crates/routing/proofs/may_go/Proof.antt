@@ -1,5 +1,6 @@
 -- `routing::may_go` meets its contract: no path goes on from its destination, and else the entry at the common suffix holds the node or not.
 -- Assumes nothing.
+use native.Mathlib.Omega.{arith}
 use borrow.Author.Needs.{needs}
 use Rattle.model.proofs.MayGo.{may-not-leave}
 use Rattle.routing.proofs.Hops.{readable, reads-may-go, entry-stands}
@@ -19,7 +20,11 @@ lent-requires : tie.Need-lent-requires
 lent-requires c κs = search needs
 
 holds-requires : tie.Need-holds-requires
-holds-requires c κs = search entry-stands
+holds-requires c κs =
+    let p = c .before .before .before .before .before .before .pre in
+    let l = c .before .before .load .ensures in
+    entry-stands _ _ (p .0) _ _ (p .1 .0) (p .1 .1 .1) (c .before .before .before .if1 .left) _ _ _ _ (c .before .hop-entry .ensures) (l .digits) (c .lent .ensures .1)
+    (omega (arith, l .depth, p .0 .settings .depth-most))
 
 returns-2 : tie.Need-returns-2
 returns-2 c = search reads-may-go

@@ -1,7 +1,7 @@
 -- `routing::next_hop` meets its contract: it takes the frontmost of the entry at the common suffix, as the definition does. Assumes nothing.
 use native.Mathlib.Omega.{arith}
 use borrow.Author.Needs.{needs}
-use Rattle.routing.proofs.Hops.{readable, reads-next, entry-stands, numbers}
+use Rattle.routing.proofs.Hops.{readable, reads-next, entry-of-depth, numbers}
 use Rattle.routing.proofs.next_hop.Statement.{statement}
 use Rattle.routing.proofs.next_hop.Tie as tie
 
@@ -15,7 +15,7 @@ lent-requires : tie.Need-lent-requires
 lent-requires c κs = search needs
 
 frontmost-requires : tie.Need-frontmost-requires
-frontmost-requires c κs = (search entry-stands, (search (numbers, entry-stands), omega arith))
+frontmost-requires c κs = (search entry-of-depth, (search (numbers, entry-of-depth), omega arith))
 
 returns : tie.Need-returns
 returns c = search reads-next
