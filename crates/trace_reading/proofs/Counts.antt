@@ -8,15 +8,9 @@ use native.Mathlib.Omega.{arith}
 use borrow.Author.Tests.{leb-true, ltb-true, le-leb, lt-ltb}
 use Rattle.model.specs.Image.{byteAt}
 use Rattle.model.proofs.Bools.{parts, and-intro, is-false}
-use Rattle.trace_reading.specs.Read.{countRightAt, countAt}
+use Rattle.trace_reading.specs.Read.{CountRight, countRightAt, countAt}
 use Rattle.trace_reading.specs.declared.Count.{Count}
 use Rattle.trace_reading.specs.declared.Count.the-variants.{Places, Wrong}
-
--- the path's count is from 1 to 9, and its places stand in the trace
-pub record CountRight (trace : List ℕ) (at : ℕ) : Type 0 where
-  pub least : 1 ≤ byteAt trace at
-  pub most : byteAt trace at ≤ 9
-  pub within : at + byteAt trace at < length trace
 
 -- a count tells whether it is right, and how many places there are then
 isRight : Count → Bool
@@ -28,7 +22,7 @@ placesOf (Places n) = n
 placesOf Wrong = 0
 
 module _ (trace : List ℕ) (at : ℕ) where
-  pub right-of : countRightAt trace at ≡ true → CountRight trace at
+  right-of : countRightAt trace at ≡ true → CountRight trace at
   unfolding countRightAt
   right-of e =
       record {
@@ -37,7 +31,7 @@ module _ (trace : List ℕ) (at : ℕ) where
         within = ltb-true (at + byteAt trace at) (length trace) (search parts);
       }
 
-  pub right-is : CountRight trace at → countRightAt trace at ≡ true
+  right-is : CountRight trace at → countRightAt trace at ≡ true
   unfolding countRightAt
   right-is r = and-intro _ _ (le-leb 1 (byteAt trace at) (r .least)) (and-intro _ _ (le-leb (byteAt trace at) 9 (r .most)) (lt-ltb _ (length trace) (r .within)))
 

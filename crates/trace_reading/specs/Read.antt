@@ -1,5 +1,5 @@
 -- The count of a path, as it is read where the path starts.
-use Prim.Native.Nat.{ℕ, _+_}
+use Prim.Native.Nat.{ℕ, _+_, _≤_, _<_}
 use mathlib.Core.Bool.{Bool, cond, _&&_}
 use mathlib.Core.List.{List}
 use lib.Dec.{leb, ltb}
@@ -8,7 +8,13 @@ use Rattle.model.specs.Image.{byteAt}
 use Rattle.trace_reading.specs.declared.Count.{Count}
 use Rattle.trace_reading.specs.declared.Count.the-variants.{Places, Wrong}
 
--- the path that starts at `at` has its count, and the trace its places
+-- the path that starts at `at` has a count from 1 to 9, and the trace its places
+pub record CountRight (trace : List ℕ) (at : ℕ) : Type 0 where
+  pub least : 1 ≤ byteAt trace at
+  pub most : byteAt trace at ≤ 9
+  pub within : at + byteAt trace at < length trace
+
+-- the same as a test
 unfoldable pub countRightAt : List ℕ → ℕ → Bool
 countRightAt trace at = leb 1 (byteAt trace at) && (leb (byteAt trace at) 9 && ltb (at + byteAt trace at) (length trace))
 

@@ -5,7 +5,7 @@ use mathlib.Core.Bool.{Bool, not}
 use mathlib.Core.List.{List}
 use Rattle.model.specs.Image.{byteAt}
 use Rattle.model.specs.Nodes.{isNode}
-use Rattle.model.specs.Traces.{pathStart, placeCount, placeAt, placeNamed, mayGo, stepAllowed}
+use Rattle.model.specs.Traces.{placeCount, placeAt, placeNamed, mayGo, stepAllowed}
 use Rattle.model.proofs.Status.{IsNode}
 use Rattle.traces.specs.Paths.{Stands, PathNamed, unnamed, forbidden}
 use Rattle.traces.specs.declared.path.Path.{Path}

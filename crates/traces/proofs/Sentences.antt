@@ -2,7 +2,7 @@
 use Prim.Native.Nat.{ℕ, _+_, _≤_, _<_}
 use mathlib.Core.Path.{_≡_, refl, sym, ap, subst, _∙_}
 use mathlib.Core.Logic.{_≢_, _⊎_, inl, inr}
-use mathlib.Core.Bool.{Bool, true, false, not}
+use mathlib.Core.Bool.{true, false, not}
 use mathlib.Core.List.{List, [], _∷_}
 use native.Mathlib.Omega.{arith}
 use lib.ListN.{length, getD}
@@ -14,7 +14,7 @@ use Rattle.model.proofs.Bools.{true-or-false}
 use Rattle.model.proofs.Refusals.{sentence-leaves, sentence-goes, sentence-none}
 use Rattle.model.proofs.Traces.{TraceCounts, trace-counts, trace-counts-of, trace-place-none}
 use Rattle.state.specs.Lent.{memory}
-use Rattle.trace_reading.proofs.Counts.{CountRight}
+use Rattle.trace_reading.specs.Read.{CountRight}
 use Rattle.answers.specs.declared.TraceAnswer.{TraceAnswer}
 use Rattle.traces.specs.Faults.{absent, faultBelow}
 use Rattle.traces.specs.Judged.{sentencesRefusal, answer, answerOf}

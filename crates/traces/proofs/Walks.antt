@@ -15,7 +15,7 @@ use Rattle.model.specs.Traces.{pathStart, placeCount, stepCount, placeAt, place
 use Rattle.model.proofs.Loops.{all-at, all-of}
 use Rattle.model.proofs.Status.{is-node}
 use Rattle.model.proofs.Traces.{in-paths}
-use Rattle.trace_reading.proofs.Counts.{CountRight}
+use Rattle.trace_reading.specs.Read.{CountRight}
 use Rattle.traces.specs.Faults.{faultAt, faultBelow}
 use Rattle.traces.specs.Paths.{Stands, PathNamed}
 use Rattle.traces.specs.Walked.{Walked, started}
@@ -49,7 +49,7 @@ module _ (size : ℕ → ℕ) (test : ℕ → ℕ → Bool) (n : ℕ) (f : Fault
       ∙ fault-next size test n k (sym (ap (λ (f : Fault). f .path) e) ∙ none) (ek ∙ ap (λ (m : ℕ). firstBelow m (λ k. not (test n k))) em)
 
 -- none in one path more, none before
-pub none-before : (size : ℕ → ℕ) (test : ℕ → ℕ → Bool) (n : ℕ) → faultBelow (n + 1) size test .path ≡ 0 → faultBelow n size test .path ≡ 0
+none-before : (size : ℕ → ℕ) (test : ℕ → ℕ → Bool) (n : ℕ) → faultBelow (n + 1) size test .path ≡ 0 → faultBelow n size test .path ≡ 0
 none-before size test n none =
     none-faulty size test n (all-of n _ (λ p l. all-at (n + 1) _ (none-fails size test (n + 1) none) p (omega arith)))
 

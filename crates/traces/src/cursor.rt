@@ -6,7 +6,7 @@ ghost use Rattle.model.specs.Memory.{stateLength};
 ghost use Rattle.model.specs.Image.{byteAt};
 ghost use Rattle.model.specs.Traces.{placeCount, stepCount, placeNamed, stepAllowed};
 ghost use Rattle.model.proofs.Sound.{Sound};
-ghost use Rattle.trace_reading.proofs.Counts.{CountRight};
+ghost use Rattle.trace_reading.specs.Read.{CountRight};
 ghost use Rattle.traces.specs.Faults.{faultBelow};
 ghost use Rattle.traces.specs.Paths.{Stands};
 ghost use Rattle.traces.specs.Walked.{started, Walked};

@@ -1,6 +1,5 @@
 -- `pass`: the cursor behind one path more. Assumes nothing.
 use mathlib.Core.Path.{refl}
-use native.Mathlib.Omega.{arith}
 use borrow.Author.Needs.{needs}
 use Rattle.traces.proofs.Walks.{stands, passes}
 use Rattle.traces.proofs.cursor.Cursor.pass.Statement.{statement}
