@@ -1,4 +1,4 @@
--- A refusal in words: its number, the place of the record that it is about, and its sentence of docs/REFUSALS.md in short.
+-- A refusal in words: its number, the place that it is about, and its sentence of docs/REFUSALS.md in short.
 use Prim.Native.Nat.{ℕ}
 use mathlib.Core.Bool.{cond}
 use mathlib.Core.List.{List, [], _++_}
@@ -33,20 +33,30 @@ unfoldable pub ownEntry : ℕ → List ℕ
 ownEntry place = cond (eqb place 0) (ascii "an own entry has no record") (ascii "an own entry does not start with its owner")
 
 unfoldable pub sentenceFrom17 : ℕ → ℕ → List ℕ
-sentenceFrom17 n place =
+sentenceFrom17 n first =
     cond (eqb n 17) (ascii "the neighbour is not qualified, is in its entry already, or finds it full")
-    (cond (eqb n 18) (ownEntry place)
+    (cond (eqb n 18) (ownEntry first)
     (cond (eqb n 19) (ascii "the node is not the highest-numbered one")
     (cond (eqb n 20) (ascii "the node is settled or notifying")
-    (cond (eqb n 21) (ascii "the start or the destination has failed") []))))
+    (cond (eqb n 21) (ascii "the start or the destination has failed")
+    (cond (eqb n 22) (ascii "the trace is empty, a count is not 1 to 9, or the length differs from the counts")
+    (cond (eqb n 23) (ascii "the step goes to no node of the lookup's entry, or past the destination") []))))))
 
 -- a number that no sentence has is left without words
 unfoldable pub sentence : ℕ → ℕ → List ℕ
-sentence n place = cond (ltb n 9) (sentenceTo8 n) (cond (ltb n 17) (sentenceFrom9 n) (sentenceFrom17 n place))
+sentence n first = cond (ltb n 9) (sentenceTo8 n) (cond (ltb n 17) (sentenceFrom9 n) (sentenceFrom17 n first))
 
--- the record's place, counted from 1
-unfoldable pub placeText : ℕ → List ℕ
-placeText place = cond (eqb place 0) [] (labelled (ascii " at record ") place)
+-- a path, and a place or step of it
+unfoldable pub pathText : List ℕ → ℕ → ℕ → List ℕ
+pathText label path k = labelled (ascii " at path ") path ++ labelled label k
 
-unfoldable pub refusedText : ℕ → ℕ → List ℕ
-refusedText n place = labelled (ascii "refused ") n ++ (placeText place ++ (ascii ": " ++ (sentence n place ++ ascii "\n")))
+-- what a refusal is about, by the answer's next two fields, counted from 1: of 9 path and place, of 23 path and step, of any other a record
+unfoldable pub placeText : ℕ → ℕ → ℕ → List ℕ
+placeText n first second =
+    cond (eqb first 0) []
+    (cond (eqb n 9) (pathText (ascii ", place ") first second)
+    (cond (eqb n 23) (pathText (ascii ", step ") first second) (labelled (ascii " at record ") first)))
+
+unfoldable pub refusedText : ℕ → ℕ → ℕ → List ℕ
+refusedText n first second =
+    labelled (ascii "refused ") n ++ (placeText n first second ++ (ascii ": " ++ (sentence n first ++ ascii "\n")))

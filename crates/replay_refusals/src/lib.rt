@@ -1,8 +1,8 @@
-// A refusal in words: what `replay` says of its number and place.
+// A refusal in words: what `replay` says of its number and of the answer's next two fields.
 ghost use Prim.Native.Nat.{_+_, _≤_};
 ghost use lib.ListN.{length};
 ghost use Rattle.putting.specs.Put.{Put};
-ghost use Rattle.replay_refusals.specs.Refused.{sentenceTo8, sentenceFrom9, ownEntry, sentenceFrom17, sentence as sentence·text, placeText, refusedText};
+ghost use Rattle.replay_refusals.specs.Refused.{sentenceTo8, sentenceFrom9, ownEntry, sentenceFrom17, sentence as sentence·text, pathText, placeText, refusedText};
 use answers::refusal::Refusal;
 use putting::piece;
 
@@ -85,9 +85,9 @@ fn own_entry(out: &mut [u8], at: usize, place: u64) -> usize
     piece(out, at, b"an own entry does not start with its owner")
 }
 
-fn from_17(out: &mut [u8], at: usize, number: u64, place: u64) -> usize
+fn from_17(out: &mut [u8], at: usize, number: u64, first: u64) -> usize
     requires { ⌜ at + 80 ≤ length (now out) ⌝ }
-    ensures { λ r. ⌜ Put (now (out .entry)) at (sentenceFrom17 number place) (now (out .exit)) r ⌝ }
+    ensures { λ r. ⌜ Put (now (out .entry)) at (sentenceFrom17 number first) (now (out .exit)) r ⌝ }
     ensures { λ r. ⌜ r ≤ at + 80 ⌝ }
 {
     match number {
@@ -98,17 +98,31 @@ fn from_17(out: &mut [u8], at: usize, number: u64, place: u64) -> usize
                 b"the neighbour is not qualified, is in its entry already, or finds it full",
             );
         }
-        Refusal::OWN_ENTRY => return own_entry(out, at, place),
+        Refusal::OWN_ENTRY => return own_entry(out, at, first),
         Refusal::NOT_HIGHEST => return piece(out, at, b"the node is not the highest-numbered one"),
         Refusal::HAS_ATTACHED => return piece(out, at, b"the node is settled or notifying"),
         Refusal::HAS_FAILED => return piece(out, at, b"the start or the destination has failed"),
+        Refusal::TRACE_COUNTS => {
+            return piece(
+                out,
+                at,
+                b"the trace is empty, a count is not 1 to 9, or the length differs from the counts",
+            );
+        }
+        Refusal::STEP_NOT_ALLOWED => {
+            return piece(
+                out,
+                at,
+                b"the step goes to no node of the lookup's entry, or past the destination",
+            );
+        }
         _ => return at,
     }
 }
 
-fn sentence(out: &mut [u8], at: usize, number: u64, place: u64) -> usize
+fn sentence(out: &mut [u8], at: usize, number: u64, first: u64) -> usize
     requires { ⌜ at + 80 ≤ length (now out) ⌝ }
-    ensures { λ r. ⌜ Put (now (out .entry)) at (sentence·text number place) (now (out .exit)) r ⌝ }
+    ensures { λ r. ⌜ Put (now (out .entry)) at (sentence·text number first) (now (out .exit)) r ⌝ }
     ensures { λ r. ⌜ r ≤ at + 80 ⌝ }
 {
     if number < 9 {
@@ -117,30 +131,44 @@ fn sentence(out: &mut [u8], at: usize, number: u64, place: u64) -> usize
     if number < 17 {
         return from_9(out, at, number);
     }
-    from_17(out, at, number, place)
+    from_17(out, at, number, first)
 }
 
-// The record's place; 0 is none.
-fn at_record(out: &mut [u8], at: usize, place: u64) -> usize
-    requires { ⌜ at + 31 ≤ length (now out) ⌝ }
-    ensures { λ r. ⌜ Put (now (out .entry)) at (placeText place) (now (out .exit)) r ⌝ }
-    ensures { λ r. ⌜ r ≤ at + 31 ⌝ }
+// A path, and a place or step of it.
+fn in_path(out: &mut [u8], at: usize, label: &[u8], path: u64, k: u64) -> usize
+    requires { ⌜ at + length (now label) + 49 ≤ length (now out) ⌝ }
+    ensures { λ r. ⌜ Put (now (out .entry)) at (pathText (now (label .entry)) path k) (now (out .exit)) r ⌝ }
+    ensures { λ r. ⌜ r ≤ at + length (now (label .entry)) + 49 ⌝ }
 {
-    if place == 0 {
+    let end = text::labelled(out, at, b" at path ", path);
+    text::labelled(out, end, label, k)
+}
+
+// What the refusal is about; nothing, where first is 0.
+fn at_place(out: &mut [u8], at: usize, number: u64, first: u64, second: u64) -> usize
+    requires { ⌜ at + 57 ≤ length (now out) ⌝ }
+    ensures { λ r. ⌜ Put (now (out .entry)) at (placeText number first second) (now (out .exit)) r ⌝ }
+    ensures { λ r. ⌜ r ≤ at + 57 ⌝ }
+{
+    if first == 0 {
         return at;
     }
-    text::labelled(out, at, b" at record ", place)
+    match number {
+        Refusal::NO_SUCH_NODE => return in_path(out, at, b", place ", first, second),
+        Refusal::STEP_NOT_ALLOWED => return in_path(out, at, b", step ", first, second),
+        _ => return text::labelled(out, at, b" at record ", first),
+    }
 }
 
 // Puts the refusal's line at the start of out, and answers how many bytes it has.
-pub fn put(out: &mut [u8], number: u64, place: u64) -> usize
-    requires { ⌜ 142 ≤ length (now out) ⌝ }
-    ensures { λ r. ⌜ Put (now (out .entry)) 0 (refusedText number place) (now (out .exit)) r ⌝ }
-    ensures { λ r. ⌜ r ≤ 142 ⌝ }
+pub fn put(out: &mut [u8], number: u64, first: u64, second: u64) -> usize
+    requires { ⌜ 168 ≤ length (now out) ⌝ }
+    ensures { λ r. ⌜ Put (now (out .entry)) 0 (refusedText number first second) (now (out .exit)) r ⌝ }
+    ensures { λ r. ⌜ r ≤ 168 ⌝ }
 {
-    let second = text::labelled(out, 0, b"refused ", number);
-    let third = at_record(out, second, place);
-    let fourth = piece(out, third, b": ");
-    let fifth = sentence(out, fourth, number, place);
-    piece(out, fifth, b"\n")
+    let place = text::labelled(out, 0, b"refused ", number);
+    let colon = at_place(out, place, number, first, second);
+    let words = piece(out, colon, b": ");
+    let end = sentence(out, words, number, first);
+    piece(out, end, b"\n")
 }

@@ -77,11 +77,41 @@ returns-5 c =
     let P = c .before .before .piece4 .ensures in
     (by-number _ _ 21 (c .before .before .before .before .before .match .keys5) _ _ _ _ P, omega (arith, P .ends))
 
+slice-aggregate-piece-5 : tie.Need-slice-aggregate-piece-5
+slice-aggregate-piece-5 c = search needs
+
+piece-requires-5 : tie.Need-piece-requires-5
+piece-requires-5 c κs = search needs
+
+same-length-6 : tie.Need-same-length-6
+same-length-6 c = search needs
+
 returns-6 : tie.Need-returns-6
 unfolding sentenceFrom17
 returns-6 c =
+    let P = c .before .before .piece5 .ensures in
+    (by-number _ _ 22 (c .before .before .before .before .before .match .keys6) _ _ _ _ P, omega (arith, P .ends))
+
+slice-aggregate-piece-6 : tie.Need-slice-aggregate-piece-6
+slice-aggregate-piece-6 c = search needs
+
+piece-requires-6 : tie.Need-piece-requires-6
+piece-requires-6 c κs = search needs
+
+same-length-7 : tie.Need-same-length-7
+same-length-7 c = search needs
+
+returns-7 : tie.Need-returns-7
+unfolding sentenceFrom17
+returns-7 c =
+    let P = c .before .before .piece6 .ensures in
+    (by-number _ _ 23 (c .before .before .before .before .before .match .keys7) _ _ _ _ P, omega (arith, P .ends))
+
+returns-8 : tie.Need-returns-8
+unfolding sentenceFrom17
+returns-8 c =
     let n = c .match .rest in
-    (no-sentence-from-17 _ _ _ (omega arith) _ (n .0 .0 .0 .0 .1) (n .0 .0 .0 .1) (n .0 .0 .1) (n .0 .1) (n .1), omega arith)
+    (no-sentence-from-17 _ _ _ (omega arith) _ (n .0 .0 .0 .0 .0 .0 .1) (n .0 .0 .0 .0 .0 .1) (n .0 .0 .0 .0 .1) (n .0 .0 .0 .1) (n .0 .0 .1) (n .0 .1) (n .1), omega arith)
 
 pub from-17-spec : {M : Type 1} → statement M
 from-17-spec =
@@ -106,4 +136,12 @@ from-17-spec =
     piece-requires-4
     same-length-5
     returns-5
-    returns-6)
+    slice-aggregate-piece-5
+    piece-requires-5
+    same-length-6
+    returns-6
+    slice-aggregate-piece-6
+    piece-requires-6
+    same-length-7
+    returns-7
+    returns-8)

@@ -11,8 +11,8 @@ slice-aggregate-labelled c = search needs
 labelled-requires : tie.Need-labelled-requires
 labelled-requires c κs = search needs
 
-at-record-requires : tie.Need-at-record-requires
-at-record-requires c κs = search needs
+at-place-requires : tie.Need-at-place-requires
+at-place-requires c κs = search needs
 
 slice-aggregate-piece : tie.Need-slice-aggregate-piece
 slice-aggregate-piece c = search needs
@@ -39,7 +39,7 @@ returns c =
     let third = fourth .before .before .before .before in
     let second = third .before .before .before .before .before in
     let first = second .before .before .before .before in (
-      refused-put _ _ _ _ _ _ _ _ _ _ _ _ _ _ (first .labelled .ensures .0) (second .at-record .ensures .0) (third .piece .ensures) (fourth .sentence .ensures .0) (fifth .piece2 .ensures),
+      refused-put _ _ _ _ _ _ _ _ _ _ _ _ _ _ _ (first .labelled .ensures .0) (second .at-place .ensures .0) (third .piece .ensures) (fourth .sentence .ensures .0) (fifth .piece2 .ensures),
       omega (arith, third .piece .ensures .ends, fifth .piece2 .ensures .ends),
     )
 
@@ -49,7 +49,7 @@ put-spec =
     (tie.spec
     slice-aggregate-labelled
     labelled-requires
-    at-record-requires
+    at-place-requires
     slice-aggregate-piece
     piece-requires
     sentence-requires
