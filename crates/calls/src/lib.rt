@@ -17,5 +17,7 @@ pub enum Call {
     Verdict,
     // to the memory that is lent for output
     Write,
+    // of the trace that is lent with the call
+    Trace,
     Sound,
 }
