@@ -8,7 +8,7 @@ use Rattle.script.specs.Words.{isBlank, isSolid, isHash, until, beforeCo
 use Rattle.script.specs.Numbers.{digit, areDigits, valueFrom, isNumber, valueOf, numberOf, hexadecimalOf}
 use Rattle.script.specs.Failed.{addNumber, addWords, failedIn, failedOf}
 use Rattle.script.specs.Commands.{endsWith, ofNode, ofFile, found, begin, deliver, lookup, survey, fileOrShown, commandOf}
-use Rattle.script.specs.declared.command.Command.the-variants.{Nothing, Unknown, Call, Save, Panel, Table}
+use Rattle.script.specs.declared.command.Command.the-variants.{Nothing, Unknown, Call, Save, Trace, Panel, Table}
 
 unfoldable computing : Unit {0}
 unfolding isBlank isSolid isHash until beforeComment fromWord toBlank fromBlank firstWord behindWord isEmpty wordless sameText starts afterWords behind digit areDigits valueFrom isNumber valueOf numberOf hexadecimalOf hasNode addNode addNumber addWords failedIn failedOf endsWith ofNode ofFile found begin deliver lookup survey fileOrShown commandOf
@@ -81,6 +81,10 @@ number-of-65-bits = refl
 pub file : commandOf (ascii "save network") ≡ Save
 unfolding computing
 file = refl
+
+pub tracing : commandOf (ascii "trace\tpaths # of a router") ≡ Trace
+unfolding computing
+tracing = refl
 
 pub panel : commandOf (ascii "panel # of each node") ≡ Panel
 unfolding computing

@@ -14,7 +14,7 @@ use Rattle.script.specs.declared.numbers.Number.the-variants as number
 use Rattle.script.specs.declared.numbers.Id.{Id}
 use Rattle.script.specs.declared.numbers.Id.the-variants as ident
 use Rattle.script.specs.declared.command.Command.{Command}
-use Rattle.script.specs.declared.command.Command.the-variants.{Nothing, Unknown, Call, Save, Load, Panel}
+use Rattle.script.specs.declared.command.Command.the-variants.{Nothing, Unknown, Call, Save, Load, Trace, Panel}
 
 -- ---- how a line ends
 
@@ -137,19 +137,24 @@ module _ (line : List ℕ) where
       unfolding fileOrShown
       load-is x h e = rw (sym p ∙ q, sym p₂ ∙ h) e
 
-      module _ (q₂ : b ≡ false) (c : Bool) (p₃ : c ≡ named line (ascii "panel")) where
-        pub panel-named : (x : Command) → c ≡ true → x ≡ endsWith 1 line Panel → x ≡ fileOrShown line
+      module _ (q₂ : b ≡ false) (c : Bool) (p₃ : c ≡ named line (ascii "trace")) where
+        pub trace-is : (x : Command) → c ≡ true → x ≡ ofFile line Trace → x ≡ fileOrShown line
         unfolding fileOrShown
-        panel-named x h e = rw (sym p ∙ q, sym p₂ ∙ q₂, sym p₃ ∙ h) e
+        trace-is x h e = rw (sym p ∙ q, sym p₂ ∙ q₂, sym p₃ ∙ h) e
 
-        module _ (q₃ : c ≡ false) (d : Bool) (p₄ : d ≡ named line (ascii "table")) where
-          pub table-named : (x : Command) → d ≡ true → x ≡ table line → x ≡ fileOrShown line
+        module _ (q₃ : c ≡ false) (d : Bool) (p₄ : d ≡ named line (ascii "panel")) where
+          pub panel-named : (x : Command) → d ≡ true → x ≡ endsWith 1 line Panel → x ≡ fileOrShown line
           unfolding fileOrShown
-          table-named x h e = rw (sym p ∙ q, sym p₂ ∙ q₂, sym p₃ ∙ q₃, sym p₄ ∙ h) e
+          panel-named x h e = rw (sym p ∙ q, sym p₂ ∙ q₂, sym p₃ ∙ q₃, sym p₄ ∙ h) e
 
-          pub none-named : d ≡ false → Unknown ≡ fileOrShown line
-          unfolding fileOrShown
-          none-named h = rw (sym p ∙ q, sym p₂ ∙ q₂, sym p₃ ∙ q₃, sym p₄ ∙ h)
+          module _ (q₄ : d ≡ false) (t : Bool) (p₅ : t ≡ named line (ascii "table")) where
+            pub table-named : (x : Command) → t ≡ true → x ≡ table line → x ≡ fileOrShown line
+            unfolding fileOrShown
+            table-named x h e = rw (sym p ∙ q, sym p₂ ∙ q₂, sym p₃ ∙ q₃, sym p₄ ∙ q₄, sym p₅ ∙ h) e
+
+            pub none-named : t ≡ false → Unknown ≡ fileOrShown line
+            unfolding fileOrShown
+            none-named h = rw (sym p ∙ q, sym p₂ ∙ q₂, sym p₃ ∙ q₃, sym p₄ ∙ q₄, sym p₅ ∙ h)
 
   module _ (z : Bool) (e₀ : z ≡ ends 0 line) where
     pub nothing-is : z ≡ true → Nothing ≡ commandOf line

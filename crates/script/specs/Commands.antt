@@ -11,7 +11,7 @@ use Rattle.script.specs.declared.numbers.Number.{Number}
 use Rattle.script.specs.declared.numbers.Id.{Id}
 use Rattle.script.specs.declared.numbers.Id.the-variants as ident
 use Rattle.script.specs.declared.command.Command.{Command}
-use Rattle.script.specs.declared.command.Command.the-variants.{Nothing, Unknown, Call, Save, Load, Panel, Table}
+use Rattle.script.specs.declared.command.Command.the-variants.{Nothing, Unknown, Call, Save, Load, Trace, Panel, Table}
 
 -- what is made of a number or an id; where there is none, the line is not understood
 
@@ -74,8 +74,9 @@ unfoldable pub fileOrShown : List ℕ → Command
 fileOrShown line =
     cond (named line (ascii "save")) (ofFile line Save)
     (cond (named line (ascii "load")) (ofFile line Load)
+    (cond (named line (ascii "trace")) (ofFile line Trace)
     (cond (named line (ascii "panel")) (endsWith 1 line Panel)
-    (cond (named line (ascii "table")) (table line) Unknown)))
+    (cond (named line (ascii "table")) (table line) Unknown))))
 
 -- a line's command, by its first word
 unfoldable pub commandOf : List ℕ → Command

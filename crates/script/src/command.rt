@@ -20,6 +20,7 @@ pub enum Command {
     // the file is the line's word 1
     Save,
     Load,
+    Trace,
     Panel,
     Table(u64),
 }
@@ -137,6 +138,9 @@ fn file_or_shown(line: &[u8]) -> Command
     }
     if named(line, b"load") {
         return of_file(line, Command::Load);
+    }
+    if named(line, b"trace") {
+        return of_file(line, Command::Trace);
     }
     if named(line, b"panel") {
         return ends_with(line, 1, Command::Panel);

@@ -1,5 +1,5 @@
 -- `file_or_shown`: one name after the other. Assumes nothing.
-use Rattle.script.proofs.Parsed.{save-is, load-is, panel-named, table-named, none-named}
+use Rattle.script.proofs.Parsed.{save-is, load-is, trace-is, panel-named, table-named, none-named}
 use borrow.Author.Needs.{needs}
 use Rattle.script.proofs.command.file_or_shown.Statement.{statement}
 use Rattle.script.proofs.command.file_or_shown.Tie as tie
@@ -34,11 +34,11 @@ slice-aggregate-named-3 c = search needs
 named-requires-3 : tie.Need-named-requires-3
 named-requires-3 c κs = search needs
 
-ends-with-requires : tie.Need-ends-with-requires
-ends-with-requires c κs = search needs
+of-file-requires-3 : tie.Need-of-file-requires-3
+of-file-requires-3 c κs = search needs
 
 returns-3 : tie.Need-returns-3
-returns-3 c = search panel-named
+returns-3 c = search trace-is
 
 slice-aggregate-named-4 : tie.Need-slice-aggregate-named-4
 slice-aggregate-named-4 c = search needs
@@ -46,14 +46,26 @@ slice-aggregate-named-4 c = search needs
 named-requires-4 : tie.Need-named-requires-4
 named-requires-4 c κs = search needs
 
+ends-with-requires : tie.Need-ends-with-requires
+ends-with-requires c κs = search needs
+
+returns-4 : tie.Need-returns-4
+returns-4 c = search panel-named
+
+slice-aggregate-named-5 : tie.Need-slice-aggregate-named-5
+slice-aggregate-named-5 c = search needs
+
+named-requires-5 : tie.Need-named-requires-5
+named-requires-5 c κs = search needs
+
 table-requires : tie.Need-table-requires
 table-requires c κs = search needs
 
-returns-4 : tie.Need-returns-4
-returns-4 c = search table-named
-
 returns-5 : tie.Need-returns-5
-returns-5 c = search none-named
+returns-5 c = search table-named
+
+returns-6 : tie.Need-returns-6
+returns-6 c = search none-named
 
 pub file-or-shown-spec : {M : Type 1} → statement M
 file-or-shown-spec =
@@ -69,10 +81,14 @@ file-or-shown-spec =
     returns-2
     slice-aggregate-named-3
     named-requires-3
-    ends-with-requires
+    of-file-requires-3
     returns-3
     slice-aggregate-named-4
     named-requires-4
-    table-requires
+    ends-with-requires
     returns-4
-    returns-5)
+    slice-aggregate-named-5
+    named-requires-5
+    table-requires
+    returns-5
+    returns-6)
