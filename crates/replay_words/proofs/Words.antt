@@ -1,10 +1,11 @@
 -- What was put is what is said, by the number or the call that decides it. Assumes nothing.
 use Prim.Native.Nat.{ℕ, _%_}
-use mathlib.Core.Path.{_≡_, ap, subst}
+use mathlib.Core.Path.{_≡_, refl, sym, ap, subst}
 use mathlib.Core.List.{List, [], _∷_}
 use native.Mathlib.Omega.{arith}
-use lib.ListN.{getD}
+use lib.ListN.{length, getD}
 use borrow.Author.Tests.{eq-eqb, ne-eqb}
+use Rattle.model.specs.Traces.{pathCount}
 use Rattle.putting.specs.Put.{Put}
 use Rattle.putting.proofs.Putting.{put-then, three-pieces}
 use Rattle.text.specs.Ascii.{ascii}
@@ -17,14 +18,14 @@ use Rattle.replay_calls.specs.Answered.{listed}
 use Rattle.replay_calls.specs.declared.answer.Words.{Words}
 use Rattle.replay_survey.specs.Showable.{Showable}
 use Rattle.replay_refusals.specs.Refused.{refusedText}
-use Rattle.replay_words.specs.Said.{bytesText, kindText, settledText, deliverText, endText, hopsText, lookupText, shortText, judgedText, takenText, said}
+use Rattle.replay_words.specs.Said.{bytesText, kindText, settledText, deliverText, endText, countText, hopsText, lookupText, shortText, judgedText, pathsText, takenText, said}
 use Rattle.replay_words.specs.Sayable.{Sayable}
 
 -- ---- a number or a call decides
 
-pub by-call : (d size : ℕ) (w : List ℕ) (call c : Call) → call ≡ c → (o : List ℕ) (a : ℕ) (p : List ℕ) (g : ℕ) → Put o a (takenText d size c w) p g
-    → Put o a (takenText d size call w) p g
-by-call d size w = by-key (λ (c : Call). takenText d size c w)
+pub by-call : (d : ℕ) (file w : List ℕ) (call c : Call) → call ≡ c → (o : List ℕ) (a : ℕ) (p : List ℕ) (g : ℕ) → Put o a (takenText d file c w) p g
+    → Put o a (takenText d file call w) p g
+by-call d file w = by-key (λ (c : Call). takenText d file c w)
 
 module _ (n : ℕ) (o : List ℕ) (a : ℕ) (p : List ℕ) (g : ℕ) where
   pub notified-put : (level : ℕ) → (n ≡ 1 → ⊥) → (n ≡ 2 → ⊥) → (n ≡ 3 → ⊥) → Put o a (ascii "deliver: notified") p g → Put o a (kindText n level) p g
@@ -54,13 +55,14 @@ module _ (n : ℕ) (o : List ℕ) (a : ℕ) (p : List ℕ) (g : ℕ) (q : List �
   unfolding bytesText
   bytes-put label P Q = put-then o a _ p g _ q h P Q
 
-  pub hop-put : n ≡ 1 → Put o a (labelled (ascii " in ") n) p g → Put p g (ascii " hop\n") q h → Put o a (hopsText n) q h
-  unfolding hopsText
-  hop-put e P Q = rw (eq-eqb n 1 e) (put-then o a _ p g _ q h P Q)
+  module _ (label one many : List ℕ) where
+    pub one-put : n ≡ 1 → Put o a (labelled label n) p g → Put p g one q h → Put o a (countText label n one many) q h
+    unfolding countText
+    one-put e P Q = rw (eq-eqb n 1 e) (put-then o a _ p g _ q h P Q)
 
-  pub hops-put : (n ≡ 1 → ⊥) → Put o a (labelled (ascii " in ") n) p g → Put p g (ascii " hops\n") q h → Put o a (hopsText n) q h
-  unfolding hopsText
-  hops-put e P Q = rw (ne-eqb n 1 e) (put-then o a _ p g _ q h P Q)
+    pub many-put : (n ≡ 1 → ⊥) → Put o a (labelled label n) p g → Put p g many q h → Put o a (countText label n one many) q h
+    unfolding countText
+    many-put e P Q = rw (ne-eqb n 1 e) (put-then o a _ p g _ q h P Q)
 
 -- field k behind the refusal
 abbrev field : Words → ℕ → ℕ
@@ -91,6 +93,17 @@ short-put x i j o a p g q h r k v l y m P Q R W Y =
     three-pieces o a _ p g _ q h P Q _ y m
     (three-pieces q h _ r k _ v l R (subst (λ (d : List ℕ). Put r k d v l) (one-digit j) W) _ y m Y)
 
+-- ---- a trace that was accepted
+
+-- the count of paths is 0 where there is no byte
+pub no-paths : (trace : List ℕ) → length trace ≡ 0 → 0 ≡ pathCount trace
+no-paths [] e = refl
+no-paths (b ∷ trace) e = absurd (omega arith)
+
+pub paths-put : (trace : List ℕ) (n : ℕ) (o : List ℕ) (a : ℕ) (p : List ℕ) (g : ℕ) → n ≡ pathCount trace → Put o a (pathsText n) p g
+    → Put o a (pathsText (pathCount trace)) p g
+paths-put trace n o a p g e P = by-key pathsText (pathCount trace) n (sym e) o a p g P
+
 -- ---- the answer
 
 module _ (w : Words) (o : List ℕ) (a : ℕ) (p : List ℕ) (g : ℕ) where
@@ -102,12 +115,12 @@ module _ (w : Words) (o : List ℕ) (a : ℕ) (p : List ℕ) (g : ℕ) where
   unfolding judgedText
   inconsistent-put h P = rw (ne-eqb (field w 0) 1 h) P
 
-  module _ (d size : ℕ) (c : Call) where
-    pub said-refused : (w .refusal ≡ 0 → ⊥) → Put o a (refusedText (w .refusal) (field w 0)) p g → Put o a (said d size c (listed w)) p g
+  module _ (d : ℕ) (file : List ℕ) (c : Call) where
+    pub said-refused : (w .refusal ≡ 0 → ⊥) → Put o a (refusedText (w .refusal) (field w 0) (field w 1)) p g → Put o a (said d file c (listed w)) p g
     unfolding said
     said-refused h P = rw (ne-eqb (w .refusal) 0 h) P
 
-    pub said-taken : w .refusal ≡ 0 → Put o a (takenText d size c (listed w)) p g → Put o a (said d size c (listed w)) p g
+    pub said-taken : w .refusal ≡ 0 → Put o a (takenText d file c (listed w)) p g → Put o a (said d file c (listed w)) p g
     unfolding said
     said-taken h P = rw (eq-eqb (w .refusal) 0 h) P
 

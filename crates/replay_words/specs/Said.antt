@@ -1,12 +1,13 @@
--- The answer of a call in words, in a network of d digits. w is the answer, the refusal first.
+-- The answer of a call in words, in a network of d digits. w is the answer, the refusal first, and `file` the image or trace that is lent with the call.
 use Prim.Native.Nat.{ℕ}
 use mathlib.Core.Bool.{cond}
 use mathlib.Core.List.{List, _++_}
 use lib.Dec.{eqb}
-use lib.ListN.{getD, drop}
+use lib.ListN.{length, getD, drop}
 use Rattle.model.specs.Join.{kindCopied, kindSentOn, kindAttached}
+use Rattle.model.specs.Traces.{pathCount}
 use Rattle.calls.specs.declared.Call.{Call}
-use Rattle.calls.specs.declared.Call.the-variants.{Found, Read, Begin, Withdraw, Deliver, Lookup, Survey, Verdict, Write, Sound}
+use Rattle.calls.specs.declared.Call.the-variants.{Found, Read, Begin, Withdraw, Deliver, Lookup, Survey, Verdict, Write, Trace, Sound}
 use Rattle.text.specs.Ascii.{ascii}
 use Rattle.text.specs.Numbers.{hexadecimal}
 use Rattle.text.specs.Lines.{labelled, line}
@@ -34,8 +35,12 @@ deliverText w = kindText (getD w 1 0) (getD w 2 0) ++ settledText (getD w 3 0)
 unfoldable pub endText : ℕ → List ℕ
 endText arrived = cond (eqb arrived 1) (ascii "lookup: arrived at ") (ascii "lookup: lost at ")
 
-unfoldable pub hopsText : ℕ → List ℕ
-hopsText hops = labelled (ascii " in ") hops ++ cond (eqb hops 1) (ascii " hop\n") (ascii " hops\n")
+-- a label, a number, and what it is a number of: one, or any other number
+unfoldable pub countText : List ℕ → ℕ → List ℕ → List ℕ → List ℕ
+countText label n one many = labelled label n ++ cond (eqb n 1) one many
+
+abbrev pub hopsText : ℕ → List ℕ
+hopsText hops = countText (ascii " in ") hops (ascii " hop\n") (ascii " hops\n")
 
 unfoldable pub lookupText : List ℕ → List ℕ
 lookupText w = labelled (endText (getD w 1 0)) (getD w 3 0) ++ hopsText (getD w 2 0)
@@ -50,19 +55,23 @@ unfoldable pub judgedText : List ℕ → List ℕ
 judgedText w =
     cond (eqb (getD w 1 0) 1) (ascii "verdict: consistent\n") (shortText (getD w 2 0) (getD w 3 0) (getD w 4 0))
 
--- a call that was taken; the ids of its network have d digits, and the image that it read has n bytes
-unfoldable pub takenText : ℕ → ℕ → Call → List ℕ → List ℕ
-takenText d n (Found b digits K id) w = ascii "found: node 1\n"
-takenText d n Read w = bytesText (ascii "load: ") n
-takenText d n (Begin id gateway) w = line (ascii "begin: node ") (getD w 1 0)
-takenText d n (Withdraw x) w = line (ascii "withdraw: node ") x
-takenText d n (Deliver x y) w = deliverText w
-takenText d n (Lookup u z failed) w = lookupText w
-takenText d n (Survey failed) w = surveySaid d (drop 1 w)
-takenText d n Verdict w = judgedText w
-takenText d n Write w = bytesText (ascii "save: ") (getD w 1 0)
-takenText d n Sound w = ascii "sound: the state is sound\n"
+abbrev pub pathsText : ℕ → List ℕ
+pathsText paths = countText (ascii "trace: ") paths (ascii " path accepted\n") (ascii " paths accepted\n")
 
--- what is said of any answer: refused or taken. Behind the refusal stands the place of a reading, and 0 in every other refused call
-unfoldable pub said : ℕ → ℕ → Call → List ℕ → List ℕ
-said d n c w = cond (eqb (getD w 0 0) 0) (takenText d n c w) (refusedText (getD w 0 0) (getD w 1 0))
+-- a call that was taken
+unfoldable pub takenText : ℕ → List ℕ → Call → List ℕ → List ℕ
+takenText d file (Found b digits K id) w = ascii "found: node 1\n"
+takenText d file Read w = bytesText (ascii "load: ") (length file)
+takenText d file (Begin id gateway) w = line (ascii "begin: node ") (getD w 1 0)
+takenText d file (Withdraw x) w = line (ascii "withdraw: node ") x
+takenText d file (Deliver x y) w = deliverText w
+takenText d file (Lookup u z failed) w = lookupText w
+takenText d file (Survey failed) w = surveySaid d (drop 1 w)
+takenText d file Verdict w = judgedText w
+takenText d file Write w = bytesText (ascii "save: ") (getD w 1 0)
+takenText d file Trace w = pathsText (pathCount file)
+takenText d file Sound w = ascii "sound: the state is sound\n"
+
+-- what is said of any answer: refused or taken. Behind the refusal stand the places that reading and tracing give, and zeros in every other refused call
+unfoldable pub said : ℕ → List ℕ → Call → List ℕ → List ℕ
+said d file c w = cond (eqb (getD w 0 0) 0) (takenText d file c w) (refusedText (getD w 0 0) (getD w 1 0) (getD w 2 0))

@@ -14,11 +14,20 @@ element-copy-out-ended-2 c = search needs
 ended-requires : tie.Need-ended-requires
 ended-requires c κs = search needs
 
-element-copy-out-hops : tie.Need-element-copy-out-hops
-element-copy-out-hops c = search needs
+slice-aggregate-count : tie.Need-slice-aggregate-count
+slice-aggregate-count c = search needs
 
-hops-requires : tie.Need-hops-requires
-hops-requires c κs = search needs
+element-copy-out-count : tie.Need-element-copy-out-count
+element-copy-out-count c = search needs
+
+slice-aggregate-count-2 : tie.Need-slice-aggregate-count-2
+slice-aggregate-count-2 c = search needs
+
+slice-aggregate-count-3 : tie.Need-slice-aggregate-count-3
+slice-aggregate-count-3 c = search needs
+
+count-requires : tie.Need-count-requires
+count-requires c κs = search needs
 
 same-length : tie.Need-same-length
 same-length c = search needs
@@ -33,7 +42,10 @@ looked-up-spec =
     element-copy-out-ended
     element-copy-out-ended-2
     ended-requires
-    element-copy-out-hops
-    hops-requires
+    slice-aggregate-count
+    element-copy-out-count
+    slice-aggregate-count-2
+    slice-aggregate-count-3
+    count-requires
     same-length
     returns)

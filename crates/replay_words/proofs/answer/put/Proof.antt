@@ -8,6 +8,9 @@ use Rattle.replay_words.proofs.answer.put.Tie as tie
 element-copy-out-put : tie.Need-element-copy-out-put
 element-copy-out-put c = search needs
 
+element-copy-out-put-2 : tie.Need-element-copy-out-put-2
+element-copy-out-put-2 c = search needs
+
 put-requires : tie.Need-put-requires
 put-requires c κs = search needs
 
@@ -29,4 +32,4 @@ returns-2 c = (search said-taken, omega arith)
 pub put-spec : {M : Type 1} → statement M
 put-spec =
     tie.close
-    (tie.spec element-copy-out-put put-requires same-length returns taken-requires same-length-2 returns-2)
+    (tie.spec element-copy-out-put element-copy-out-put-2 put-requires same-length returns taken-requires same-length-2 returns-2)

@@ -147,11 +147,8 @@ returns-9 c = (search by-call, omega arith)
 enum-told-9 : tie.Need-enum-told-9
 enum-told-9 c = search needs
 
-slice-aggregate-piece-2 : tie.Need-slice-aggregate-piece-2
-slice-aggregate-piece-2 c = search needs
-
-piece-requires-2 : tie.Need-piece-requires-2
-piece-requires-2 c κs = search needs
+traced-requires : tie.Need-traced-requires
+traced-requires c κs = search needs
 
 same-length-10 : tie.Need-same-length-10
 same-length-10 c = search needs
@@ -159,6 +156,22 @@ same-length-10 c = search needs
 returns-10 : tie.Need-returns-10
 unfolding takenText
 returns-10 c = (search by-call, omega arith)
+
+enum-told-10 : tie.Need-enum-told-10
+enum-told-10 c = search needs
+
+slice-aggregate-piece-2 : tie.Need-slice-aggregate-piece-2
+slice-aggregate-piece-2 c = search needs
+
+piece-requires-2 : tie.Need-piece-requires-2
+piece-requires-2 c κs = search needs
+
+same-length-11 : tie.Need-same-length-11
+same-length-11 c = search needs
+
+returns-11 : tie.Need-returns-11
+unfolding takenText
+returns-11 c = (search by-call, omega arith)
 
 pub taken-spec : {M : Type 1} → statement M
 taken-spec =
@@ -208,7 +221,11 @@ taken-spec =
     same-length-9
     returns-9
     enum-told-9
+    traced-requires
+    same-length-10
+    returns-10
+    enum-told-10
     slice-aggregate-piece-2
     piece-requires-2
-    same-length-10
-    returns-10)
+    same-length-11
+    returns-11)
