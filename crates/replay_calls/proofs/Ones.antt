@@ -55,9 +55,9 @@ write-out m o out fields e = ap (λ (o : Outcome). o .out) e
 
 -- ---- the call decides
 
-module _ (m : Memory) (image out : List ℕ) (call c : Call) (e : call ≡ c) where
-  pub plays : (p : Played) → p ≡ playing (step m (called image out c)) → p ≡ playing (step m (called image out call))
-  plays p f = f ∙ ap (λ (c : Call). playing (step m (called image out c))) (sym e)
+module _ (m : Memory) (file out : List ℕ) (call c : Call) (e : call ≡ c) where
+  pub plays : (p : Played) → p ≡ playing (step m (called file out c)) → p ≡ playing (step m (called file out call))
+  plays p f = f ∙ ap (λ (c : Call). playing (step m (called file out c))) (sym e)
 
   pub output : (o : List ℕ) → o ≡ outAfter m out c → o ≡ outAfter m out call
   output o f = f ∙ ap (outAfter m out) (sym e)

@@ -5,20 +5,21 @@ use Rattle.model.specs.Memory.{Memory}
 use Rattle.model.specs.Calls.{writeCall}
 use Rattle.model.specs.Run as book
 use Rattle.calls.specs.declared.Call.{Call}
-use Rattle.calls.specs.declared.Call.the-variants.{Found, Read, Begin, Withdraw, Deliver, Lookup, Survey, Verdict, Write, Sound}
+use Rattle.calls.specs.declared.Call.the-variants.{Found, Read, Begin, Withdraw, Deliver, Lookup, Survey, Verdict, Write, Trace, Sound}
 
--- the book's call, with the image that is lent for reading and the memory that is lent for output
+-- the book's call, with the image or trace that is lent with it and the memory that is lent for output
 abbrev pub called : List ℕ → List ℕ → Call → book.Call
-called image out (Found b d K id) = book.found b d K id
-called image out Read = book.read image
-called image out (Begin id gateway) = book.begin id gateway
-called image out (Withdraw x) = book.withdraw x
-called image out (Deliver x y) = book.deliver x y
-called image out (Lookup u z failed) = book.lookup u z failed
-called image out (Survey failed) = book.survey failed
-called image out Verdict = book.verdict
-called image out Write = book.write out
-called image out Sound = book.sound
+called file out (Found b d K id) = book.found b d K id
+called file out Read = book.read file
+called file out (Begin id gateway) = book.begin id gateway
+called file out (Withdraw x) = book.withdraw x
+called file out (Deliver x y) = book.deliver x y
+called file out (Lookup u z failed) = book.lookup u z failed
+called file out (Survey failed) = book.survey failed
+called file out Verdict = book.verdict
+called file out Write = book.write out
+called file out Trace = book.trace file
+called file out Sound = book.sound
 
 -- the memory for output after the call: only a writing changes it
 abbrev pub outAfter : Memory → List ℕ → Call → List ℕ
@@ -31,4 +32,5 @@ outAfter m out (Lookup u z failed) = out
 outAfter m out (Survey failed) = out
 outAfter m out Verdict = out
 outAfter m out Write = writeCall m out .out
+outAfter m out Trace = out
 outAfter m out Sound = out

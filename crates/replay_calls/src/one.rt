@@ -1,7 +1,7 @@
 // One call, played by the public call of its kind.
 ghost use mathlib.Core.Path.{_≡_};
 ghost use mathlib.Core.List.{[], _∷_};
-ghost use Rattle.model.specs.Calls.{foundCall, readCall, beginCall, withdrawCall, deliverCall, lookupCall, surveyCall, verdictCall, writeCall, soundCall};
+ghost use Rattle.model.specs.Calls.{foundCall, readCall, beginCall, withdrawCall, deliverCall, lookupCall, surveyCall, verdictCall, writeCall, traceCall, soundCall};
 ghost use Rattle.model.specs.Run.{step};
 ghost use Rattle.state.specs.Lent.{memory};
 ghost use Rattle.replay_calls.specs.Called.{called, outAfter};
@@ -12,6 +12,7 @@ use engine::beginning;
 use engine::delivering;
 use engine::founding;
 use engine::reading;
+use engine::tracing;
 use engine::withdrawing;
 use engine::writing;
 use packing::delivered::as_numbers;
@@ -99,22 +100,29 @@ fn write(state: &[u64], tables: &[u8], out: &mut [u8]) -> Words
     first_fields(r.refusal, r.bytes, 0, 0, 0)
 }
 
+fn trace(state: &[u64], tables: &[u8], trace: &[u8]) -> Words
+    ensures { λ r. ⌜ shown (memory (now (state .entry)) (now (tables .entry))) r ≡ playing (traceCall (memory (now (state .entry)) (now (tables .entry))) (now (trace .entry))) ⌝ }
+{
+    let r = tracing::trace(state, tables, trace);
+    first_fields(r.refusal, r.path, r.place, 0, 0)
+}
+
 fn sound(state: &[u64], tables: &[u8]) -> Words
     ensures { λ r. ⌜ shown (memory (now (state .entry)) (now (tables .entry))) r ≡ playing (soundCall (memory (now (state .entry)) (now (tables .entry)))) ⌝ }
 {
     first_fields(engine::sound::sound(state, tables), 0, 0, 0, 0)
 }
 
-// Plays the call on the lent memory: reading is of `image`, and writing to `out`.
-pub fn play(state: &mut [u64], tables: &mut [u8], image: &[u8], out: &mut [u8], call: Call) -> Words
-    ensures { λ w. ⌜ shown (memory (now (state .exit)) (now (tables .exit))) w ≡ playing (step (memory (now (state .entry)) (now (tables .entry))) (called (now (image .entry)) (now (out .entry)) call)) ⌝ }
+// Plays the call on the lent memory: reading and tracing are of `file`, and writing to `out`.
+pub fn play(state: &mut [u64], tables: &mut [u8], file: &[u8], out: &mut [u8], call: Call) -> Words
+    ensures { λ w. ⌜ shown (memory (now (state .exit)) (now (tables .exit))) w ≡ playing (step (memory (now (state .entry)) (now (tables .entry))) (called (now (file .entry)) (now (out .entry)) call)) ⌝ }
     ensures { λ w. ⌜ now (out .exit) ≡ outAfter (memory (now (state .entry)) (now (tables .entry))) (now (out .entry)) call ⌝ }
 {
     match call {
         Call::Found(base, digits, depth, id) => {
             return found(state, tables, base, digits, depth, id);
         }
-        Call::Read => return read(state, tables, image),
+        Call::Read => return read(state, tables, file),
         Call::Begin(id, gateway) => return begin(state, tables, id, gateway),
         Call::Withdraw(node) => return withdraw(state, tables, node),
         Call::Deliver(sender, receiver) => return deliver(state, tables, sender, receiver),
@@ -122,6 +130,7 @@ pub fn play(state: &mut [u64], tables: &mut [u8], image: &[u8], out: &mut [u8], 
         Call::Survey(failed) => return survey(state, tables, failed),
         Call::Verdict => return verdict(state, tables),
         Call::Write => return write(state, tables, out),
+        Call::Trace => return trace(state, tables, file),
         Call::Sound => return sound(state, tables),
     }
 }

@@ -155,8 +155,8 @@ returns-9 c = (search plays, search output)
 enum-told-4 : tie.Need-enum-told-4
 enum-told-4 c = search needs
 
-sound-requires : tie.Need-sound-requires
-sound-requires c κs = search needs
+trace-requires : tie.Need-trace-requires
+trace-requires c κs = search needs
 
 same-length-20 : tie.Need-same-length-20
 same-length-20 c = search needs
@@ -167,6 +167,22 @@ same-length-21 c = search needs
 returns-10 : tie.Need-returns-10
 unfolding step
 returns-10 c = (search plays, search output)
+
+enum-told-5 : tie.Need-enum-told-5
+enum-told-5 c = search needs
+
+sound-requires : tie.Need-sound-requires
+sound-requires c κs = search needs
+
+same-length-22 : tie.Need-same-length-22
+same-length-22 c = search needs
+
+same-length-23 : tie.Need-same-length-23
+same-length-23 c = search needs
+
+returns-11 : tie.Need-returns-11
+unfolding step
+returns-11 c = (search plays, search output)
 
 pub play-spec : {M : Type 1} → statement M
 play-spec =
@@ -219,7 +235,12 @@ play-spec =
     same-length-19
     returns-9
     enum-told-4
-    sound-requires
+    trace-requires
     same-length-20
     same-length-21
-    returns-10)
+    returns-10
+    enum-told-5
+    sound-requires
+    same-length-22
+    same-length-23
+    returns-11)
