@@ -10,7 +10,7 @@ use Rattle.promise.proofs.Promise.{play-append, promise}
 use Rattle.replay_calls.specs.Called.{called}
 use Rattle.script.specs.Commands.{commandOf}
 use Rattle.script.specs.declared.command.Command.{Command}
-use Rattle.script.specs.declared.command.Command.the-variants.{Nothing, Unknown, Call, Save, Load, Panel, Table}
+use Rattle.script.specs.declared.command.Command.the-variants.{Nothing, Unknown, Call, Save, Load, Trace, Panel, Table}
 use Rattle.replay.specs.Script.{Turn, Follows, Calls, AllCalls, RunKept}
 
 -- calls of this kind lead from one memory to another
@@ -29,6 +29,8 @@ turn (Call c) m m₁ e = (called [] [] c ∷ [], refl, e)
 turn Save m m₁ (out, e) = (book.write out ∷ [], (out, refl), e)
 turn Load m m₁ (inl e) = ([], inl refl, e)
 turn Load m m₁ (inr (image, e)) = (book.read image ∷ [], inr (image, refl), e)
+turn Trace m m₁ (inl e) = ([], inl refl, e)
+turn Trace m m₁ (inr (trace, e)) = (book.trace trace ∷ [], inr (trace, refl), e)
 turn Panel m m₁ e = none m m₁ e
 turn (Table x) m m₁ e = none m m₁ e
 

@@ -32,7 +32,7 @@ use Rattle.script.specs.Commands.{commandOf}
 use Rattle.script.specs.declared.command.Command.{Command}
 use Rattle.script.specs.declared.command.Command.the-variants as is
 use Rattle.replay.specs.Said.{orRefused, panelSaid, tableSaid, unknownSaid, commandSaid, commandAfter}
-use Rattle.replay.specs.Script.{Saved, Loaded, Turn}
+use Rattle.replay.specs.Script.{Saved, Loaded, Traced, Turn}
 
 -- ---- a call, played
 
@@ -45,10 +45,10 @@ module _ (m m₁ : Memory) (w : Words) (c : book.Call) (e : shown m₁ w ≡ pla
   unfolding playing
   played-answer = ap (λ (p : Played). p .words) e
 
-  pub played-words : (call : Call) (d n : ℕ) (o p : List ℕ) (g : ℕ) → d ≡ digits (m .state) → Put o 0 (said d n call (listed w)) p g
-      → Put o 0 (said (digits (m .state)) n call (padded (step m c .answer))) p g
-  played-words call d n o p g f P =
-      subst (λ (text : List ℕ). Put o 0 text p g) (ap₂ (λ (d : ℕ) (l : List ℕ). said d n call l) f played-answer) P
+  pub played-words : (call : Call) (d : ℕ) (file o p : List ℕ) (g : ℕ) → d ≡ digits (m .state) → Put o 0 (said d file call (listed w)) p g
+      → Put o 0 (said (digits (m .state)) file call (padded (step m c .answer))) p g
+  played-words call d file o p g f P =
+      subst (λ (text : List ℕ). Put o 0 text p g) (ap₂ (λ (d : ℕ) (l : List ℕ). said d file call l) f played-answer) P
 
 -- ---- a survey, played
 
@@ -61,13 +61,13 @@ counts-fit m failed z = record {
       omega (arith, getD-drop 1 (surveyCall m failed .answer) k 0);
 }
 
-pub played-sayable : (m m₁ : Memory) (w : Words) (image out : List ℕ) (call : Call) (d : ℕ)
-    → shown m₁ w ≡ playing (step m (called image out call)) → d ≡ digits (m .state) → Sayable d call (listed w)
+pub played-sayable : (m m₁ : Memory) (w : Words) (file out : List ℕ) (call : Call) (d : ℕ)
+    → shown m₁ w ≡ playing (step m (called file out call)) → d ≡ digits (m .state) → Sayable d call (listed w)
 unfolding step
-played-sayable m m₁ w image out call d e f = record {
+played-sayable m m₁ w file out call d e f = record {
   survey = λ failed is z.
       let answer : listed w ≡ surveyCall m failed .answer =
-      played-answer m m₁ w (called image out call) e ∙ ap (λ (c : Call). padded (step m (called image out c) .answer)) is ∙ survey-filled m failed in
+      played-answer m m₁ w (called file out call) e ∙ ap (λ (c : Call). padded (step m (called file out c) .answer)) is ∙ survey-filled m failed in
       let first : getD (surveyCall m failed .answer) 0 0 ≡ 0 = sym (ap (λ (l : List ℕ). getD l 0 0) answer) ∙ z in
       subst (λ (d : ℕ). Showable d (drop 1 (listed w))) (sym f)
       (subst (λ (l : List ℕ). Showable (digits (m .state)) (drop 1 l)) (sym answer) (counts-fit m failed first));
@@ -82,7 +82,7 @@ pub shows : (m : Memory) (x r : ℕ) → r ≡ lookupRefusal m x x 0 → r ≡ 0
 shows m x r e z = let k = lookup-taken m x x 0 (sym e ∙ z) in (k .0, k .1)
 
 module _ (r number : ℕ) (e : r ≡ number) (text o p : List ℕ) (g : ℕ) where
-  pub says-refused : (r ≡ 0 → ⊥) → Put o 0 (refusedText r 0) p g → Put o 0 (orRefused number text) p g
+  pub says-refused : (r ≡ 0 → ⊥) → Put o 0 (refusedText r 0 0) p g → Put o 0 (orRefused number text) p g
   unfolding orRefused
   says-refused nz P = rw (sym e, ne-eqb r 0 nz) P
 
@@ -121,6 +121,9 @@ module _ (m : Memory) (number : ℕ) (command : Command) where
   pub load-leaves : command ≡ is.Load → m ≡ commandAfter m command
   load-leaves e = leaves is.Load e m refl
 
+  pub trace-leaves : command ≡ is.Trace → m ≡ commandAfter m command
+  trace-leaves e = leaves is.Trace e m refl
+
   pub panel-leaves : command ≡ is.Panel → m ≡ commandAfter m command
   panel-leaves e = leaves is.Panel e m refl
 
@@ -131,7 +134,7 @@ module _ (m : Memory) (number : ℕ) (command : Command) where
     pub unknown-says : command ≡ is.Unknown → Put o 0 (unknownSaid number) p g → Put o 0 (commandSaid m number command) p g
     unknown-says e = says is.Unknown e o p g
 
-    pub call-says : (c : Call) → command ≡ is.Call c → Put o 0 (said (digits (m .state)) 0 c (padded (step m (called [] [] c) .answer))) p g
+    pub call-says : (c : Call) → command ≡ is.Call c → Put o 0 (said (digits (m .state)) [] c (padded (step m (called [] [] c) .answer))) p g
         → Put o 0 (commandSaid m number command) p g
     call-says c e = says (is.Call c) e o p g
 
@@ -151,6 +154,9 @@ module _ (m : Memory) (number : ℕ) (command : Command) where
     pub load-says : command ≡ is.Load → Put o 0 (commandSaid m number command) o 0
     load-says e = says is.Load e o o 0 (put-none o 0 (omega arith))
 
+    pub trace-says : command ≡ is.Trace → Put o 0 (commandSaid m number command) o 0
+    trace-says e = says is.Trace e o o 0 (put-none o 0 (omega arith))
+
 module _ (line : List ℕ) (m m₁ : Memory) (command : Command) (e : command ≡ commandOf line) where
   by-command : (c : Command) → command ≡ c → Turn c m m₁ → Turn (commandOf line) m m₁
   by-command c f turn = subst (λ (c : Command). Turn c m m₁) (sym f ∙ e) turn
@@ -160,6 +166,9 @@ module _ (line : List ℕ) (m m₁ : Memory) (command : Command) (e : command �
 
   pub line-load : command ≡ is.Load → Loaded m m₁ → Turn (commandOf line) m m₁
   line-load f h = by-command is.Load f h
+
+  pub line-trace : command ≡ is.Trace → Traced m m₁ → Turn (commandOf line) m m₁
+  line-trace f h = by-command is.Trace f h
 
   -- a line that needs no file
   module _ (h : m₁ ≡ commandAfter m command) where

@@ -15,11 +15,11 @@ use Rattle.replay_refusals.specs.Refused.{refusedText}
 use Rattle.replay_words.specs.Said.{said}
 use Rattle.model.specs.Run.{step, after}
 use Rattle.script.specs.declared.command.Command.{Command}
-use Rattle.script.specs.declared.command.Command.the-variants.{Nothing, Unknown, Call, Save, Load, Panel, Table}
+use Rattle.script.specs.declared.command.Command.the-variants.{Nothing, Unknown, Call, Save, Load, Trace, Panel, Table}
 
 -- what is shown where nothing refuses it; else the refusal in words
 unfoldable pub orRefused : ℕ → List ℕ → List ℕ
-orRefused number shown = cond (eqb number 0) shown (refusedText number 0)
+orRefused number shown = cond (eqb number 0) shown (refusedText number 0 0)
 
 -- `panel`: a line for each node, or the refusal that a check of the state would have
 abbrev pub panelSaid : Memory → List ℕ
@@ -37,9 +37,10 @@ unknownSaid number = labelled (ascii "line ") number ++ ascii ": not understood\
 abbrev pub commandSaid : Memory → ℕ → Command → List ℕ
 commandSaid m number Nothing = []
 commandSaid m number Unknown = unknownSaid number
-commandSaid m number (Call c) = said (digits (m .state)) 0 c (padded (step m (called [] [] c) .answer))
+commandSaid m number (Call c) = said (digits (m .state)) [] c (padded (step m (called [] [] c) .answer))
 commandSaid m number Save = []
 commandSaid m number Load = []
+commandSaid m number Trace = []
 commandSaid m number Panel = panelSaid m
 commandSaid m number (Table x) = tableSaid m x
 
@@ -50,5 +51,6 @@ commandAfter m Unknown = m
 commandAfter m (Call c) = after m (called [] [] c)
 commandAfter m Save = m
 commandAfter m Load = m
+commandAfter m Trace = m
 commandAfter m Panel = m
 commandAfter m (Table x) = m

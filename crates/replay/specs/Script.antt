@@ -1,5 +1,5 @@
 -- What a script does to the network: its lines one after another, each by the book's call. What a file holds is not known here: a line
--- that loads one reads some image, or none where the file cannot be read.
+-- that loads or traces one has some bytes, or does nothing where the file cannot be read.
 use Prim.Native.Nat.{ℕ}
 use mathlib.Core.Path.{_≡_}
 use mathlib.Core.Logic.{_⊎_}
@@ -10,10 +10,11 @@ use Rattle.model.specs.Memory.{Memory}
 use Rattle.model.specs.Run as book
 use Rattle.model.specs.Run.{after, play, isRun}
 use Rattle.promise.specs.Promise.{Promise}
+use Rattle.calls.specs.declared.Call as calls
 use Rattle.replay_calls.specs.Called.{called}
 use Rattle.script.specs.Commands.{commandOf}
 use Rattle.script.specs.declared.command.Command.{Command}
-use Rattle.script.specs.declared.command.Command.the-variants.{Nothing, Unknown, Call, Save, Load, Panel, Table}
+use Rattle.script.specs.declared.command.Command.the-variants.{Nothing, Unknown, Call, Save, Load, Trace, Panel, Table}
 
 -- one byte more at the start of the first line
 abbrev pub inFront : ℕ → List (List ℕ) → List (List ℕ)
@@ -29,9 +30,17 @@ linesOf (b ∷ bs) = let more = linesOf bs in cond (eqb b 10) ([] ∷ more) (inF
 abbrev pub Saved : Memory → Memory → Type 0
 Saved m m₁ = (out : List ℕ) × (m₁ ≡ after m (book.write out))
 
+-- a call was played, of the bytes of some file, or nothing was done
+abbrev pub FilePlayed : calls.Call → Memory → Memory → Type 0
+FilePlayed c m m₁ = (m₁ ≡ m) ⊎ ((file : List ℕ) × (m₁ ≡ after m (called file [] c)))
+
 -- an image was read, or nothing was done
 abbrev pub Loaded : Memory → Memory → Type 0
 Loaded m m₁ = (m₁ ≡ m) ⊎ ((image : List ℕ) × (m₁ ≡ after m (book.read image)))
+
+-- a trace was checked, or nothing was done
+abbrev pub Traced : Memory → Memory → Type 0
+Traced m m₁ = (m₁ ≡ m) ⊎ ((trace : List ℕ) × (m₁ ≡ after m (book.trace trace)))
 
 -- what a command does: m before it, m₁ after it
 abbrev pub Turn : Command → Memory → Memory → Type 0
@@ -40,6 +49,7 @@ Turn Unknown m m₁ = m₁ ≡ m
 Turn (Call c) m m₁ = m₁ ≡ after m (called [] [] c)
 Turn Save m m₁ = Saved m m₁
 Turn Load m m₁ = Loaded m m₁
+Turn Trace m m₁ = Traced m m₁
 Turn Panel m m₁ = m₁ ≡ m
 Turn (Table x) m m₁ = m₁ ≡ m
 
@@ -57,6 +67,7 @@ Calls Unknown cs = cs ≡ []
 Calls (Call c) cs = cs ≡ called [] [] c ∷ []
 Calls Save cs = (out : List ℕ) × (cs ≡ book.write out ∷ [])
 Calls Load cs = (cs ≡ []) ⊎ ((image : List ℕ) × (cs ≡ book.read image ∷ []))
+Calls Trace cs = (cs ≡ []) ⊎ ((trace : List ℕ) × (cs ≡ book.trace trace ∷ []))
 Calls Panel cs = cs ≡ []
 Calls (Table x) cs = cs ≡ []
 

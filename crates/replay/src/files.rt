@@ -1,6 +1,6 @@
 // The commands with a file.
 ghost use Rattle.state.specs.Lent.{memory};
-ghost use Rattle.replay.specs.Script.{Saved, Loaded};
+ghost use Rattle.replay.specs.Script.{Saved, FilePlayed, Loaded, Traced};
 use crate::said::played;
 use calls::Call;
 use libc::STDOUT_FILENO;
@@ -34,26 +34,44 @@ pub fn save(state: &mut [u64], tables: &mut [u8], path: &[u8])
     io::write_all(STDOUT_FILENO, part(&words, 0, r.end));
 }
 
-pub fn load(state: &mut [u64], tables: &mut [u8], path: &[u8])
-    ensures { λ r. ⌜ Loaded (memory (now (state .entry)) (now (tables .entry))) (memory (now (state .exit)) (now (tables .exit))) ⌝ }
+// Plays the call of what the file holds, of at most 65,536 bytes; where it cannot be opened, says so by `unread`.
+fn play(state: &mut [u64], tables: &mut [u8], path: &[u8], call: Call, unread: &[u8])
+    ensures { λ r. ⌜ FilePlayed call (memory (now (state .entry)) (now (tables .entry))) (memory (now (state .exit)) (now (tables .exit))) ⌝ }
 {
     let fd = os::open_read(path);
     if fd < 0 {
-        io::write_all(STDOUT_FILENO, b"load: the file cannot be read\n");
+        io::write_all(STDOUT_FILENO, unread);
         return;
     }
     let mut none = [0u8; 0];
-    let mut image = [0u8; 65536];
-    let n = io::read_full(fd, &mut image);
+    let mut file = [0u8; 65536];
+    let n = io::read_full(fd, &mut file);
     libc::close(fd);
     let mut words = [0u8; 1024];
-    let r = played(
+    let r = played(state, tables, &file[..n], &mut none, call, &mut words);
+    io::write_all(STDOUT_FILENO, part(&words, 0, r.end));
+}
+
+pub fn load(state: &mut [u64], tables: &mut [u8], path: &[u8])
+    ensures { λ r. ⌜ Loaded (memory (now (state .entry)) (now (tables .entry))) (memory (now (state .exit)) (now (tables .exit))) ⌝ }
+{
+    play(
         state,
         tables,
-        &image[..n],
-        &mut none,
+        path,
         Call::Read,
-        &mut words,
+        b"load: the file cannot be read\n",
     );
-    io::write_all(STDOUT_FILENO, part(&words, 0, r.end));
+}
+
+pub fn trace(state: &mut [u64], tables: &mut [u8], path: &[u8])
+    ensures { λ r. ⌜ Traced (memory (now (state .entry)) (now (tables .entry))) (memory (now (state .exit)) (now (tables .exit))) ⌝ }
+{
+    play(
+        state,
+        tables,
+        path,
+        Call::Trace,
+        b"trace: the file cannot be read\n",
+    );
 }

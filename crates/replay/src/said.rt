@@ -26,25 +26,25 @@ pub struct Answered {
     pub answer: Words,
 }
 
-// Plays the call, of this image and to this memory for output, and puts its words at the start of words.
+// Plays the call, of this image or trace and to this memory for output, and puts its words at the start of words.
 pub fn played(
     state: &mut [u64],
     tables: &mut [u8],
-    image: &[u8],
+    file: &[u8],
     out: &mut [u8],
     call: Call,
     words: &mut [u8],
 ) -> Answered
     requires { ⌜ 943 ≤ length (now words) ⌝ }
-    ensures { λ r. ⌜ memory (now (state .exit)) (now (tables .exit)) ≡ after (memory (now (state .entry)) (now (tables .entry))) (called (now (image .entry)) (now (out .entry)) call) ⌝ }
+    ensures { λ r. ⌜ memory (now (state .exit)) (now (tables .exit)) ≡ after (memory (now (state .entry)) (now (tables .entry))) (called (now (file .entry)) (now (out .entry)) call) ⌝ }
     ensures { λ r. ⌜ now (out .exit) ≡ outAfter (memory (now (state .entry)) (now (tables .entry))) (now (out .entry)) call ⌝ }
-    ensures { λ r. ⌜ listed (r .answer) ≡ padded (step (memory (now (state .entry)) (now (tables .entry))) (called (now (image .entry)) (now (out .entry)) call) .answer) ⌝ }
-    ensures { λ r. ⌜ Put (now (words .entry)) 0 (said (digits (now (state .entry))) (length (now (image .entry))) call (padded (step (memory (now (state .entry)) (now (tables .entry))) (called (now (image .entry)) (now (out .entry)) call) .answer))) (now (words .exit)) (r .end) ⌝ }
+    ensures { λ r. ⌜ listed (r .answer) ≡ padded (step (memory (now (state .entry)) (now (tables .entry))) (called (now (file .entry)) (now (out .entry)) call) .answer) ⌝ }
+    ensures { λ r. ⌜ Put (now (words .entry)) 0 (said (digits (now (state .entry))) (now (file .entry)) call (padded (step (memory (now (state .entry)) (now (tables .entry))) (called (now (file .entry)) (now (out .entry)) call) .answer))) (now (words .exit)) (r .end) ⌝ }
     ensures { λ r. ⌜ r .end ≤ 943 ⌝ }
 {
     let digits = settings::digits(state);
-    let w = one::play(state, tables, image, out, call);
-    let k = answer::put(words, digits, image.len() as u64, call, w);
+    let w = one::play(state, tables, file, out, call);
+    let k = answer::put(words, digits, file, call, w);
     Answered { end: k, answer: w }
 }
 
@@ -52,7 +52,7 @@ pub fn played(
 fn call(state: &mut [u64], tables: &mut [u8], call: Call, words: &mut [u8]) -> usize
     requires { ⌜ 943 ≤ length (now words) ⌝ }
     ensures { λ r. ⌜ memory (now (state .exit)) (now (tables .exit)) ≡ after (memory (now (state .entry)) (now (tables .entry))) (called [] [] call) ⌝ }
-    ensures { λ r. ⌜ Put (now (words .entry)) 0 (said (digits (now (state .entry))) 0 call (padded (step (memory (now (state .entry)) (now (tables .entry))) (called [] [] call) .answer))) (now (words .exit)) r ⌝ }
+    ensures { λ r. ⌜ Put (now (words .entry)) 0 (said (digits (now (state .entry))) [] call (padded (step (memory (now (state .entry)) (now (tables .entry))) (called [] [] call) .answer))) (now (words .exit)) r ⌝ }
     ensures { λ r. ⌜ r ≤ 943 ⌝ }
 {
     let none = [0u8; 0];
@@ -68,7 +68,7 @@ fn panel(state: &[u64], tables: &[u8], words: &mut [u8]) -> usize
 {
     let r = refusals::sentences::state_refusal(state, tables);
     if r != 0 {
-        return replay_refusals::put(words, r, 0);
+        return replay_refusals::put(words, r, 0, 0);
     }
     replay_panel::put(state, tables, words)
 }
@@ -81,7 +81,7 @@ fn table(state: &[u64], tables: &[u8], x: u64, words: &mut [u8]) -> usize
 {
     let r = refusals::lookup::refusal(state, tables, x, x, sets::EMPTY);
     if r != 0 {
-        return replay_refusals::put(words, r, 0);
+        return replay_refusals::put(words, r, 0, 0);
     }
     replay_table::put(state, tables, x as usize, words)
 }
@@ -115,6 +115,7 @@ pub fn command(
         Command::Call(c) => return call(state, tables, c, words),
         Command::Save => return 0,
         Command::Load => return 0,
+        Command::Trace => return 0,
         Command::Panel => return panel(state, tables, words),
         Command::Table(x) => return table(state, tables, x, words),
     }

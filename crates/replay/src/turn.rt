@@ -31,6 +31,7 @@ pub fn line(state: &mut [u64], tables: &mut [u8], text: &[u8], number: u64)
         Command::Call(_) => return plain(state, tables, command, number),
         Command::Save => return files::save(state, tables, words::word(text, 1)),
         Command::Load => return files::load(state, tables, words::word(text, 1)),
+        Command::Trace => return files::trace(state, tables, words::word(text, 1)),
         Command::Panel => return plain(state, tables, command, number),
         Command::Table(_) => return plain(state, tables, command, number),
     }

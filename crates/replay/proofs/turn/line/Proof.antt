@@ -1,6 +1,6 @@
 -- `line`: each arm is what its command does. Assumes nothing.
 use borrow.Author.Needs.{needs}
-use Rattle.replay.proofs.Turns.{line-nothing, line-unknown, line-call, line-save, line-load, line-panel, line-table}
+use Rattle.replay.proofs.Turns.{line-nothing, line-unknown, line-call, line-save, line-load, line-trace, line-panel, line-table}
 use Rattle.replay.proofs.turn.line.Statement.{statement}
 use Rattle.replay.proofs.turn.line.Tie as tie
 
@@ -91,8 +91,11 @@ returns-5 c = search line-load
 enum-told-6 : tie.Need-enum-told-6
 enum-told-6 c = search needs
 
-plain-requires-4 : tie.Need-plain-requires-4
-plain-requires-4 c κs = search needs
+word-requires-3 : tie.Need-word-requires-3
+word-requires-3 c κs = search needs
+
+trace-requires : tie.Need-trace-requires
+trace-requires c κs = search needs
 
 same-length-11 : tie.Need-same-length-11
 same-length-11 c = search needs
@@ -101,13 +104,13 @@ same-length-12 : tie.Need-same-length-12
 same-length-12 c = search needs
 
 returns-6 : tie.Need-returns-6
-returns-6 c = search line-panel
+returns-6 c = search line-trace
 
 enum-told-7 : tie.Need-enum-told-7
 enum-told-7 c = search needs
 
-plain-requires-5 : tie.Need-plain-requires-5
-plain-requires-5 c κs = search needs
+plain-requires-4 : tie.Need-plain-requires-4
+plain-requires-4 c κs = search needs
 
 same-length-13 : tie.Need-same-length-13
 same-length-13 c = search needs
@@ -116,7 +119,22 @@ same-length-14 : tie.Need-same-length-14
 same-length-14 c = search needs
 
 returns-7 : tie.Need-returns-7
-returns-7 c = search line-table
+returns-7 c = search line-panel
+
+enum-told-8 : tie.Need-enum-told-8
+enum-told-8 c = search needs
+
+plain-requires-5 : tie.Need-plain-requires-5
+plain-requires-5 c κs = search needs
+
+same-length-15 : tie.Need-same-length-15
+same-length-15 c = search needs
+
+same-length-16 : tie.Need-same-length-16
+same-length-16 c = search needs
+
+returns-8 : tie.Need-returns-8
+returns-8 c = search line-table
 
 pub line-spec : {M : Type 1} → statement M
 line-spec =
@@ -151,12 +169,18 @@ line-spec =
     same-length-10
     returns-5
     enum-told-6
-    plain-requires-4
+    word-requires-3
+    trace-requires
     same-length-11
     same-length-12
     returns-6
     enum-told-7
-    plain-requires-5
+    plain-requires-4
     same-length-13
     same-length-14
-    returns-7)
+    returns-7
+    enum-told-8
+    plain-requires-5
+    same-length-15
+    same-length-16
+    returns-8)

@@ -1,15 +1,12 @@
--- `load`: nothing, or the reading of what the file gave. Assumes nothing.
+-- `play`: nothing, or the call of what the file gave. Assumes nothing.
 use borrow.Author.Needs.{needs}
 use mathlib.Core.Path.{refl}
 use mathlib.Core.Logic.{inl, inr}
-use Rattle.replay.proofs.files.load.Statement.{statement}
-use Rattle.replay.proofs.files.load.Tie as tie
+use Rattle.replay.proofs.files.play.Statement.{statement}
+use Rattle.replay.proofs.files.play.Tie as tie
 
 open-read-requires : tie.Need-open-read-requires
 open-read-requires c κs = search needs
-
-slice-aggregate-write-all : tie.Need-slice-aggregate-write-all
-slice-aggregate-write-all c = search needs
 
 write-all-requires : tie.Need-write-all-requires
 write-all-requires c κs = search needs
@@ -26,8 +23,8 @@ read-full-requires c κs = search needs
 close-requires : tie.Need-close-requires
 close-requires c κs = search needs
 
-array-share-prefix-image : tie.Need-array-share-prefix-image
-array-share-prefix-image c = search needs
+array-share-prefix-file : tie.Need-array-share-prefix-file
+array-share-prefix-file c = search needs
 
 slice-aggregate-played : tie.Need-slice-aggregate-played
 slice-aggregate-played c = search needs
@@ -59,18 +56,17 @@ same-length-2 c = search needs
 returns-2 : tie.Need-returns-2
 returns-2 c = inr (_, c .before .before .before .before .before .before .before .before .before .played .ensures .0)
 
-pub load-spec : {M : Type 1} → statement M
-load-spec =
+pub play-spec : {M : Type 1} → statement M
+play-spec =
     tie.close
     (tie.spec
     open-read-requires
-    slice-aggregate-write-all
     write-all-requires
     returns
     slice-aggregate-read-full
     read-full-requires
     close-requires
-    array-share-prefix-image
+    array-share-prefix-file
     slice-aggregate-played
     slice-aggregate-played-2
     slice-aggregate-played-3
