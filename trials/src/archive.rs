@@ -94,6 +94,15 @@ pub mod interface {
             failed: u64,
             counts: *mut u64,
         ) -> u64;
+
+        pub fn overlay_trace(
+            state: *const u64,
+            state_len: usize,
+            tables: *const u8,
+            tables_len: usize,
+            trace: *const u8,
+            trace_len: usize,
+        ) -> u64;
     }
 }
 
@@ -173,5 +182,13 @@ impl Engine for Archive {
         let (state, tables) = (state.as_mut_ptr(), tables.as_mut_ptr());
         let counts = counts.as_mut_ptr();
         unsafe { interface::overlay_survey(state, words, tables, bytes, failed, counts) }
+    }
+
+    fn trace(&self, state: &mut [u64], tables: &mut [u8], trace: &[u8]) -> u64 {
+        let (words, bytes) = (state.len(), tables.len());
+        let (state, tables) = (state.as_mut_ptr(), tables.as_mut_ptr());
+        unsafe {
+            interface::overlay_trace(state, words, tables, bytes, trace.as_ptr(), trace.len())
+        }
     }
 }

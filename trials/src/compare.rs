@@ -1,7 +1,7 @@
 //! One script on two engines: every answer, every byte of memory, output and counts after every call, what any
 //! engine must leave alone, what a refusal may have beside its number, that a lookup is between nodes that have not failed
-//! and not too long, that a survey adds up, that a withdrawn node is gone, and that each node's two counts are those of the
-//! history.
+//! and not too long, that a survey adds up, that a trace is answered as it reads, that a withdrawn node is gone, and that each
+//! node's two counts are those of the history.
 
 use std::fmt::{self, Display, Formatter};
 use std::ops::Range;
@@ -14,6 +14,7 @@ use crate::script::{Call, Line, Script};
 use crate::second::memory::{COUNT, MOST_NODES, STATE_WORDS, TABLE_BYTES};
 use crate::second::LOST;
 use crate::surveys::adds_up;
+use crate::traces;
 use crate::withdrawals::is_gone;
 
 /// Where the first difference was, and what it was.
@@ -91,6 +92,7 @@ impl<'a> Pair<'a> {
                 adds_up(after.used_state(), *failed, after.used_counts())
             }
             Call::Withdraw { node } if taken => is_gone(*node, answer, before, after),
+            Call::Trace { trace } if !matches!(answer, 1 | 2) => reads_so(after, trace, answer),
             _ => Ok(()),
         }
     }
@@ -158,7 +160,7 @@ fn may_write(call: &Call, answer: u64) -> Parts {
             }
         }
         Call::Withdraw { node } => of_node(*node),
-        Call::Lookup { .. } | Call::Verdict | Call::Sound => NOTHING,
+        Call::Lookup { .. } | Call::Verdict | Call::Sound | Call::Trace { .. } => NOTHING,
         Call::Write => Parts {
             out: 0..(answer >> 8) as usize,
             ..NOTHING
@@ -222,12 +224,23 @@ fn same_outside<T: PartialEq + Display>(
     Ok(())
 }
 
-/// A refusal has no other field, but that of a record has its place in the image; 18 may have none.
+/// A trace in a sound state.
+fn reads_so(memory: &Lent, trace: &[u8], answer: u64) -> Result<(), String> {
+    let expected = traces::judged(memory, trace);
+    if answer != expected {
+        return Err(format!("answered {answer:#x}, and reads {expected:#x}"));
+    }
+    Ok(())
+}
+
+/// A refusal has no other field, but that of a record has its place in the image, where 18 may have none, and that of a node or a step of a trace its path
+/// and place, which `reads_so` judges.
 fn may_be_refused(call: &Call, answer: u64) -> bool {
     let (refusal, place) = (answer & 0xff, answer >> 8);
     match (call, refusal) {
         (Call::Read { image }, 10 | 17) => (1..=record_count(image)).contains(&place),
         (Call::Read { image }, 18) => place <= record_count(image),
+        (Call::Trace { .. }, 9 | 23) => place != 0,
         _ => place == 0,
     }
 }

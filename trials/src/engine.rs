@@ -2,7 +2,7 @@
 
 use crate::second::{self, Answer, Counts};
 
-/// The ten calls. Memory is lent for writing even where a call must not write, so that a trial sees it if one does. In a set of failed
+/// The eleven calls. Memory is lent for writing even where a call must not write, so that a trial sees it if one does. In a set of failed
 /// nodes bit u − 1 stands for node u.
 pub trait Engine {
     fn name(&self) -> &str;
@@ -27,6 +27,8 @@ pub trait Engine {
 
     fn survey(&self, state: &mut [u64], tables: &mut [u8], failed: u64, counts: &mut Counts)
         -> u64;
+
+    fn trace(&self, state: &mut [u64], tables: &mut [u8], trace: &[u8]) -> u64;
 }
 
 /// The second engine.
@@ -94,5 +96,9 @@ impl Engine for Second {
             *counts = answer.counts;
         }
         answer.pack()
+    }
+
+    fn trace(&self, state: &mut [u64], tables: &mut [u8], trace: &[u8]) -> u64 {
+        second::trace(state, tables, trace).pack()
     }
 }

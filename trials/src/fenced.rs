@@ -230,4 +230,12 @@ impl Engine for FencedArchive {
         fenced.put_back(counts);
         answer
     }
+
+    fn trace(&self, state: &mut [u64], tables: &mut [u8], trace: &[u8]) -> u64 {
+        let length = trace.len();
+        let trace = Fenced::constant(self.0, trace);
+        self.looking(state, tables, &|words, n, bytes, m| unsafe {
+            interface::overlay_trace(words, n, bytes, m, trace.pointer(), length)
+        })
+    }
 }

@@ -79,6 +79,7 @@ impl Lent {
                 let counts = self.counts.first_chunk_mut().expect("there is enough");
                 engine.survey(state, tables, *failed, counts)
             }
+            Call::Trace { trace } => engine.trace(state, tables, trace),
         }
     }
 

@@ -11,6 +11,7 @@
 //! - `surveys`: what holds of every survey.
 //! - `failures`: what holds of lookups and surveys around failed nodes, and trials of it.
 //! - `withdrawals`: what holds of every withdrawal, and trials of it.
+//! - `traces`: what checking a trace must answer, and trials of it.
 //! - `one_join`: what holds of a single join into a network that passes the verdict, and of several at once, and trials of it.
 //! - `panel`: what holds of each node's two counts.
 //! - `paper`: the images of document 01.
@@ -37,4 +38,5 @@ pub mod script;
 pub mod second;
 pub mod steps;
 pub mod surveys;
+pub mod traces;
 pub mod withdrawals;

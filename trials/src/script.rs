@@ -13,6 +13,7 @@
 //! sound                    what sentences 1 and 2 say of the memory
 //! survey
 //! survey without 3         the same while node 3 has failed
+//! trace 01020102           a trace in hexadecimal, nothing for an empty one
 //! lend 520 32768 23816     words of state, bytes of tables and of output lent from here on
 //! word 12 5                state word 12 becomes 5 (hexadecimal), by the caller's hand
 //! byte 300 7               table byte 300 becomes 7 (hexadecimal), by the caller's hand
@@ -36,6 +37,7 @@ pub enum Call {
     Write,
     Sound,
     Survey { failed: u64 },
+    Trace { trace: Vec<u8> },
 }
 
 /// These nodes as the calls take them: bit u − 1 for node u. Numbers outside 1 to 64 mean nothing.
@@ -81,10 +83,7 @@ impl Display for Call {
                 let [base, digits, depth] = settings;
                 write!(out, "found {base} {digits} {depth} {id:x}")
             }
-            Call::Read { image } => {
-                out.write_str("read ")?;
-                image.iter().try_for_each(|byte| write!(out, "{byte:02x}"))
-            }
+            Call::Read { image } => write_bytes(out, "read ", image),
             Call::Begin { id, gateway } => write!(out, "begin {id:x} {gateway}"),
             Call::Withdraw { node } => write!(out, "withdraw {node}"),
             Call::Deliver { sender, receiver } => write!(out, "deliver {sender} {receiver}"),
@@ -99,8 +98,15 @@ impl Display for Call {
                 out.write_str("survey")?;
                 write_failed(out, *failed)
             }
+            Call::Trace { trace } => write_bytes(out, "trace ", trace),
         }
     }
+}
+
+/// A call's name and its bytes in hexadecimal.
+fn write_bytes(out: &mut Formatter, name: &str, bytes: &[u8]) -> fmt::Result {
+    out.write_str(name)?;
+    bytes.iter().try_for_each(|byte| write!(out, "{byte:02x}"))
 }
 
 /// The failed nodes behind a call, nothing if there are none.
@@ -161,7 +167,7 @@ fn parse_line(words: &[&str]) -> Result<Option<Line>, ParseIntError> {
             id: id(number)?,
         },
         ["read"] => Call::Read { image: vec![] },
-        ["read", image] if image.len() % 2 == 0 && image.is_ascii() => Call::Read {
+        ["read", image] if are_bytes(image) => Call::Read {
             image: parse_bytes(image)?,
         },
         ["begin", number, gateway] => Call::Begin {
@@ -185,6 +191,10 @@ fn parse_line(words: &[&str]) -> Result<Option<Line>, ParseIntError> {
         ["sound"] => Call::Sound,
         ["survey", ref without @ ..] if may_follow(without) => Call::Survey {
             failed: parse_failed(without)?,
+        },
+        ["trace"] => Call::Trace { trace: vec![] },
+        ["trace", trace] if are_bytes(trace) => Call::Trace {
+            trace: parse_bytes(trace)?,
         },
         _ => return parse_memory_line(words),
     };
@@ -220,6 +230,11 @@ fn parse_failed(words: &[&str]) -> Result<u64, ParseIntError> {
     let numbers = words.iter().skip(1).map(|word| word.parse());
     let numbers: Vec<u64> = numbers.collect::<Result<_, _>>()?;
     Ok(set_of(&numbers))
+}
+
+/// May the word be pairs of hexadecimal digits?
+fn are_bytes(word: &str) -> bool {
+    word.len() % 2 == 0 && word.is_ascii()
 }
 
 /// Pairs of hexadecimal digits.

@@ -1,4 +1,5 @@
-//! What each call answers: the refusal first, 0 if none; on a refusal every other field is zero, but for the place of a reading.
+//! What each call answers: the refusal first, 0 if none; on a refusal every other field is zero, but for the place of a reading and
+//! that of a trace.
 
 use super::refusal::Refusal;
 
@@ -87,6 +88,14 @@ pub const LOST: usize = 8;
 pub struct SurveyAnswer {
     pub refusal: u8,
     pub counts: Counts,
+}
+
+/// Checking a trace: where a node or a step is refused its path, and its place in it or the step's, counted from 1, else zeros.
+#[derive(Clone, Copy, Debug, Default, PartialEq, Eq)]
+pub struct TraceAnswer {
+    pub refusal: u8,
+    pub path: u64,
+    pub place: u64,
 }
 
 /// Writing: the image's length.
@@ -199,6 +208,19 @@ impl Answer for SurveyAnswer {
 
     fn pack(&self) -> u64 {
         packed(self.refusal, &[])
+    }
+}
+
+impl Answer for TraceAnswer {
+    fn refused(refusal: Refusal) -> TraceAnswer {
+        TraceAnswer {
+            refusal: refusal as u8,
+            ..TraceAnswer::default()
+        }
+    }
+
+    fn pack(&self) -> u64 {
+        packed(self.refusal, &[self.path, self.place])
     }
 }
 

@@ -76,12 +76,17 @@ pub fn next_hop(
     [at, to]: [usize; 2],
     failed: NodeSet,
 ) -> NextHop {
-    let level = network.common_suffix(at, to);
-    let wanted = digit(network.node(to).id, level);
-    let table = memory::table_bytes(tables, at);
-    let entry = Entry::decode(memory::entry_bytes(table, level, wanted));
+    let entry = entry_towards(network, tables, [at, to]);
     let in_front = entry.iter().take_while(|&node| failed.contains(node));
     let passed_over = in_front.count();
     let node = entry.iter().nth(passed_over);
     NextHop { node, passed_over }
+}
+
+/// The entry that fixes one more digit on the way from a node to another one.
+pub fn entry_towards(network: &Network, tables: &Tables, [at, to]: [usize; 2]) -> Entry {
+    let level = network.common_suffix(at, to);
+    let wanted = digit(network.node(to).id, level);
+    let table = memory::table_bytes(tables, at);
+    Entry::decode(memory::entry_bytes(table, level, wanted))
 }

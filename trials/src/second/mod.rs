@@ -19,12 +19,13 @@ mod settings;
 mod soundness;
 mod survey;
 pub mod table;
+mod trace;
 mod withdrawing;
 mod writing;
 
 pub use answers::{
     Answer, BeginAnswer, Counts, DeliverAnswer, FoundAnswer, LookupAnswer, ReadAnswer,
-    SurveyAnswer, VerdictAnswer, WithdrawAnswer, WriteAnswer, LOST,
+    SurveyAnswer, TraceAnswer, VerdictAnswer, WithdrawAnswer, WriteAnswer, LOST,
 };
 pub use beginning::begin;
 pub use consistency::verdict;
@@ -37,5 +38,6 @@ pub use refusal::Refusal;
 pub use settings::{digit, Settings};
 pub use soundness::{lent_and_sound, sound};
 pub use survey::survey;
+pub use trace::{trace, LONGEST_PATH};
 pub use withdrawing::withdraw;
 pub use writing::{write, LONGEST_IMAGE};

@@ -23,11 +23,13 @@ pub enum Refusal {
     NotHighest = 19,
     HasAttached = 20,
     HasFailed = 21,
+    TraceCounts = 22,
+    StepNotAllowed = 23,
 }
 
 impl Refusal {
     /// Every refusal, in the order of the numbers.
-    pub const ALL: [Refusal; 21] = [
+    pub const ALL: [Refusal; 23] = [
         Refusal::ShortMemory,
         Refusal::Unsound,
         Refusal::NotAnImage,
@@ -49,6 +51,8 @@ impl Refusal {
         Refusal::NotHighest,
         Refusal::HasAttached,
         Refusal::HasFailed,
+        Refusal::TraceCounts,
+        Refusal::StepNotAllowed,
     ];
 
     /// How many numbers an answer may have: 0, and that of each refusal.

@@ -548,6 +548,7 @@ fn name(line: &Line) -> &'static str {
             Command::Sound => "sound",
             Command::Save { .. } => "save",
             Command::Load { .. } => "load",
+            Command::Trace { .. } => "trace",
             Command::Table { .. } => "table",
             Command::Panel => "panel",
         },
@@ -575,6 +576,7 @@ fn the_script_of_the_docs_has_every_command_and_prints_what_stands_beside_it() {
         "sound",
         "survey",
         "table",
+        "trace",
         "verdict",
         "withdraw",
     ];

@@ -14,6 +14,7 @@ pub enum Command {
     Sound,
     Save { file: Vec<u8> },
     Load { file: Vec<u8> },
+    Trace { file: Vec<u8> },
     Table { node: u64 },
     Panel,
 }
@@ -73,6 +74,7 @@ fn command(words: &[&[u8]]) -> Option<Command> {
         [b"sound"] => Command::Sound,
         [b"save", file] => Command::Save { file: file.into() },
         [b"load", file] => Command::Load { file: file.into() },
+        [b"trace", file] => Command::Trace { file: file.into() },
         [b"table", node] => Command::Table {
             node: number(node)?,
         },

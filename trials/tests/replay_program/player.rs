@@ -13,7 +13,8 @@ use trials::second::Counts;
 
 use crate::language::{lines, Command, Line};
 use crate::support::Folder;
-use crate::words::{delivered, field, judged, looked_up, panelled, said, shown, surveyed, tabled};
+use crate::words::{delivered, field, judged, looked_up, panelled, said, shown, surveyed};
+use crate::words::{tabled, traced};
 
 /// The longest script that is played.
 pub const LONGEST_SCRIPT: usize = 1_048_575;
@@ -108,6 +109,7 @@ impl<'a> Player<'a> {
             }
             Command::Save { file } => self.save(file),
             Command::Load { file } => self.load(file),
+            Command::Trace { file } => self.trace(file),
             Command::Table { node } => shown(tabled(state, tables, *node)),
             Command::Panel => shown(panelled(state, tables)),
         }
@@ -131,14 +133,27 @@ impl<'a> Player<'a> {
         })
     }
 
-    /// A folder can be opened, and has no bytes.
     fn load(&mut self, file: &[u8]) -> String {
-        let Ok(mut opened) = fs::File::open(self.path(file)) else {
+        let Some(image) = self.bytes(file) else {
             return "load: the file cannot be read".into();
         };
-        let mut image = vec![];
-        let _ = opened.read_to_end(&mut image);
         let answer = Second.read(&mut self.state, &mut self.tables, &image);
         said(answer, |_| format!("load: {} bytes", image.len()))
+    }
+
+    fn trace(&mut self, file: &[u8]) -> String {
+        let Some(trace) = self.bytes(file) else {
+            return "trace: the file cannot be read".into();
+        };
+        let answer = Second.trace(&mut self.state, &mut self.tables, &trace);
+        traced(answer, &trace)
+    }
+
+    /// What a file has, if it can be opened. A folder can be opened, and has no bytes.
+    fn bytes(&self, file: &[u8]) -> Option<Vec<u8>> {
+        let mut opened = fs::File::open(self.path(file)).ok()?;
+        let mut bytes = vec![];
+        let _ = opened.read_to_end(&mut bytes);
+        Some(bytes)
     }
 }

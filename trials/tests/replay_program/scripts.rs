@@ -21,7 +21,7 @@ struct Maker<'a> {
 pub struct Made {
     pub text: Vec<u8>,
     commands: Vec<Command>,
-    /// What each `table`, each `panel`, each `sound` and each `survey` was answered, line by line of a panel, else its first line.
+    /// What each `table`, each `panel`, each `sound`, each `survey` and each `trace` was answered, line by line of a panel, else its first line.
     looks: Vec<(&'static str, String)>,
     /// What the script reads and has not written itself.
     pub files: Vec<File>,
@@ -99,6 +99,7 @@ impl Maker<'_> {
             Command::Panel => Some(("panel", usize::MAX)),
             Command::Sound => Some(("sound", 1)),
             Command::Survey { .. } => Some(("survey", 1)),
+            Command::Trace { .. } => Some(("trace", 1)),
             _ => None,
         };
         if let Some((name, most)) = looks {
@@ -128,7 +129,8 @@ impl Maker<'_> {
                 Command::Deliver { sender, receiver },
                 Command::Begin { id: 0, gateway: 1 },
                 Command::Withdraw { node: one },
-                Command::Save { file },
+                Command::Save { file: file.clone() },
+                Command::Trace { file },
             ];
             let command = commands[self.rng.below(commands.len())].clone();
             self.command(command);
@@ -180,7 +182,10 @@ impl Maker<'_> {
                 file: self.saved_name(),
             },
             Call::Read { image } => Command::Load {
-                file: self.loaded_name(image),
+                file: self.loaded_name("image", image),
+            },
+            Call::Trace { trace } => Command::Trace {
+                file: self.loaded_name("trace", trace),
             },
         };
         self.command(command);
@@ -191,12 +196,12 @@ impl Maker<'_> {
         format!("saved{}", self.rng.below(3)).into_bytes()
     }
 
-    /// A file with the image; at times one that the script wrote, or that is not there.
-    fn loaded_name(&mut self, image: Vec<u8>) -> Vec<u8> {
+    /// A file with these bytes, of a name that starts so; at times one that the script wrote, or that is not there.
+    fn loaded_name(&mut self, start: &str, bytes: Vec<u8>) -> Vec<u8> {
         if self.rng.once_in(4) {
             return self.saved_name();
         }
-        let file = (format!("image{}", self.made.files.len()), image);
+        let file = (format!("{start}{}", self.made.files.len()), bytes);
         self.folder.put(&file);
         let name = file.0.clone().into_bytes();
         self.made.files.push(file);
@@ -279,6 +284,7 @@ fn command_words(rng: &mut Rng, command: &Command) -> Vec<Vec<u8>> {
         Command::Sound => vec!["sound".into()],
         Command::Save { file } => return vec![b"save".to_vec(), file.clone()],
         Command::Load { file } => return vec![b"load".to_vec(), file.clone()],
+        Command::Trace { file } => return vec![b"trace".to_vec(), file.clone()],
         Command::Table { node } => vec!["table".into(), number(*node)],
         Command::Panel => vec!["panel".into()],
     };
@@ -372,6 +378,11 @@ fn random_scripts_print_what_the_second_engine_answers() {
         "sound sound",
         "survey refused 2",
         "survey pairs",
+        "trace refused 9",
+        "trace refused 22",
+        "trace refused 23",
+        "trace accepted",
+        "trace read",
     ];
     assert!(wanted.iter().all(|&kind| looks.contains_key(kind)));
 }
@@ -394,8 +405,11 @@ fn networks_of_64_nodes_print_what_the_second_engine_answers() {
 
 /// A look by what it was answered: its refusal, or the node's status, or the word that ends the line.
 fn kind(name: &str, answer: &str) -> String {
+    let words: Vec<&str> = answer.split([' ', ':']).collect();
+    if let ["refused", number, ..] = words[..] {
+        return format!("{name} refused {number}");
+    }
     let word = match name {
-        _ if answer.starts_with("refused ") => answer.split(':').next(),
         "table" | "panel" => answer.split(", ").nth(1),
         _ => answer.split(' ').next_back(),
     };

@@ -5,7 +5,7 @@ use trials::second::network::{Network, Node, Panel, Status};
 use trials::second::table::Table;
 use trials::second::{lent_and_sound, Counts, Refusal, LOST};
 
-const SENTENCES: [&str; 22] = [
+const SENTENCES: [&str; 24] = [
     "",
     "the lent memory is too short",
     "the state is not sound",
@@ -28,6 +28,8 @@ const SENTENCES: [&str; 22] = [
     "the node is not the highest-numbered one",
     "the node is settled or notifying",
     "the start or the destination has failed",
+    "the trace is empty, a count is not 1 to 9, or the length differs from the counts",
+    "the step goes to no node of the lookup's entry, or past the destination",
 ];
 
 /// Of 18 without a place.
@@ -37,7 +39,8 @@ pub fn field(answer: u64, k: u64) -> u64 {
     answer >> (8 * k) & 0xff
 }
 
-/// The words of a packed answer, unless it is a refusal: above that one, reading has the place of a record, and every other call nothing.
+/// The words of a packed answer, unless it is a refusal: above that one, reading has the place of a record, and every other call but
+/// the check of a trace nothing.
 pub fn said(answer: u64, words: impl FnOnce(u64) -> String) -> String {
     match field(answer, 0) {
         0 => words(answer),
@@ -53,6 +56,20 @@ pub fn refused(refusal: u64, place: u64) -> String {
     match place {
         0 => format!("refused {refusal}: {sentence}"),
         _ => format!("refused {refusal} at record {place}: {sentence}"),
+    }
+}
+
+/// The words of a trace: how many paths it has, or its refusal, 9 with the place and 23 with the step.
+pub fn traced(answer: u64, trace: &[u8]) -> String {
+    let (path, place) = (field(answer, 1), field(answer, 2));
+    match field(answer, 0) {
+        0 => match trace[0] {
+            1 => "trace: 1 path accepted".into(),
+            paths => format!("trace: {paths} paths accepted"),
+        },
+        9 => format!("refused 9 at path {path}, place {place}: {}", SENTENCES[9]),
+        23 => format!("refused 23 at path {path}, step {place}: {}", SENTENCES[23]),
+        refusal => refused(refusal, 0),
     }
 }
 

@@ -6,7 +6,8 @@ use trials::script::Script;
 use trials::second::memory::COUNT;
 use trials::second::LOST;
 
-use crate::spoiled::{AfterLookup, SpoilLookup, SpoilSurvey, SpoilWithdrawal, Spoiled, UNSPOILED};
+use crate::spoiled::{AfterLookup, AfterTrace, SpoilLookup, SpoilSurvey, SpoilTrace};
+use crate::spoiled::{SpoilWithdrawal, Spoiled, UNSPOILED};
 
 const SCRIPT: &str = "found 2 2 1 0\nwrite\nlookup 1 1\nbegin 1 1\nbegin 1 1\nverdict\nsound\n\
                       read 04\nread 0401020201010000000002000100000101010001\nverdict\n\
@@ -15,7 +16,8 @@ const SCRIPT: &str = "found 2 2 1 0\nwrite\nlookup 1 1\nbegin 1 1\nbegin 1 1\nve
                       lend 536 32896 0\nwithdraw 3\nwithdraw 1\nwithdraw 2\nwithdraw 1\n\
                       read 04010202010200000000010000000600010000010100010201010001020000010200010202010002\n\
                       lookup 1 2 without 2\nlookup 1 3 without 1\nlookup 2 1 without 3 64\n\
-                      survey without 2\nsurvey without 64\n";
+                      survey without 2\nsurvey without 64\n\
+                      trace 00\ntrace 01020102\ntrace\ntrace 0103010203\ntrace 020101020202\n";
 
 /// The line of the first difference between two engines.
 fn first_difference(a: &dyn Engine, b: &dyn Engine) -> Option<usize> {
@@ -326,6 +328,53 @@ fn two_engines_with_the_same_fault_in_a_withdrawal_are_seen() {
         };
         let found = first_difference(&fault(), &fault());
         assert_eq!(found, Some(line), "{number}");
+    }
+}
+
+/// Lines 29 and 30 are accepted, line 31 is refused 22, line 32 is refused 9 at place 3 of path 1, line 33 is refused 23 at step 1 of path 2.
+const WRONG_TRACES: [(SpoilTrace, usize); 20] = [
+    (|after| after.state[519] ^= 1, 29),
+    (|after| after.state[520] ^= 1, 29),
+    (|after| after.tables[32_767] ^= 1, 29),
+    // Without paths it is refused.
+    (|after| traced(after, 0, 22), 29),
+    (|after| after.answer |= 0x100, 29),
+    (
+        |after| after.answer |= 0x1_0117 * u64::from(after.trace.len() == 4),
+        30,
+    ),
+    (|after| traced(after, 22, 0), 31),
+    (|after| traced(after, 22, 6), 31),
+    (|after| traced(after, 22, 0x1_0116), 31),
+    (|after| after.state[9] ^= u64::from(after.answer == 22), 31),
+    (|after| traced(after, 0x3_0109, 9), 32),
+    (|after| traced(after, 0x3_0109, 0x2_0109), 32),
+    (|after| traced(after, 0x3_0109, 0x3_0009), 32),
+    (|after| traced(after, 0x3_0109, 0x2_0117), 32),
+    (|after| traced(after, 0x1_0217, 0), 33),
+    (|after| traced(after, 0x1_0217, 23), 33),
+    (|after| traced(after, 0x1_0217, 0x2_0217), 33),
+    (|after| traced(after, 0x1_0217, 0x1_0117), 33),
+    (|after| traced(after, 0x1_0217, 0x0101_0217), 33),
+    (
+        |after| after.tables[1_023] ^= u8::from(after.answer == 0x1_0217),
+        33,
+    ),
+];
+
+fn traced(after: &mut AfterTrace, answer: u64, wrong: u64) {
+    if after.answer == answer {
+        after.answer = wrong;
+    }
+}
+
+#[test]
+fn every_difference_of_a_trace_is_seen() {
+    for (number, (trace, line)) in WRONG_TRACES.into_iter().enumerate() {
+        let fault = || Spoiled { trace, ..UNSPOILED };
+        assert_eq!(first_difference(&fault(), &Second), Some(line), "{number}");
+        assert_eq!(first_difference(&Second, &fault()), Some(line), "{number}");
+        assert_eq!(first_difference(&fault(), &fault()), Some(line), "{number}");
     }
 }
 

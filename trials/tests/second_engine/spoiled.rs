@@ -5,7 +5,7 @@ use trials::second::memory::{record, record_mut, Record, State, COUNT, MOST_NODE
 use trials::second::Counts;
 
 /// The second engine, but spoiled in what it judges sound, or in what a founding, a reading, a beginning, a withdrawal, a delivery, a lookup, a verdict,
-/// a writing or a survey does. A delivery is spoiled in the records of its two nodes, or in all of its memory.
+/// a writing, a survey or the check of a trace does. A delivery is spoiled in the records of its two nodes, or in all of its memory.
 pub struct Spoiled {
     pub judge: SpoilJudge,
     pub found: fn(&mut [u64]),
@@ -18,6 +18,7 @@ pub struct Spoiled {
     pub verdict: fn(u64) -> u64,
     pub write: fn(&mut [u8]),
     pub survey: SpoilSurvey,
+    pub trace: SpoilTrace,
 }
 
 /// What is judged in place of a node's record.
@@ -81,6 +82,16 @@ pub struct AfterSurvey<'a> {
     pub answer: u64,
 }
 
+pub type SpoilTrace = fn(&mut AfterTrace);
+
+/// Its memory, the file that was passed, and its answer.
+pub struct AfterTrace<'a> {
+    pub state: &'a mut [u64],
+    pub tables: &'a mut [u8],
+    pub trace: &'a [u8],
+    pub answer: u64,
+}
+
 pub const UNSPOILED: Spoiled = Spoiled {
     judge: |_, _, _| {},
     found: |_| {},
@@ -93,6 +104,7 @@ pub const UNSPOILED: Spoiled = Spoiled {
     verdict: |answer| answer,
     write: |_| {},
     survey: |_| {},
+    trace: |_| {},
 };
 
 impl Spoiled {
@@ -230,6 +242,18 @@ impl Engine for Spoiled {
             answer,
         };
         (self.survey)(&mut after);
+        after.answer
+    }
+
+    fn trace(&self, state: &mut [u64], tables: &mut [u8], trace: &[u8]) -> u64 {
+        let answer = Second.trace(state, tables, trace);
+        let mut after = AfterTrace {
+            state,
+            tables,
+            trace,
+            answer,
+        };
+        (self.trace)(&mut after);
         after.answer
     }
 }
