@@ -52,9 +52,12 @@ fn runs_agree_on_exact_memory() {
     }
 }
 
-/// One call of each kind, and of those that take failed nodes one with some.
-fn each_call() -> [Call; 12] {
+/// One call of each kind, and of those that take failed nodes one with some; a trace without paths, and one of a path that every network below allows.
+fn each_call() -> [Call; 14] {
     let image = E1.to_vec();
+    let trace = |bytes: &[u8]| Call::Trace {
+        trace: bytes.to_vec(),
+    };
     let settings = [2, 2, 1];
     let (sender, receiver) = (2, 1);
     let lookup = |failed| Call::Lookup {
@@ -75,6 +78,8 @@ fn each_call() -> [Call; 12] {
         Call::Sound,
         Call::Survey { failed: 0 },
         Call::Survey { failed: !2 },
+        trace(&[0]),
+        trace(&[1, 1, 2]),
     ]
 }
 
@@ -94,7 +99,7 @@ fn around(fixed: usize) -> [usize; 6] {
 
 #[test]
 fn each_call_agrees_at_every_length() {
-    let mut taken = [0; 12];
+    let mut taken = [0; 14];
     for network in networks() {
         for state in around(STATE_WORDS) {
             for tables in around(TABLE_BYTES) {

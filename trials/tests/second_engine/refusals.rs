@@ -2,7 +2,7 @@
 
 use trials::lent::Lent;
 use trials::paper::E1;
-use trials::second;
+use trials::second::{self, Answer};
 
 use crate::support::Trial;
 
@@ -177,7 +177,7 @@ fn a_held_wait_stays_outstanding() {
 }
 
 #[test]
-fn lookup_survey_verdict_and_writing_judge_in_order() {
+fn lookup_survey_verdict_trace_and_writing_judge_in_order() {
     let mut trial = two_joins();
     for (from, to) in [(0, 1), (1, 0), (5, 1), (1, 5), (1 << 63, 1)] {
         for failed in [0, 1, 1 << 4, u64::MAX] {
@@ -195,6 +195,17 @@ fn lookup_survey_verdict_and_writing_judge_in_order() {
     }
     assert_eq!(trial.verdict().refusal, 15);
     assert_eq!(trial.write().refusal, 15);
+    // Joins under way are no refusal.
+    for (trace, answer) in [
+        (&[0][..], (0, 0, 0)),
+        (&[1, 2, 1, 2], (0, 0, 0)),
+        (&[1, 2, 1, 5], (9, 1, 2)),
+        (&[1, 2, 1, 1], (23, 1, 1)),
+        (&[1, 2, 1], (22, 0, 0)),
+    ] {
+        let traced = trial.trace(trace);
+        assert_eq!((traced.refusal, traced.path, traced.place), answer);
+    }
     let mut trial = Trial::read_in(&E1);
     let Lent {
         state, tables, out, ..
@@ -225,6 +236,9 @@ fn memory_too_short_comes_first_and_unsound_next() {
             let looked_up = second::lookup(state, tables, 0, 0, failed);
             assert_eq!(looked_up.refusal, refusal);
             assert_eq!(second::survey(state, tables, failed).refusal, refusal);
+        }
+        for trace in [&[][..], &[0], &[1, 1, 0], &[1, 2, 1, 1]] {
+            assert_eq!(second::trace(state, tables, trace).pack(), refusal.into());
         }
         assert_eq!(second::verdict(state, tables).refusal, refusal);
         assert_eq!(second::write(state, tables, &mut out).refusal, refusal);

@@ -1,7 +1,7 @@
 //! Scripts as text: what is printed is what is parsed.
 
 use trials::random::{run, Rng};
-use trials::script::Script;
+use trials::script::{Call, Line, Script};
 
 #[test]
 fn printed_scripts_are_parsed_back() {
@@ -16,10 +16,19 @@ fn every_line_has_its_text() {
     let text =
         "found 2 2 1 a0\nbegin ff 18446744073709551615\nwithdraw 18446744073709551615\ndeliver 2 1\nlookup 1 2\nverdict\nwrite\n\
                 read 0401ff\nsound\nsurvey\nlend 520 32768 40\nword 12 ffffffffffffffff\nbyte 300 7\n\
-                lookup 1 18446744073709551615 without 1 3 64\nsurvey without 2\n";
+                lookup 1 18446744073709551615 without 1 3 64\nsurvey without 2\ntrace 0102ff00\n";
     let script: Script = text.parse().unwrap();
-    assert_eq!(script.lines.len(), 15);
+    assert_eq!(script.lines.len(), 16);
     assert_eq!(script.to_string(), text);
+}
+
+/// An image or a trace of no bytes.
+#[test]
+fn nothing_behind_the_name_is_no_bytes() {
+    let script: Script = "read\ntrace\n".parse().unwrap();
+    let empty = [Call::Read { image: vec![] }, Call::Trace { trace: vec![] }];
+    assert_eq!(script.lines, empty.map(Line::Call));
+    assert_eq!(script.to_string().parse(), Ok(script));
 }
 
 /// In any order, twice, and with numbers that mean nothing.
@@ -48,6 +57,10 @@ fn other_lines_are_errors() {
         "withdraw -1",
         "withdraw a",
         "byte 3 100",
+        "trace 0",
+        "trace 0g",
+        "trace 00 00",
+        "traces 00",
         "survey 1",
         "survey without",
         "survey with 1",

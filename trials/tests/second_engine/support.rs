@@ -4,7 +4,7 @@ use trials::lent::Lent;
 use trials::second::network::Network;
 use trials::second::{
     self, BeginAnswer, DeliverAnswer, FoundAnswer, LookupAnswer, ReadAnswer, SurveyAnswer,
-    VerdictAnswer, WithdrawAnswer, WriteAnswer,
+    TraceAnswer, VerdictAnswer, WithdrawAnswer, WriteAnswer,
 };
 
 pub struct Trial {
@@ -66,6 +66,10 @@ impl Trial {
 
     pub fn survey(&self, failed: u64) -> SurveyAnswer {
         second::survey(&self.memory.state, &self.memory.tables, failed)
+    }
+
+    pub fn trace(&self, trace: &[u8]) -> TraceAnswer {
+        second::trace(&self.memory.state, &self.memory.tables, trace)
     }
 
     pub fn write(&mut self) -> WriteAnswer {
