@@ -1,4 +1,4 @@
-//! A small seeded generator, and from it settings, ids, runs, states, images and sets of failed nodes.
+//! A small seeded generator, and from it settings, ids, runs, states, images, sets of failed nodes and traces.
 
 mod calls;
 mod damage;
@@ -8,6 +8,7 @@ mod runs;
 mod seeds;
 mod sets;
 mod states;
+mod traces;
 
 pub use calls::judging_calls;
 pub use damage::damage;
@@ -20,6 +21,7 @@ pub use runs::{run, run_from_built, run_in};
 pub use seeds::seeds;
 pub use sets::{all_nodes, failed_set};
 pub use states::{built_state, reached_state, set_up_built, some_state};
+pub use traces::{damaged_trace, no_nodes, part, path_of, paths, trace_file, wandering, Path};
 
 /// Splitmix64.
 #[derive(Clone, Debug)]

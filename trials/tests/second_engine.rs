@@ -36,6 +36,8 @@ mod spoiled;
 mod support;
 #[path = "second_engine/survey.rs"]
 mod survey;
+#[path = "second_engine/traces.rs"]
+mod traces;
 #[path = "second_engine/withdrawing.rs"]
 mod withdrawing;
 #[path = "second_engine/wrong_counts.rs"]
@@ -44,6 +46,14 @@ mod wrong_counts;
 mod wrong_failures;
 #[path = "second_engine/wrong_joins.rs"]
 mod wrong_joins;
+#[path = "second_engine/wrong_trace_counts.rs"]
+mod wrong_trace_counts;
+#[path = "second_engine/wrong_trace_places.rs"]
+mod wrong_trace_places;
+#[path = "second_engine/wrong_trace_steps.rs"]
+mod wrong_trace_steps;
+#[path = "second_engine/wrong_traces.rs"]
+mod wrong_traces;
 #[path = "second_engine/wrong_turns.rs"]
 mod wrong_turns;
 #[path = "second_engine/wrong_withdrawals.rs"]

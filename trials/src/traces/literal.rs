@@ -1,5 +1,7 @@
 //! What checking a trace must answer in a sound state, read from the file's bytes one by one, and from the words and bytes of the state.
 
+use std::ops::RangeInclusive;
+
 use crate::failures::Literal;
 use crate::lent::Lent;
 use crate::second::memory::COUNT;
@@ -15,14 +17,14 @@ pub struct Passed {
     pub destination: u64,
 }
 
-/// Every number of a file in order; None if its counts are not right.
-pub fn passed(trace: &[u8]) -> Option<Vec<Passed>> {
+/// Every number of a file in order, whose paths have so many nodes; None if its counts are not right.
+pub fn passed(trace: &[u8], counts: RangeInclusive<usize>) -> Option<Vec<Passed>> {
     let mut all = vec![];
     let mut at = 1;
     for path in 1..=u64::from(*trace.first()?) {
         let nodes = usize::from(*trace.get(at)?);
         let last = at + nodes;
-        if nodes == 0 || nodes > 9 || last >= trace.len() {
+        if !counts.contains(&nodes) || last >= trace.len() {
             return None;
         }
         for here in at + 1..=last {
@@ -41,7 +43,7 @@ pub fn passed(trace: &[u8]) -> Option<Vec<Passed>> {
 
 /// The packed answer.
 pub fn judged(memory: &Lent, trace: &[u8]) -> u64 {
-    let Some(all) = passed(trace) else {
+    let Some(all) = passed(trace, 1..=9) else {
         return 22;
     };
     let nodes = 1..=memory.state[COUNT].min(64);

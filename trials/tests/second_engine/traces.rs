@@ -1,0 +1,111 @@
+//! Traces checked by the second engine.
+
+use trials::engine::Second;
+use trials::met::met_enough;
+use trials::traces::{accepted, by_hand, damaged, every_file, every_lookup, every_path};
+use trials::traces::{faulty, in_order, most, KINDS};
+
+#[test]
+fn traces_are_answered_as_worked_out_by_hand() {
+    by_hand(&Second, &Second).unwrap();
+}
+
+#[test]
+fn the_first_refusal_that_is_true_wins() {
+    in_order(&Second, &Second).unwrap();
+}
+
+#[test]
+fn every_short_file_is_answered_as_it_reads() {
+    let met = every_file(&Second, &Second).unwrap();
+    println!("{met:?}");
+    let all = ["accepted", "counts", "no node", "not allowed"];
+    assert!(met_enough(&met, 50, &all));
+}
+
+#[test]
+fn every_short_path_of_small_networks_is_answered_as_it_reads() {
+    let met = every_path(&Second, &Second).unwrap();
+    println!("{met:?}");
+    let all = [
+        "accepted",
+        "no node",
+        "the first step",
+        "the second step",
+        "the third step",
+    ];
+    assert!(met_enough(&met, 500, &all));
+}
+
+#[test]
+fn the_way_of_every_lookup_in_small_networks_is_accepted() {
+    let met = every_lookup(&Second, &Second).unwrap();
+    println!("{met:?}");
+    let all = [
+        "to itself",
+        "arrived",
+        "arrived, around a failed node",
+        "lost at once",
+        "lost on the way",
+    ];
+    assert!(met_enough(&met, 300, &all));
+}
+
+#[test]
+fn allowed_paths_are_accepted_in_any_state() {
+    let met = accepted(&Second, &Second).unwrap();
+    println!("{met:?}");
+    let paths = [
+        "to itself",
+        "arrived",
+        "arrived, around a failed node",
+        "lost at once",
+        "lost on the way",
+        "wandered nowhere",
+        "by the first of each",
+        "by a second",
+        "by a third",
+        "by a fourth",
+    ];
+    assert!(met_enough(&met, 500, &paths) && met_enough(&met, 50, &["joins under way"]));
+}
+
+#[test]
+fn faults_are_named_by_number_path_and_place() {
+    let met = faulty(&Second, &Second).unwrap();
+    println!("{met:?}");
+    let two = [
+        "22 and 22",
+        "22 and 9",
+        "22 and 23",
+        "9 and 22",
+        "9 and 9",
+        "9 and 23",
+        "23 and 22",
+        "23 and 9",
+        "23 and 23",
+    ];
+    assert!(met_enough(&met, 20, &KINDS) && met_enough(&met, 50, &two));
+    assert!(met_enough(&met, 1_000, &["a wrong end"]));
+}
+
+#[test]
+fn damaged_files_are_answered_as_they_read() {
+    let met = damaged(&Second, &Second).unwrap();
+    println!("{met:?}");
+    let all = [
+        "accepted",
+        "counts",
+        "no node",
+        "not allowed",
+        "cut or longer",
+    ];
+    assert!(met_enough(&met, 500, &all));
+}
+
+#[test]
+fn a_fault_in_any_of_255_paths_is_named() {
+    let files = most(&Second, &Second).unwrap();
+    println!("{files} files");
+    assert!(files > 500, "{files}");
+}
