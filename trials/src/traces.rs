@@ -11,6 +11,7 @@
 //! - `faulty`: files with one fault and with two, and with a wrong end.
 //! - `damaged`: files with any byte changed, cut anywhere, and longer.
 //! - `most`: as many paths as a file holds.
+//! - `long_ways`: 64 nodes with many different ways of nine nodes.
 //! - `networks`: what the faults go into.
 //! - `steps`: what these trials are made of.
 
@@ -24,6 +25,7 @@ mod faults;
 mod faulty;
 mod in_order;
 mod literal;
+mod long_ways;
 mod most;
 mod networks;
 mod steps;
@@ -38,4 +40,5 @@ pub use faults::KINDS;
 pub use faulty::faulty;
 pub use in_order::in_order;
 pub use literal::{judged, passed, Passed};
+pub use long_ways::long_ways;
 pub use most::most;

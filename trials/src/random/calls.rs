@@ -1,11 +1,11 @@
 //! One call of each kind that judges the state first.
 
-use super::{bad_number, failed_set, fresh_id, Rng};
+use super::{bad_number, failed_set, fresh_id, trace_file, Rng};
 use crate::script::Call;
 use crate::second::network::Network;
 
 /// Arguments mostly good, now and then a bad number. The withdrawal is often of the node that the beginning before it has made.
-pub fn judging_calls(rng: &mut Rng, network: &Network) -> [Call; 8] {
+pub fn judging_calls(rng: &mut Rng, network: &Network) -> [Call; 9] {
     let count = network.count();
     let node = |rng: &mut Rng| match rng.below(8) {
         0 => bad_number(rng, count),
@@ -21,6 +21,11 @@ pub fn judging_calls(rng: &mut Rng, network: &Network) -> [Call; 8] {
     };
     let highest = count as u64;
     let withdrawn = [highest, highest, highest + 1, highest + 1, node(rng)];
+    let path = |rng: &mut Rng, length| (0..length).map(|_| node(rng) as u8).collect();
+    let trace = match rng.below(4) {
+        0 => trace_file(&[]),
+        length => trace_file(&[path(rng, 1), path(rng, length)]),
+    };
     [
         Call::Sound,
         Call::Survey {
@@ -33,6 +38,7 @@ pub fn judging_calls(rng: &mut Rng, network: &Network) -> [Call; 8] {
             to: node(rng),
             failed: failed_set(rng, count),
         },
+        Call::Trace { trace },
         Call::Deliver { sender, receiver },
         Call::Begin {
             id: fresh_id(rng, network).unwrap_or(0),

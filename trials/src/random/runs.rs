@@ -1,7 +1,7 @@
 //! Random runs: a founding, then calls in any order with many joins in flight, a quarter of them bad.
 
-use super::{bad_id, bad_number, damaged_image, failed_set, fresh_id, id};
-use super::{set_up_built, settings, Rng};
+use super::{bad_id, bad_number, damaged_image, damaged_trace, failed_set, fresh_id, id};
+use super::{paths, set_up_built, settings, trace_file, Path, Rng};
 use crate::engine::Second;
 use crate::lent::{Lent, ALL};
 use crate::script::{set_of, Call, Lend, Line, Script};
@@ -105,6 +105,7 @@ impl<'a> Maker<'a> {
             9 => self.look(Call::Sound),
             10 => self.survey(),
             11 | 12 => self.withdraw(),
+            13 => self.trace(),
             _ => self.deliver(),
         }
     }
@@ -175,6 +176,17 @@ impl<'a> Maker<'a> {
         self.call(Call::Survey { failed });
     }
 
+    /// Paths that are allowed, mostly few.
+    fn paths(&mut self) -> Vec<Path> {
+        let count = self.rng.pick(&[0, 1, 1, 2, 2, 5, 5, 20, 255]);
+        paths(self.rng, &self.memory, count)
+    }
+
+    fn trace(&mut self) {
+        let trace = trace_file(&self.paths());
+        self.call(Call::Trace { trace });
+    }
+
     fn write(&mut self) {
         let length = (self.call(Call::Write) >> 8) as usize;
         if length > 0 {
@@ -194,7 +206,7 @@ impl<'a> Maker<'a> {
     }
 
     fn bad_call(&mut self) {
-        match self.rng.below(15) {
+        match self.rng.below(17) {
             0 => self.bad_founding(),
             1 => self.bad_reading(),
             2..=4 => self.bad_beginning(),
@@ -203,6 +215,7 @@ impl<'a> Maker<'a> {
             9 => self.short_output(),
             10 | 11 => self.bad_withdrawal(),
             12 => self.failed_lookup(),
+            13 | 14 => self.bad_trace(),
             _ => self.short_memory(),
         }
     }
@@ -271,6 +284,12 @@ impl<'a> Maker<'a> {
         let failed = self.failed() | set_of(&[any]);
         let (from, to) = self.rng.pick(&[(any, other), (other, any), (any, any)]);
         self.call(Call::Lookup { from, to, failed });
+    }
+
+    fn bad_trace(&mut self) {
+        let (paths, count) = (self.paths(), self.network().count() as u64);
+        let trace = damaged_trace(self.rng, &paths, count);
+        self.call(Call::Trace { trace });
     }
 
     fn short_output(&mut self) {

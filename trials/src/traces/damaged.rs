@@ -14,7 +14,7 @@ pub fn damaged(a: &dyn Engine, b: &dyn Engine) -> Result<Met, String> {
     let every: Vec<u8> = (0..=255).collect();
     for (name, memory) in networks() {
         let rng = &mut Rng::new(7);
-        let judged = judge([a, b], &memory, rng, &every, &mut met);
+        let judged = judge([a, b], memory, rng, &every, &mut met);
         judged.map_err(|what| format!("{name}: {what}"))?;
     }
     for seed in seeds(2_000, 40) {

@@ -1,8 +1,9 @@
 //! The way of every lookup in small networks, around every failed set: as a path each is accepted, and so is each part of one.
 
+use super::networks::small;
 use super::steps::is_kept;
 use crate::engine::Engine;
-use crate::failures::{small, Literal, Way};
+use crate::failures::{Literal, Way};
 use crate::lent::Lent;
 use crate::met::{meet, Met};
 use crate::random::{path_of, trace_file, Path};
@@ -15,7 +16,7 @@ pub fn every_lookup(a: &dyn Engine, b: &dyn Engine) -> Result<Met, String> {
     for (name, whole) in small() {
         let mut memory = whole.clone();
         for failed in 0..1 << whole.state[COUNT] {
-            let ways = ways(&whole, failed);
+            let ways = ways(whole, failed);
             ways.iter().for_each(|way| meet(&mut met, kind(way)));
             let paths: Vec<Path> = ways.iter().map(|way| path_of(&way.nodes)).collect();
             let parts = parts(&paths);
@@ -26,7 +27,7 @@ pub fn every_lookup(a: &dyn Engine, b: &dyn Engine) -> Result<Met, String> {
                 }
             }
         }
-        is_kept(&memory, &whole).map_err(|what| format!("{name}: {what}"))?;
+        is_kept(&memory, whole).map_err(|what| format!("{name}: {what}"))?;
     }
     Ok(met)
 }

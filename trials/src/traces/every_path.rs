@@ -1,8 +1,8 @@
 //! Every path of up to four numbers in small networks, alone in its file and behind an allowed one.
 
+use super::networks::small;
 use super::steps::{answered, is_kept};
 use crate::engine::Engine;
-use crate::failures::small;
 use crate::lent::Lent;
 use crate::met::{meet, Met};
 use crate::random::{trace_file, Path};
@@ -19,7 +19,7 @@ pub fn every_path(a: &dyn Engine, b: &dyn Engine) -> Result<Met, String> {
             alone_and_behind([a, b], &mut memory, path, &mut met)
                 .map_err(|what| format!("{name}: {what}"))?;
         }
-        is_kept(&memory, &whole).map_err(|what| format!("{name}: {what}"))?;
+        is_kept(&memory, whole).map_err(|what| format!("{name}: {what}"))?;
     }
     Ok(met)
 }

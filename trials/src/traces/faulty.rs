@@ -15,10 +15,10 @@ pub fn faulty(a: &dyn Engine, b: &dyn Engine) -> Result<Met, String> {
     let mut pair = Pair::new(a, b);
     for (name, memory) in networks() {
         pair.restore(&memory.state, &memory.tables);
-        let paths = ways(&memory);
-        let judged = one_fault(&mut pair, &memory, &paths, &mut met)
-            .and_then(|()| two_faults(&mut pair, &memory, &paths, &mut met))
-            .and_then(|()| wrong_ends(&mut pair, &memory, &paths, &mut met));
+        let paths = ways(memory);
+        let judged = one_fault(&mut pair, memory, &paths, &mut met)
+            .and_then(|()| two_faults(&mut pair, memory, &paths, &mut met))
+            .and_then(|()| wrong_ends(&mut pair, memory, &paths, &mut met));
         judged.map_err(|what| format!("{name}: {what}"))?;
     }
     Ok(met)

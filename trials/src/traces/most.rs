@@ -1,5 +1,6 @@
 //! As many paths as a file holds, of nine nodes each: a fault in any of them is named by its path and its place.
 
+use super::long_ways;
 use super::networks::{chain, network};
 use crate::compare::Pair;
 use crate::engine::Engine;
@@ -17,13 +18,16 @@ const EACH_PLACE: [usize; 6] = [1, 2, 127, 128, 254, 255];
 
 /// Also answers how many files there were.
 pub fn most(a: &dyn Engine, b: &dyn Engine) -> Result<usize, String> {
-    let mut pair = Pair::new(a, b);
+    Ok(in_chain(&mut Pair::new(a, b))? + among_64(&mut Pair::new(a, b))?)
+}
+
+fn in_chain(pair: &mut Pair) -> Result<usize, String> {
     let memory = network(chain());
     pair.restore(&memory.state, &memory.tables);
     let mut files = 0;
     let mut expect = |trace: Vec<u8>, answer| {
         files += 1;
-        expect(&mut pair, Call::Trace { trace }, answer)
+        expect(pair, Call::Trace { trace }, answer)
     };
     expect(trace_file(&vec![WAY.to_vec(); PATHS]), 0)?;
     for path in 1..=PATHS {
@@ -44,6 +48,23 @@ pub fn most(a: &dyn Engine, b: &dyn Engine) -> Result<usize, String> {
         expect(trace, 22)?;
     }
     Ok(files)
+}
+
+/// Different paths: all of them, and each alone made to stay somewhere on its way.
+fn among_64(pair: &mut Pair) -> Result<usize, String> {
+    let (memory, paths) = long_ways();
+    pair.restore(&memory.state, &memory.tables);
+    let trace = trace_file(&paths);
+    expect(pair, Call::Trace { trace }, 0)?;
+    for path in 1..=PATHS {
+        let step = 1 + path % 7;
+        let mut wrong = paths.clone();
+        wrong[path - 1][step] = wrong[path - 1][step - 1];
+        let trace = trace_file(&wrong);
+        let named = (step as u64) << 16 | (path as u64) << 8;
+        expect(pair, Call::Trace { trace }, named | 23)?;
+    }
+    Ok(1 + PATHS)
 }
 
 /// The file with another number at this place of this path.

@@ -1,22 +1,38 @@
-//! Networks and allowed paths to put faults into.
+//! Networks, made once, and allowed paths to put faults into.
+
+use std::sync::OnceLock;
 
 use crate::by_hand::{five, surveyed};
 use crate::engine::Second;
-use crate::failures::{joined, small, Literal};
+use crate::failures::{self, joined, Literal};
 use crate::lent::Lent;
 use crate::paper::E1;
 use crate::random::{path_of, Path, Rng};
 use crate::script::Call;
 use crate::second::memory::COUNT;
 
+/// A network and its name.
+pub type Named = (String, Lent);
+
+/// The small networks in which nodes fail.
+pub fn small() -> &'static [Named] {
+    static SMALL: OnceLock<Vec<Named>> = OnceLock::new();
+    SMALL.get_or_init(failures::small)
+}
+
 /// Those worked out by hand, one with entries of four, and some small ones, with joins under way too.
-pub fn networks() -> Vec<(String, Lent)> {
+pub fn networks() -> &'static [Named] {
+    static NETWORKS: OnceLock<Vec<Named>> = OnceLock::new();
+    NETWORKS.get_or_init(made)
+}
+
+fn made() -> Vec<Named> {
     let by_hand = [("E1", E1.to_vec()), ("five", five()), ("chain", chain())];
     let read = |(name, image): (&str, Vec<u8>)| (name.to_string(), network(image));
     let deep = joined(&mut Rng::new(1), [2, 6, 4], 20);
-    let mut all: Vec<(String, Lent)> = by_hand.map(read).into();
+    let mut all: Vec<Named> = by_hand.map(read).into();
     all.push(("entries of four".into(), deep));
-    all.extend(small().into_iter().step_by(5));
+    all.extend(small().iter().step_by(5).cloned());
     all
 }
 

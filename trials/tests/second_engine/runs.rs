@@ -28,6 +28,7 @@ fn calls_on_damaged_states_leave_alone_what_they_must() {
         script.lines.push(damage(&mut rng, &memory));
         script.call(Call::Sound);
         script.call(Call::Survey { failed: 0 });
+        script.call(Call::Trace { trace: vec![0] });
         let node = memory.state[COUNT];
         script.call(Call::Withdraw { node });
         let (other, _) = run(&mut rng, 20);
@@ -48,7 +49,7 @@ fn name(line: &Line) -> String {
 }
 
 /// What the calls of runs are refused by, 0 for a taken one.
-const MET: [(&str, &[u64]); 9] = [
+const MET: [(&str, &[u64]); 10] = [
     ("found", &[0, 1, 5, 7]),
     ("read", &[0, 1, 3, 4, 5, 6, 7, 8, 9, 10, 17, 18]),
     ("begin", &[0, 1, 7, 8, 9, 11, 12]),
@@ -58,6 +59,7 @@ const MET: [(&str, &[u64]); 9] = [
     ("verdict", &[0, 1, 15]),
     ("write", &[0, 1, 15, 16]),
     ("survey", &[0, 1]),
+    ("trace", &[0, 1, 9, 22, 23]),
 ];
 
 #[test]
@@ -116,4 +118,28 @@ fn runs_meet_lookups_around_failed_nodes() {
     }
     println!("{around} around, {lost} lost");
     assert!(around > 20 && lost > 20, "{around} around, {lost} lost");
+}
+
+/// Traces that are accepted and refused, with many paths, and while nodes join.
+#[test]
+fn runs_meet_traces() {
+    let (mut answers, mut joining) = ([0; 24], 0);
+    for seed in 5_000..5_200 {
+        let (script, _) = run(&mut Rng::new(seed), 300);
+        let mut memory = Lent::noise();
+        for line in &script.lines {
+            let answer = memory.obey(&Second, line);
+            if matches!(line, Line::Call(Call::Trace { .. })) {
+                answers[(answer & 0xff) as usize] += 1;
+                let network = Network::decode(memory.used_state());
+                joining += usize::from(answer == 0 && !network.all_in_system());
+            }
+        }
+    }
+    let [accepted, no_node, counts, steps] = [0, 9, 22, 23].map(|number| answers[number]);
+    println!(
+        "{accepted} accepted, {joining} while nodes join; 9: {no_node}, 22: {counts}, 23: {steps}"
+    );
+    let enough = [accepted, joining, no_node, counts, steps].map(|met| met > 100);
+    assert_eq!(enough, [true; 5]);
 }

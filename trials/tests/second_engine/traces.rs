@@ -2,8 +2,13 @@
 
 use trials::engine::Second;
 use trials::met::met_enough;
+use trials::random::trace_file;
+use trials::second::memory::COUNT;
+use trials::second::TraceAnswer;
 use trials::traces::{accepted, by_hand, damaged, every_file, every_lookup, every_path};
-use trials::traces::{faulty, in_order, most, KINDS};
+use trials::traces::{faulty, in_order, long_ways, most, KINDS};
+
+use crate::support::Trial;
 
 #[test]
 fn traces_are_answered_as_worked_out_by_hand() {
@@ -107,5 +112,18 @@ fn damaged_files_are_answered_as_they_read() {
 fn a_fault_in_any_of_255_paths_is_named() {
     let files = most(&Second, &Second).unwrap();
     println!("{files} files");
-    assert!(files > 500, "{files}");
+    assert!(files > 800, "{files}");
+}
+
+/// What the bench times.
+#[test]
+fn there_are_255_different_ways_of_nine_nodes_in_a_network_of_64() {
+    let (memory, mut paths) = long_ways();
+    assert_eq!(memory.state[COUNT], 64);
+    paths.sort();
+    paths.dedup();
+    assert_eq!(paths.len(), 255);
+    assert!(paths.iter().all(|path| path.len() == 9));
+    let traced = Trial { memory }.trace(&trace_file(&paths));
+    assert_eq!(traced, TraceAnswer::default());
 }
