@@ -28,6 +28,8 @@ mod runs;
 mod support;
 #[path = "archive/survey.rs"]
 mod survey;
+#[path = "archive/traces.rs"]
+mod traces;
 #[path = "archive/withdrawing.rs"]
 mod withdrawing;
 #[path = "archive/writing.rs"]

@@ -8,10 +8,12 @@ use trials::engine::Second;
 use trials::fenced::{Fenced, FencedArchive, Place};
 use trials::lent::{ALL, EXACT};
 use trials::paper::E1;
-use trials::random::{cuts, image, image_damages, run, run_from_built, seeds, Rng};
+use trials::random::{cuts, damaged_trace, image, image_damages, paths, run, run_from_built};
+use trials::random::{seeds, trace_file, Rng};
 use trials::records::{by_hand, long, Judged};
 use trials::script::{Call, Lend, Line, Script};
-use trials::second::memory::{STATE_WORDS, TABLE_BYTES};
+use trials::second::memory::{COUNT, STATE_WORDS, TABLE_BYTES};
+use trials::second::Refusal;
 
 use crate::support::{full_image, lent_lengths};
 
@@ -154,6 +156,33 @@ fn images_of_every_length_are_judged_alike() {
         }
         agree(seed, &script);
     }
+}
+
+/// Cut at every byte, one byte longer, and damaged: nothing behind a file is read, whatever its counts say.
+#[test]
+fn traces_of_every_length_are_judged_alike() {
+    let mut answers = [0; Refusal::NUMBERS];
+    for seed in seeds(400, 12) {
+        let mut rng = Rng::new(seed);
+        let (mut script, memory) = run(&mut rng, 60);
+        let paths = paths(&mut rng, &memory, 8);
+        let count = memory.state[COUNT];
+        let file = trace_file(&paths);
+        let whole = [file.clone(), [&file[..], &[1]].concat()];
+        let damaged = (0..20).map(|_| damaged_trace(&mut rng, &paths, count));
+        let files = cuts(&file).chain(whole).chain(damaged);
+        let files: Vec<Vec<u8>> = files.collect();
+        let before = script.lines.len() + 1;
+        files
+            .into_iter()
+            .for_each(|trace| script.call(Call::Trace { trace }));
+        let traced = agree(seed, &exactly(script)).split_off(before);
+        traced
+            .into_iter()
+            .for_each(|answer| answers[answer as usize & 0xff] += 1);
+    }
+    println!("{answers:?}");
+    assert!([0, 9, 22, 23].iter().all(|&number| answers[number] > 10));
 }
 
 #[test]

@@ -1,0 +1,61 @@
+//! Traces checked by the proved engine beside the second one.
+
+use trials::archive::Archive;
+use trials::engine::Second;
+use trials::fenced::{FencedArchive, Place};
+use trials::traces::{accepted, by_hand, damaged, every_file, every_lookup, every_path};
+use trials::traces::{faulty, in_order, most};
+
+#[test]
+fn traces_are_answered_as_worked_out_by_hand() {
+    by_hand(&Archive, &Second).unwrap();
+    for place in Place::ALL {
+        by_hand(&FencedArchive(place), &Second).unwrap();
+    }
+}
+
+#[test]
+fn the_first_refusal_that_is_true_wins() {
+    in_order(&Archive, &Second).unwrap();
+    for place in Place::ALL {
+        in_order(&FencedArchive(place), &Second).unwrap();
+    }
+}
+
+#[test]
+fn every_short_file_is_answered_as_it_reads() {
+    every_file(&Archive, &Second).unwrap();
+}
+
+#[test]
+fn every_short_path_of_small_networks_is_answered_as_it_reads() {
+    every_path(&Archive, &Second).unwrap();
+}
+
+#[test]
+fn the_way_of_every_lookup_in_small_networks_is_accepted() {
+    every_lookup(&Archive, &Second).unwrap();
+}
+
+#[test]
+fn allowed_paths_are_accepted_in_any_state() {
+    accepted(&Archive, &Second).unwrap();
+}
+
+#[test]
+fn faults_are_named_by_number_path_and_place() {
+    faulty(&Archive, &Second).unwrap();
+}
+
+#[test]
+fn damaged_files_are_answered_as_they_read() {
+    damaged(&Archive, &Second).unwrap();
+}
+
+#[test]
+fn a_fault_in_any_of_255_paths_is_named() {
+    most(&Archive, &Second).unwrap();
+    for place in Place::ALL {
+        most(&FencedArchive(place), &Second).unwrap();
+    }
+}
