@@ -387,6 +387,88 @@ fn other_words_behind_a_lookup_or_a_survey_are_not_understood() {
     }
 }
 
+/// Of the files of `traces_of_files`: before founding, in a network of one node and of two, and with a third that joins.
+const TRACES: &str = "\
+refused 2: the state is not sound
+refused 2: the state is not sound
+trace: the file cannot be read
+found: node 1
+trace: 0 paths accepted
+trace: 1 path accepted
+refused 9 at path 1, place 2: a node number is 0 or above the number of nodes
+refused 22: the trace is empty, a count is not 1 to 9, or the length differs from the counts
+trace: the file cannot be read
+begin: node 2
+refused 23 at path 1, step 1: the step goes to no node of the lookup's entry, or past the destination
+deliver: copied
+deliver: attached at level 0, settled
+trace: 1 path accepted
+trace: 2 paths accepted
+refused 23 at path 2, step 2: the step goes to no node of the lookup's entry, or past the destination
+refused 9 at path 2, place 1: a node number is 0 or above the number of nodes
+refused 22: the trace is empty, a count is not 1 to 9, or the length differs from the counts
+refused 22: the trace is empty, a count is not 1 to 9, or the length differs from the counts
+begin: node 3
+trace: 2 paths accepted
+trace: 0 paths accepted
+line 24: not understood
+line 25: not understood
+line 26: not understood
+line 27: not understood
+trace: 0 paths accepted
+sound: the state is sound
+";
+
+#[test]
+fn traces_of_files() {
+    let file = |(name, bytes): (&str, &[u8])| (name.to_string(), bytes.to_vec());
+    let files = [
+        ("none", &[0][..]),
+        ("one", &[1, 1, 1]),
+        ("step", &[1, 2, 1, 2]),
+        ("both", &[2, 2, 1, 2, 2, 2, 1]),
+        ("past", &[2, 2, 1, 2, 3, 2, 1, 1]),
+        ("other", &[2, 2, 1, 1, 2, 3, 1]),
+        ("empty", &[]),
+        ("cut", &[2, 2, 1, 2, 3, 2, 1]),
+    ];
+    let script = b"\
+trace none\ntrace cut\ntrace nothing\nfound 2 2 1 0\ntrace none\ntrace one\ntrace step\ntrace empty\n\
+trace nothing\nbegin 1 1\ntrace step\ndeliver 2 1\ndeliver 2 1\n\ttrace step # one path\ntrace both\n\
+trace past\ntrace other\ntrace cut\ntrace .\nbegin 10 1\ntrace both\ntrace none\n\n\
+trace\ntrace none none\nTrace none\ntraces none\ntrace\tnone\r\nsound";
+    assert_eq!(printed_beside(&files.map(file), script), TRACES);
+}
+
+/// What is printed of a trace, in a network of 64 nodes that know only themselves.
+fn traced(trace: &[u8]) -> String {
+    let alone = surveyed().into_iter().find(|case| case.name == "64 alone");
+    let image = alone.expect("it is there").image;
+    let files = [("image".into(), image), ("trace".into(), trace.to_vec())];
+    let printed = printed_beside(&files, b"load image\ntrace trace");
+    let (_, line) = printed.split_once('\n').expect("two answers");
+    line.to_string()
+}
+
+#[test]
+fn traces_of_255_paths_and_overlong_files() {
+    let most = [&[255][..], &[1, 64].repeat(255)].concat();
+    assert_eq!(traced(&most), "trace: 255 paths accepted\n");
+    let last = [&most[..510], &[65]].concat();
+    let refused = traced(&last);
+    assert!(refused.starts_with("refused 9 at path 255, place 1: "));
+    let nine = [&most[..509], &[9, 64, 64, 64, 64, 64, 64, 64, 64, 63]].concat();
+    let refused = traced(&nine);
+    assert!(refused.starts_with("refused 23 at path 255, step 1: "));
+    let counts = "refused 22: the trace is empty, a count is not 1 to 9, or the length differs from the counts\n";
+    for length in [512, 2_552, 65_535, 65_536, 65_537, 70_000, 1_000_000] {
+        let mut long = most.clone();
+        long.resize(length, 1);
+        assert_eq!(traced(&long), counts, "{length}");
+        assert_eq!(traced(&vec![0; length]), counts, "{length}");
+    }
+}
+
 /// A section of docs/REPLAY.md: its first block is a script, and its second what is printed.
 fn blocks(heading: &str) -> [String; 2] {
     let page = fs::read_to_string(root().join("docs/REPLAY.md")).expect("the page");

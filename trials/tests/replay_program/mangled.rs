@@ -233,7 +233,11 @@ fn random_words_print_the_same() {
         let start: &[u8] = rng.pick(&[b"", b"found 2 2 1 0\n", b"found 16 2 2 0\n"]);
         let lines: Vec<Vec<u8>> = (0..rng.below(300)).map(|_| words(&mut rng)).collect();
         let script = [start, &lines.join(&b'\n')].concat();
-        tally(&mut counts, &agree(&script, &[], &format!("seed {seed}")));
+        let one = ("trace0".into(), vec![1, 1, 1]);
+        tally(
+            &mut counts,
+            &agree(&script, &[one], &format!("seed {seed}")),
+        );
     }
     println!("{counts:?}");
     assert!(all_kinds(&counts), "{counts:?}");
