@@ -2,8 +2,9 @@
 //!
 //! A network grows to its size with joins in flight, each of them begun, withdrawn and begun again; then nodes are looked up in it, and it is judged,
 //! surveyed and written, with the counts of its joins, and read back last, as reading sets these to zero. Lookups and surveys are also made while every
-//! fourth node has failed. The two engines play this in turn for many rounds; a call counts with its shortest time over the rounds. The share of
-//! `sound` in a call is told by further rounds.
+//! fourth node has failed. Traces are checked in a network of their own, in which every path has nine nodes: as many paths as a file holds, half as
+//! many, and none, which leaves the check of the state. The two engines play this in turn for many rounds; a call counts with its shortest time over the
+//! rounds. The share of `sound` in a call is told by further rounds.
 
 use std::hint::black_box;
 use std::time::Instant;
@@ -12,16 +13,17 @@ use trials::archive::Archive;
 use trials::engine::{Engine, Second};
 use trials::lent::Lent;
 use trials::panel::panels;
-use trials::random::{fresh_id, Rng};
+use trials::random::{fresh_id, trace_file, Rng};
 use trials::script::{set_of, Call};
 use trials::second::memory::{STATE_WORDS, TABLE_BYTES};
 use trials::second::network::Network;
+use trials::traces::long_ways;
 
 const ROUNDS: usize = 150;
 const IN_FLIGHT: usize = 4;
 
-/// Calls that judge the state first; those `without` have failed nodes.
-const JUDGING: [&str; 9] = [
+/// Calls that judge the state first; those `without` have failed nodes, and a trace is `of` so many paths.
+const JUDGING: [&str; 12] = [
     "begin",
     "withdraw",
     "deliver",
@@ -31,6 +33,9 @@ const JUDGING: [&str; 9] = [
     "survey",
     "survey without",
     "write",
+    "trace of 255",
+    "trace of 127",
+    "trace of 0",
 ];
 
 /// Nodes 4, 8, 12, ..
@@ -107,6 +112,26 @@ fn round(settings: [u64; 3], nodes: usize) -> Vec<Call> {
     calls
 }
 
+/// The calls of a round of traces: the network is read, then judged, and traces in it are checked, as often as it has nodes.
+fn round_of_traces() -> Vec<Call> {
+    let (mut memory, paths) = long_ways();
+    assert!(paths.iter().all(|path| path.len() == 9));
+    let length = (memory.call(&Second, &Call::Write) >> 8) as usize;
+    let image = memory.out[..length].to_vec();
+    let traces = [255, 127, 0].map(|count| trace_file(&paths[..count]));
+    let mut calls = vec![Call::Read { image }];
+    for _ in 0..64 {
+        let traced = traces.clone().map(|trace| Call::Trace { trace });
+        for call in [Call::Sound].into_iter().chain(traced) {
+            let engines: [&dyn Engine; 2] = [&Archive, &Second];
+            let answers = engines.map(|engine| memory.call(engine, &call));
+            assert_eq!(answers, [0; 2], "it is accepted");
+            calls.push(call);
+        }
+    }
+    calls
+}
+
 /// An engine's shortest time for each call so far, in nanoseconds.
 struct Clock<'a> {
     engine: &'a dyn Engine,
@@ -175,24 +200,32 @@ fn plain_pass(memory: &Lent) -> f64 {
 
 /// Where calls of this kind are.
 fn places(calls: &[Call], kind: &str) -> Vec<usize> {
+    let of_kind = |&place: &usize| is_of(&calls[place], kind);
+    (0..calls.len()).filter(of_kind).collect()
+}
+
+fn is_of(call: &Call, kind: &str) -> bool {
+    if let Call::Trace { trace } = call {
+        return kind == format!("trace of {}", trace[0]);
+    }
     let (name, failed) = match kind.strip_suffix(" without") {
         Some(name) => (name, true),
         None => (kind, false),
     };
-    let of_kind = |&place: &usize| {
-        let text = calls[place].to_string();
-        text.starts_with(name) && text.contains("without") == failed
-    };
-    (0..calls.len()).filter(of_kind).collect()
+    let text = call.to_string();
+    text.starts_with(name) && text.contains("without") == failed
 }
 
-/// A line for each kind of call.
+/// A line for each kind of call that there is.
 fn print(calls: &[Call], proved: &Clock, second: &Clock) {
     let shares = shares_of_sound(proved.engine, calls).map(|share| format!("{share:>8.2}"));
     let judging = JUDGING.into_iter().zip(shares);
     let others = ["found", "read", "sound"].map(|kind| (kind, String::new()));
     for (kind, share) in others.into_iter().chain(judging) {
         let places = places(calls, kind);
+        if places.is_empty() {
+            continue;
+        }
         let (ours, theirs) = (proved.mean(&places), second.mean(&places));
         let ratio = ours / theirs;
         println!("{kind:<14} {ours:>10.0} {theirs:>10.0} {ratio:>8.2} {share}");
@@ -206,23 +239,27 @@ fn print(calls: &[Call], proved: &Clock, second: &Clock) {
     );
 }
 
+/// Plays the calls on a network of these settings and so many nodes by both engines in turn, and prints their times.
+fn bench([base, digits, depth]: [u64; 3], nodes: usize, calls: &[Call]) {
+    let mut proved = Clock::new(&Archive, calls.len());
+    let mut second = Clock::new(&Second, calls.len());
+    for _ in 0..ROUNDS {
+        proved.play(calls);
+        second.play(calls);
+    }
+    assert!(proved.memory == second.memory, "the engines differ");
+    println!("{nodes} nodes, b {base}, d {digits}, K {depth}");
+    println!(
+        "{:>25} {:>10} {:>8} {:>8}",
+        "proved", "second", "ratio", "sound"
+    );
+    print(calls, &proved, &second);
+}
+
 fn main() {
     println!("ns a call, and the share of sound in the proved engine's");
     for (settings, nodes) in [([16, 8, 4], 64), ([4, 4, 2], 64), ([4, 4, 2], 5)] {
-        let calls = round(settings, nodes);
-        let mut proved = Clock::new(&Archive, calls.len());
-        let mut second = Clock::new(&Second, calls.len());
-        for _ in 0..ROUNDS {
-            proved.play(&calls);
-            second.play(&calls);
-        }
-        assert!(proved.memory == second.memory, "the engines differ");
-        let [base, digits, depth] = settings;
-        println!("{nodes} nodes, b {base}, d {digits}, K {depth}");
-        println!(
-            "{:>25} {:>10} {:>8} {:>8}",
-            "proved", "second", "ratio", "sound"
-        );
-        print(&calls, &proved, &second);
+        bench(settings, nodes, &round(settings, nodes));
     }
+    bench([2, 8, 4], 64, &round_of_traces());
 }
