@@ -6,6 +6,7 @@
 //! - `every_file`: every short file of a few bytes.
 //! - `every_path`: every short path in small networks.
 //! - `every_lookup`: the way of every lookup in small networks, around every failed set.
+//! - `by_lookups`: paths judged by lookups alone.
 //! - `accepted`: many allowed paths in any state.
 //! - `faults`: one fault of each kind in a path.
 //! - `faulty`: files with one fault and with two, and with a wrong end.
@@ -17,6 +18,7 @@
 
 mod accepted;
 mod by_hand;
+mod by_lookups;
 mod damaged;
 mod every_file;
 mod every_lookup;
@@ -32,6 +34,7 @@ mod steps;
 
 pub use accepted::accepted;
 pub use by_hand::by_hand;
+pub use by_lookups::by_lookups;
 pub use damaged::damaged;
 pub use every_file::every_file;
 pub use every_lookup::every_lookup;

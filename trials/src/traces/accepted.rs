@@ -1,5 +1,6 @@
 //! Paths that are allowed, in any sound state, up to 64 nodes and 255 paths: those of lookups around failed nodes, and by any node of each entry.
 
+use super::steps::kind;
 use crate::compare::Pair;
 use crate::engine::Engine;
 use crate::failures::{joined, Literal};
@@ -47,7 +48,7 @@ fn state(rng: &mut Rng) -> Lent {
     }
 }
 
-/// So many paths of each kind, and of all kinds.
+/// So many paths of lookups, by any nodes, of both kinds, and parts of these.
 fn judge(
     pair: &mut Pair,
     rng: &mut Rng,
@@ -67,14 +68,12 @@ fn judge(
         let trace = trace_file(&paths);
         expect(pair, Call::Trace { trace }, 0)?;
         meet(met, "files");
-        met.entry("paths")
-            .and_modify(|met| *met += count)
-            .or_default();
+        *met.entry("paths").or_default() += count;
     }
     Ok(())
 }
 
-/// The way that a lookup goes by both engines, and the literal one.
+/// The literal way of a lookup, which ends as the engines' do.
 fn looked_up(pair: &mut Pair, rng: &mut Rng, memory: &Lent, met: &mut Met) -> Result<Path, String> {
     let [from, to] = ends(rng, memory);
     let count = memory.state[COUNT] as usize;
@@ -83,17 +82,7 @@ fn looked_up(pair: &mut Pair, rng: &mut Rng, memory: &Lent, met: &mut Met) -> Re
     let failed = (failed_set(rng, count) | set_of(front)) & !set_of(&[from, to]);
     let way = Literal::new(memory, failed).way(from, to);
     expect(pair, Call::Lookup { from, to, failed }, way.answer())?;
-    let around = way.passed_over.iter().any(|&passed| passed > 0);
-    meet(
-        met,
-        match (way.arrived, way.nodes.len()) {
-            (true, 1) => "to itself",
-            (true, _) if around => "arrived, around a failed node",
-            (true, _) => "arrived",
-            (false, 1) => "lost at once",
-            (false, _) => "lost on the way",
-        },
-    );
+    meet(met, kind(&way));
     Ok(path_of(&way.nodes))
 }
 
@@ -101,10 +90,9 @@ fn looked_up(pair: &mut Pair, rng: &mut Rng, memory: &Lent, met: &mut Met) -> Re
 fn wandered(rng: &mut Rng, memory: &Lent, met: &mut Met) -> Path {
     let ends = ends(rng, memory);
     let path = wandering(rng, memory, ends);
-    let literal = Literal::new(memory, 0);
-    let goes_on = ends[1];
+    let (literal, [_, to]) = (Literal::new(memory, 0), ends);
     let slots = path.windows(2).map(|step| {
-        let entry = literal.entry(step[0].into(), goes_on);
+        let entry = literal.entry(step[0].into(), to);
         let slot = entry.iter().position(|&node| node == step[1].into());
         slot.expect("a wandering goes by the entries")
     });

@@ -1,7 +1,7 @@
 //! The way of every lookup in small networks, around every failed set: as a path each is accepted, and so is each part of one.
 
 use super::networks::small;
-use super::steps::is_kept;
+use super::steps::{is_kept, kind};
 use crate::engine::Engine;
 use crate::failures::{Literal, Way};
 use crate::lent::Lent;
@@ -59,15 +59,4 @@ fn accepted(engines: [&dyn Engine; 2], memory: &mut Lent, paths: &[Path]) -> Res
         }
     }
     Ok(())
-}
-
-fn kind(way: &Way) -> &'static str {
-    let around = way.passed_over.iter().any(|&passed| passed > 0);
-    match (way.arrived, way.nodes.len()) {
-        (true, 1) => "to itself",
-        (true, _) if around => "arrived, around a failed node",
-        (true, _) => "arrived",
-        (false, 1) => "lost at once",
-        (false, _) => "lost on the way",
-    }
 }

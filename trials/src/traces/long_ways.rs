@@ -1,5 +1,6 @@
 //! A network of 64 nodes with eight binary digits, in which many ways have nine nodes: one hop for each digit.
 
+use super::networks::network;
 use crate::by_hand::image;
 use crate::failures::Literal;
 use crate::lent::Lent;
@@ -7,8 +8,6 @@ use crate::panel::matched;
 use crate::random::{path_of, Path};
 use crate::second::memory::COUNT;
 use crate::second::{digit, Settings};
-
-use super::networks::network;
 
 const SETTINGS: [u8; 3] = [2, 8, 4];
 

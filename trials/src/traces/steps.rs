@@ -1,13 +1,13 @@
 //! What these trials are made of.
 
+use super::judged;
 use crate::engine::Engine;
+use crate::failures::Way;
 use crate::lent::Lent;
 use crate::met::{meet, Met};
 use crate::script::Call;
 
-use super::judged;
-
-/// Both engines answer what the literal reading does, and leave the network; answers it.
+/// Both engines answer what the literal reading does; answers it.
 pub fn answered(
     engines: [&dyn Engine; 2],
     memory: &mut Lent,
@@ -28,12 +28,24 @@ pub fn answered(
 }
 
 /// An answer by its number.
-pub fn outcome(answer: u64) -> &'static str {
+fn outcome(answer: u64) -> &'static str {
     match answer & 0xff {
         0 => "accepted",
         22 => "counts",
         9 => "no node",
         _ => "not allowed",
+    }
+}
+
+/// A lookup by its way.
+pub fn kind(way: &Way) -> &'static str {
+    let around = way.passed_over.iter().any(|&passed| passed > 0);
+    match (way.arrived, way.nodes.len()) {
+        (true, 1) => "to itself",
+        (true, _) if around => "arrived, around a failed node",
+        (true, _) => "arrived",
+        (false, 1) => "lost at once",
+        (false, _) => "lost on the way",
     }
 }
 

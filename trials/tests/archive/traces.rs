@@ -3,8 +3,8 @@
 use trials::archive::Archive;
 use trials::engine::Second;
 use trials::fenced::{FencedArchive, Place};
-use trials::traces::{accepted, by_hand, damaged, every_file, every_lookup, every_path};
-use trials::traces::{faulty, in_order, most};
+use trials::traces::{accepted, by_hand, by_lookups, damaged, every_file, every_lookup};
+use trials::traces::{every_path, faulty, in_order, most};
 
 #[test]
 fn traces_are_answered_as_worked_out_by_hand() {
@@ -35,6 +35,11 @@ fn every_short_path_of_small_networks_is_answered_as_it_reads() {
 #[test]
 fn the_way_of_every_lookup_in_small_networks_is_accepted() {
     every_lookup(&Archive, &Second).unwrap();
+}
+
+#[test]
+fn lookups_tell_which_paths_are_allowed() {
+    by_lookups(&Archive, &Second).unwrap();
 }
 
 #[test]

@@ -5,8 +5,8 @@ use trials::met::met_enough;
 use trials::random::trace_file;
 use trials::second::memory::COUNT;
 use trials::second::TraceAnswer;
-use trials::traces::{accepted, by_hand, damaged, every_file, every_lookup, every_path};
-use trials::traces::{faulty, in_order, long_ways, most, KINDS};
+use trials::traces::{accepted, by_hand, by_lookups, damaged, every_file, every_lookup};
+use trials::traces::{every_path, faulty, in_order, long_ways, most, KINDS};
 
 use crate::support::Trial;
 
@@ -54,6 +54,13 @@ fn the_way_of_every_lookup_in_small_networks_is_accepted() {
         "lost on the way",
     ];
     assert!(met_enough(&met, 300, &all));
+}
+
+#[test]
+fn lookups_tell_which_paths_are_allowed() {
+    let met = by_lookups(&Second, &Second).unwrap();
+    println!("{met:?}");
+    assert!(met_enough(&met, 1_000, &["accepted", "not allowed"]));
 }
 
 #[test]

@@ -16,17 +16,17 @@ const WRONG: [Wrong; 14] = [
     (
         "only the first of an entry is allowed",
         |after| after.steps(|literal, at, next| in_front(literal, at, next, 1)),
-        "by hand, every path, every lookup, accepted, faulty, damaged",
+        "by hand, every path, every lookup, by its lookups, accepted, faulty, damaged",
     ),
     (
         "only the first two are allowed",
         |after| after.steps(|literal, at, next| in_front(literal, at, next, 2)),
-        "by hand, every path, every lookup, accepted, faulty, damaged",
+        "by hand, every path, every lookup, by its lookups, accepted, faulty, damaged",
     ),
     (
         "only the first three are allowed",
         |after| after.steps(|literal, at, next| in_front(literal, at, next, 3)),
-        "every path, every lookup, accepted, faulty, damaged",
+        "every path, every lookup, by its lookups, accepted, faulty, damaged",
     ),
     (
         "a step past the destination is allowed",
@@ -35,7 +35,7 @@ const WRONG: [Wrong; 14] = [
                 at.node == at.destination || BY_THE_ENTRY(literal, at, next)
             })
         },
-        "by hand, in order, every file, every path, faulty, damaged, most",
+        "by hand, in order, every file, every path, by its lookups, faulty, damaged, most",
     ),
     (
         "the destination may stand twice",
@@ -44,7 +44,7 @@ const WRONG: [Wrong; 14] = [
                 [at.node, next] == [at.destination; 2] || BY_THE_ENTRY(literal, at, next)
             })
         },
-        "by hand, in order, every file, every path, faulty, damaged, most",
+        "by hand, in order, every file, every path, by its lookups, faulty, damaged, most",
     ),
     (
         "a step may stay",
@@ -53,7 +53,7 @@ const WRONG: [Wrong; 14] = [
                 at.node == next && next != at.destination || BY_THE_ENTRY(literal, at, next)
             })
         },
-        "by hand, every file, every path, faulty, damaged, most",
+        "by hand, every file, every path, by its lookups, faulty, damaged, most",
     ),
     (
         "a step to the destination is always allowed",
@@ -62,7 +62,7 @@ const WRONG: [Wrong; 14] = [
                 at.node != next && next == at.destination || BY_THE_ENTRY(literal, at, next)
             })
         },
-        "by hand, in order, every path, faulty, damaged",
+        "by hand, in order, every path, by its lookups, faulty, damaged",
     ),
     (
         "any node that matches the destination in more digits is allowed",
@@ -79,7 +79,7 @@ const WRONG: [Wrong; 14] = [
             });
             after.answer = back.map_or(0, |at| at.refused(23));
         },
-        "by hand, in order, every path, faulty, damaged",
+        "by hand, in order, every path, by its lookups, faulty, damaged",
     ),
     (
         "each step is judged as a way to the next node",
@@ -88,7 +88,7 @@ const WRONG: [Wrong; 14] = [
                 at.node != at.destination && literal.entry(at.node, next).contains(&next)
             })
         },
-        "by hand, every path, faulty, damaged",
+        "by hand, every path, by its lookups, faulty, damaged",
     ),
     (
         "every path has the destination of the first",
@@ -106,17 +106,17 @@ const WRONG: [Wrong; 14] = [
     (
         "only the first step of a path is looked at",
         |after| after.steps(|literal, at, next| at.place > 1 || BY_THE_ENTRY(literal, at, next)),
-        "by hand, every file, every path, faulty, damaged, most",
+        "by hand, every file, every path, by its lookups, faulty, damaged, most",
     ),
     (
         "the first step of a path is not looked at",
         |after| after.steps(|literal, at, next| at.place == 1 || BY_THE_ENTRY(literal, at, next)),
-        "by hand, in order, every file, every path, faulty, damaged, most",
+        "by hand, in order, every file, every path, by its lookups, faulty, damaged, most",
     ),
     (
         "no step is looked at",
         |after| after.steps(|_, _, _| true),
-        "by hand, in order, every file, every path, faulty, damaged, most",
+        "by hand, in order, every file, every path, by its lookups, faulty, damaged, most",
     ),
     (
         "a path of one node is not allowed",

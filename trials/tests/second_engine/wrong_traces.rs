@@ -3,18 +3,19 @@
 use trials::engine::{Engine, Second};
 use trials::failures::Literal;
 use trials::second::memory::{record, COUNT};
-use trials::traces::{accepted, by_hand, damaged, every_file, every_lookup, every_path};
-use trials::traces::{faulty, in_order, most, passed, Passed};
+use trials::traces::{accepted, by_hand, by_lookups, damaged, every_file, every_lookup};
+use trials::traces::{every_path, faulty, in_order, most, passed, Passed};
 
 use crate::seen::{is_seen, Sees};
 use crate::spoiled::{AfterTrace, SpoilTrace, Spoiled, UNSPOILED};
 
-const TRIALS: [Sees; 9] = [
+const TRIALS: [Sees; 10] = [
     ("by hand", |a, b| by_hand(a, b).is_err()),
     ("in order", |a, b| in_order(a, b).is_err()),
     ("every file", |a, b| every_file(a, b).is_err()),
     ("every path", |a, b| every_path(a, b).is_err()),
     ("every lookup", |a, b| every_lookup(a, b).is_err()),
+    ("by its lookups", |a, b| by_lookups(a, b).is_err()),
     ("accepted", |a, b| accepted(a, b).is_err()),
     ("faulty", |a, b| faulty(a, b).is_err()),
     ("damaged", |a, b| damaged(a, b).is_err()),
