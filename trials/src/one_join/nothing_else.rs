@@ -54,13 +54,23 @@ fn join_watched(pair: &mut Pair, rng: &mut Rng, met: &mut Met) -> Result<(), Str
     same_network(["alone", "looked at"], &alone, pair.memory())
 }
 
-/// Lookups, with failed nodes too, which may be refused, and surveys; a verdict and a writing, which are refused; a founding out of range and a reading of no image.
+/// Lookups, with failed nodes too, which may be refused, and surveys; traces, accepted and refused; a verdict and a writing, which are refused; a founding out
+/// of range and a reading of no image.
 fn looks(pair: &mut Pair, rng: &mut Rng, node: u64, met: &mut Met) -> Result<(), String> {
     for failed in [0, rng.word() & rng.word()] {
         for (from, to) in [(1, node), (node, 1), (rng.between(1, node), node)] {
             call(pair, Call::Lookup { from, to, failed })?;
         }
         expect(pair, Call::Survey { failed }, 0)?;
+    }
+    let (new, past) = (node as u8, node as u8 + 1);
+    for (trace, answer) in [
+        (vec![2, 1, 1, 1, new], 0),
+        (vec![2, 1, new, 1, past], 0x1_0209),
+        (vec![1, 2, new, new], 0x1_0117),
+        (vec![1, 1], 22),
+    ] {
+        expect(pair, Call::Trace { trace }, answer)?;
     }
     expect(pair, Call::Sound, 0)?;
     expect(pair, Call::Verdict, 15)?;

@@ -38,7 +38,9 @@ const JOINS: [(&str, &str); 7] = [
          found 1 2 1 0  | 0/0 2/0
          lookup 1 2 without 2 | 0/0 2/0
          lookup 1 2 without 3 | 0/0 2/0
-         survey without 2 | 0/0 2/0",
+         survey without 2 | 0/0 2/0
+         trace 01020102 | 0/0 2/0
+         trace 01020101 | 0/0 2/0",
     ),
     // Node 4 is held, twice, until node 3 has its one notice answered, and has sent no more for it.
     (

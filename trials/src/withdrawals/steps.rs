@@ -39,7 +39,7 @@ pub fn looking(rng: &mut Rng, node: u64) -> Call {
     let other = rng.between(1, node);
     let bad = bad_number(rng, node as usize);
     let failed = failed_set(rng, node as usize);
-    match rng.below(12) {
+    match rng.below(13) {
         0 => Call::Sound,
         1 => Call::Survey { failed },
         2 => Call::Verdict,
@@ -67,6 +67,9 @@ pub fn looking(rng: &mut Rng, node: u64) -> Call {
         10 => Call::Found {
             settings: [1, 1, 1],
             id: 0,
+        },
+        11 => Call::Trace {
+            trace: vec![2, 1, node as u8, 2, node as u8, other as u8],
         },
         _ => Call::Read { image: vec![4] },
     }
