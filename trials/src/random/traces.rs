@@ -73,7 +73,7 @@ pub fn no_nodes(count: u64) -> Vec<u8> {
     past.into_iter().filter(no_node).collect()
 }
 
-/// A file of these paths with one damage or two.
+/// A file of these paths, mostly with one damage or more.
 pub fn damaged_trace(rng: &mut Rng, paths: &[Path], count: u64) -> Vec<u8> {
     let mut paths = paths.to_vec();
     for _ in 0..rng.pick(&[1, 1, 2]) {

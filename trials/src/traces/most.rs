@@ -74,7 +74,7 @@ fn without(path: usize, place: usize, number: u8) -> Vec<u8> {
     trace_file(&paths)
 }
 
-/// The file in which this path stays at this place; behind it no path but the last is allowed either.
+/// The file in which this path stays at this place; of the paths behind it none but the last is allowed either.
 fn stopping(path: usize, step: usize) -> Vec<u8> {
     let mut paths = vec![WAY.to_vec(); PATHS];
     for path in &mut paths[path - 1..PATHS - 1] {
