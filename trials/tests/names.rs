@@ -3,7 +3,10 @@
 use std::fs;
 
 use trials::second::memory::{MOST_NODES, STATE_WORDS, TABLE_BYTES};
-use trials::second::{Refusal, LONGEST_IMAGE, LONGEST_READ, LOST};
+use trials::second::{Refusal, LONGEST_IMAGE, LONGEST_PATH, LONGEST_READ, LOST};
+
+/// What a count byte holds.
+const MOST_PATHS: usize = u8::MAX as usize;
 
 /// `ShortMemory` as `SHORT_MEMORY`.
 fn upper(name: &str) -> String {
@@ -60,6 +63,12 @@ fn the_header_has_the_lengths_of_the_second_engine() {
         ("MOST_IMAGE_BYTES", LONGEST_READ),
         ("SURVEY_COUNTS", LOST + 1),
         ("MOST_WRITTEN_BYTES", LONGEST_IMAGE),
+        ("MOST_PATHS", MOST_PATHS),
+        ("MOST_PLACES", LONGEST_PATH as usize),
+        (
+            "MOST_TRACE_BYTES",
+            1 + MOST_PATHS * (1 + LONGEST_PATH as usize),
+        ),
     ];
     let lengths = lengths.map(|(name, length)| (name.to_string(), length as u64));
     assert_eq!(in_header("lengths"), lengths);

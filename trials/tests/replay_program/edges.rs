@@ -641,7 +641,15 @@ fn name(line: &Line) -> &'static str {
 fn the_script_of_the_docs_has_every_command_and_prints_what_stands_beside_it() {
     let script = fs::read(root().join("crates/replay/stdin")).expect("stdin");
     let answers = fs::read_to_string(root().join("crates/replay/stdout")).expect("stdout");
-    assert_eq!(printed(&script), answers);
+    let data = fs::read_dir(root().join("crates/replay/data")).expect("data");
+    let files: Vec<File> = data
+        .map(|entry| entry.expect("it has a name"))
+        .map(|entry| {
+            let name = entry.file_name().into_string().expect("in UTF-8");
+            (name, fs::read(entry.path()).expect("it can be read"))
+        })
+        .collect();
+    assert_eq!(printed_beside(&files, &script), answers);
     let mut names: Vec<&str> = lines(&script).map(|(_, line)| name(&line)).collect();
     names.sort();
     names.dedup();
