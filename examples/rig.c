@@ -219,13 +219,14 @@ static size_t add_path(const struct network *network, unsigned from, unsigned to
 static void print_trace(const struct network *network, const char *what, const uint8_t *trace, size_t length)
 {
     uint64_t answer = overlay_trace(LENT(network), trace, length);
-    printf("%s: %s", what, refusal(answer));
+    printf("%s: %s", what, overlay_refusal(answer) == 0 ? "accepted" : refusal(answer));
     if (overlay_trace_path(answer) != 0)
-        printf(", at path %u, place %u", overlay_trace_path(answer), overlay_trace_place(answer));
+        printf(", at path %u, %s %u", overlay_trace_path(answer), overlay_refusal(answer) == OVERLAY_STEP_NOT_ALLOWED ? "step" : "place",
+               overlay_trace_place(answer));
     printf("\n");
 }
 
-/* The paths between all nodes, and then one more that goes on from its destination. */
+/* The paths between all nodes, and then one more that goes on past its destination. */
 static void trace_router(const struct network *network, unsigned nodes)
 {
     static uint8_t trace[OVERLAY_MOST_TRACE_BYTES];
@@ -238,7 +239,7 @@ static void trace_router(const struct network *network, unsigned nodes)
     print_trace(network, "without its last byte", trace, length - 1);
     memcpy(trace + length, "\3\1\2\2", 4);
     trace[0]++;
-    print_trace(network, "with a path on from its destination", trace, length + 4);
+    print_trace(network, "with a path past its destination", trace, length + 4);
 }
 
 /* Exchanges a record of an image with the next. */

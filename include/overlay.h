@@ -14,8 +14,8 @@
  *
  * An answer is one number: bits 0 to 7 are the refusal, 0 for none. On a refusal no byte has changed, and every field that this header reads
  * off the answer is zero, but for the place of a record that reading's refusals 10, 17 and 18 carry, and the path and place that 9 and 23 of a trace
- * carry. Where several refusals hold, the answer is the first that holds, in the order of docs/REFUSALS.md. A later version may add refusals, give a new number where an old one stood, or let one carry
- * fields: take the refusal by overlay_refusal, and what is not 0 as refused.
+ * carry. Where several refusals hold, the answer is the first that holds, in the order of docs/REFUSALS.md. A later version may add refusals, give a new
+ * number where an old one stood, or let one carry fields: take the refusal by overlay_refusal, and what is not 0 as refused.
  * Nothing is kept between calls but in lent memory, so calls on different memories may run at the same time. Memory that one version filled
  * is for that version; between versions a network goes as an image.
  *
@@ -76,7 +76,7 @@ extern "C" {
 #define OVERLAY_HAS_ATTACHED 20          /* the node is in system or notifying */
 #define OVERLAY_HAS_FAILED 21            /* the start or the destination of a lookup has failed */
 #define OVERLAY_TRACE_COUNTS 22          /* an empty trace; a path's count that isn't 1 to 9; a length other than the counts say */
-#define OVERLAY_STEP_NOT_ALLOWED 23      /* a path goes on from its destination, or to no node of the entry that the lookup rule names */
+#define OVERLAY_STEP_NOT_ALLOWED 23      /* a path goes on past its destination, or to no node of the entry that the lookup rule names */
 
 /* ---- calls */
 
@@ -127,10 +127,11 @@ uint64_t overlay_write(const uint64_t *state, size_t state_len, const uint8_t *t
                        uint8_t *out, size_t out_len);
 
 /* Checks a trace of another router on this network's tables, and changes nothing. A trace is a count byte of paths, and then for each path a count byte, 1
- * to 9, and so many node numbers of one byte, the last being the path's destination. It is accepted, with answer 0, exactly when each path's every step goes to
- * some node, first or not, of the entry in which a lookup at the node that it leaves finds its next hop to the destination, and no path goes on from its
- * destination; a trace of no paths is. Every path that a lookup takes is accepted, around any failed nodes: a lost one ends where it was lost. docs/TRACES.md
- * works a trace through. 9 and 23 come with the path and the place that they are about, by overlay_trace_path and overlay_trace_place.
+ * to 9, and so many node numbers of one byte, the last being the path's destination. Where its counts are right and every number is a node's, it is accepted,
+ * with answer 0, exactly when each path's every step goes to some node, first or not, of the entry in which a lookup at the node that it leaves finds its next
+ * hop to the destination, and no path goes on past its destination; so a trace of no paths is accepted. Every path that a lookup takes is accepted, around any
+ * failed nodes: a lost one ends where it was lost. docs/TRACES.md works a trace through. 9 and 23 come with the path and the place that they are about, by
+ * overlay_trace_path and overlay_trace_place.
  * Refusals 1, 2, 22, 9, 23, in this order over the whole trace. */
 uint64_t overlay_trace(const uint64_t *state, size_t state_len, const uint8_t *tables, size_t tables_len,
                        const uint8_t *trace, size_t trace_len);

@@ -166,9 +166,8 @@ fn parse_line(words: &[&str]) -> Result<Option<Line>, ParseIntError> {
             settings: [base.parse()?, digits.parse()?, depth.parse()?],
             id: id(number)?,
         },
-        ["read"] => Call::Read { image: vec![] },
-        ["read", image] if are_bytes(image) => Call::Read {
-            image: parse_bytes(image)?,
+        ["read", ref image @ ..] if may_be_bytes(image) => Call::Read {
+            image: parse_bytes(&image.concat())?,
         },
         ["begin", number, gateway] => Call::Begin {
             id: id(number)?,
@@ -192,9 +191,8 @@ fn parse_line(words: &[&str]) -> Result<Option<Line>, ParseIntError> {
         ["survey", ref without @ ..] if may_follow(without) => Call::Survey {
             failed: parse_failed(without)?,
         },
-        ["trace"] => Call::Trace { trace: vec![] },
-        ["trace", trace] if are_bytes(trace) => Call::Trace {
-            trace: parse_bytes(trace)?,
+        ["trace", ref trace @ ..] if may_be_bytes(trace) => Call::Trace {
+            trace: parse_bytes(&trace.concat())?,
         },
         _ => return parse_memory_line(words),
     };
@@ -232,9 +230,13 @@ fn parse_failed(words: &[&str]) -> Result<u64, ParseIntError> {
     Ok(set_of(&numbers))
 }
 
-/// May the word be pairs of hexadecimal digits?
-fn are_bytes(word: &str) -> bool {
-    word.len() % 2 == 0 && word.is_ascii()
+/// May this be pairs of hexadecimal digits in one word, or nothing?
+fn may_be_bytes(words: &[&str]) -> bool {
+    match *words {
+        [] => true,
+        [word] => word.len() % 2 == 0 && word.is_ascii(),
+        _ => false,
+    }
 }
 
 /// Pairs of hexadecimal digits.

@@ -24,6 +24,8 @@ mod panel;
 mod records;
 #[path = "archive/runs.rs"]
 mod runs;
+#[path = "archive/sample_traces.rs"]
+mod sample_traces;
 #[path = "archive/support.rs"]
 mod support;
 #[path = "archive/survey.rs"]

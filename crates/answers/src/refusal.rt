@@ -70,6 +70,6 @@ impl Refusal {
     // the trace is empty, a path's count is not from 1 to 9, or its length is not what the counts say
     pub const TRACE_COUNTS: u64 = 22;
 
-    // a path of the trace goes on from its destination, or to no node of the entry that the lookup rule names
+    // a path of the trace goes on past its destination, or to no node of the entry that the lookup rule names
     pub const STEP_NOT_ALLOWED: u64 = 23;
 }

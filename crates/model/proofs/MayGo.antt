@@ -23,7 +23,7 @@ use Rattle.model.proofs.NextHop.{level-below, digit-below}
 use Rattle.model.proofs.Traces.{among-at, among-of}
 use Rattle.model.proofs.NoRoom.{place, held-place, slot-held, place-before}
 
--- no path goes on from its destination
+-- no path goes on past its destination
 pub may-not-leave : (s t : List ℕ) (u v z : ℕ) → u ≡ z → false ≡ mayGo s t u v z
 unfolding mayGo
 may-not-leave s t u v z e = ap (λ (b : Bool). not b && among (hopEntry s t u z) v) (sym (eq-eqb u z e))

@@ -131,24 +131,17 @@ pub among-of : (nodes : List ℕ) (v k : ℕ) → k < length nodes → getD node
 unfolding among
 among-of nodes v k l e = any-of (length nodes) (λ k. eqb (getD nodes k 0) v) k l (eq-eqb (getD nodes k 0) v e)
 
--- a path to z goes from u to v: it is not at z yet, and v stands in the entry that a lookup at u looks into
-pub record MayGo (s t : List ℕ) (u v z : ℕ) : Type 0 where
-  pub before : u ≢ z
-  pub slot : ℕ
-  pub filled : slot < length (hopEntry s t u z)
-  pub holds : getD (hopEntry s t u z) slot 0 ≡ v
-
+-- a path to z may go from u to v: it is not at z yet, and v stands in the entry that a lookup at u looks into
 module _ (s t : List ℕ) (u v z : ℕ) where
-  pub may-go : mayGo s t u v z ≡ true → MayGo s t u v z
+  pub may-go : mayGo s t u v z ≡ true → (u ≢ z) × (k : ℕ) × (k < length (hopEntry s t u z)) × (getD (hopEntry s t u z) k 0 ≡ v)
   unfolding mayGo
   may-go e =
       let a = among-at (hopEntry s t u z) v (and-right (not (eqb u z)) _ e) in
-      record { before = eqb-false u z (not-true _ (and-left _ _ e)); slot = a .0; filled = a .1; holds = a .2 }
+      (eqb-false u z (not-true _ (and-left _ _ e)), a .0, a .1, a .2)
 
-  pub may-go-of : MayGo s t u v z → mayGo s t u v z ≡ true
+  pub may-go-of : u ≢ z → (k : ℕ) → k < length (hopEntry s t u z) → getD (hopEntry s t u z) k 0 ≡ v → mayGo s t u v z ≡ true
   unfolding mayGo
-  may-go-of g =
-      and-intro _ _ (ap not (ne-eqb u z (g .before))) (among-of (hopEntry s t u z) v (g .slot) (g .filled) (g .holds))
+  may-go-of ne k l e = and-intro _ _ (ap not (ne-eqb u z ne)) (among-of (hopEntry s t u z) v k l e)
 
 -- each place of each path has a node
 abbrev pub Named : List ℕ → List ℕ → Type 0
@@ -167,17 +160,17 @@ places-named-of s trace f =
 -- each step of each path is one that a path may go
 abbrev pub Allowed : List ℕ → List ℕ → List ℕ → Type 0
 Allowed s t trace =
-    (p k : ℕ) → p < pathCount trace → k < stepCount trace p → MayGo s t (placeAt trace p k) (placeAt trace p (k + 1)) (destination trace p)
+    (p k : ℕ) → p < pathCount trace → k < stepCount trace p
+    → mayGo s t (placeAt trace p k) (placeAt trace p (k + 1)) (destination trace p) ≡ true
 
 module _ (s t trace : List ℕ) where
   pub steps-allowed : stepsAllowed s t trace ≡ true → Allowed s t trace
   unfolding stepAllowed
-  steps-allowed e p k l h = may-go s t _ _ _ (in-paths (pathCount trace) (stepCount trace) (stepAllowed s t trace) e p k l h)
+  steps-allowed = in-paths (pathCount trace) (stepCount trace) (stepAllowed s t trace)
 
   pub steps-allowed-of : Allowed s t trace → stepsAllowed s t trace ≡ true
   unfolding stepAllowed
-  steps-allowed-of f =
-      in-paths-of (pathCount trace) (stepCount trace) (stepAllowed s t trace) (λ p k l h. may-go-of s t _ _ _ (f p k l h))
+  steps-allowed-of = in-paths-of (pathCount trace) (stepCount trace) (stepAllowed s t trace)
 
 -- ---- the refusals
 

@@ -36,9 +36,12 @@ destination trace p = placeAt trace p (placeCount trace p - 1)
 abbrev pub stepCount : List ℕ → ℕ → ℕ
 stepCount trace p = placeCount trace p - 1
 
--- path p has from 1 to 9 places; a count that is missing is none of these
+-- a path has from 1 to 9 places; a count that is missing is 0
+abbrev pub fromOneToNine : ℕ → Bool
+fromOneToNine count = leb 1 count && leb count 9
+
 abbrev pub countRight : List ℕ → ℕ → Bool
-countRight trace p = leb 1 (placeCount trace p) && leb (placeCount trace p) 9
+countRight trace p = fromOneToNine (placeCount trace p)
 
 -- 22: the trace is empty, some path's count is wrong, or the trace does not end where its last path does
 unfoldable pub traceCountsWrong : List ℕ → Bool
@@ -56,7 +59,7 @@ placeNamed s trace p k = isNode s (placeAt trace p k)
 unfoldable pub among : List ℕ → ℕ → Bool
 among nodes v = anyBelow (length nodes) (λ k. eqb (getD nodes k 0) v)
 
--- not 23: a path to z may go from u to v. It does not go on from z, and v is one of the nodes among which a lookup at u finds its next hop, first or not.
+-- not 23: a path to z may go from u to v. It does not go on past z, and v is one of the nodes among which a lookup at u finds its next hop, first or not.
 unfoldable pub mayGo : List ℕ → List ℕ → ℕ → ℕ → ℕ → Bool
 mayGo s t u v z = not (eqb u z) && among (hopEntry s t u z) v
 

@@ -8,7 +8,7 @@ use lib.ListN.{length, getD, length-append, List·getD-append}
 use lib.Seq.{getD-append-add, getD-at}
 use Rattle.model.specs.Memory.{Memory}
 use Rattle.model.specs.Lookup.{lastOf}
-use Rattle.model.specs.Traces.{pathCount, pathStart, placeCount, stepCount, placeAt, destination, placeNamed, stepAllowed, inPaths, firstFault, placesNamed}
+use Rattle.model.specs.Traces.{pathCount, pathStart, placeCount, stepCount, placeAt, destination, placeNamed, mayGo, stepAllowed, inPaths, firstFault, placesNamed}
 use Rattle.model.specs.Refusals.{traceRefusal, tracePlace}
 use Rattle.model.specs.Calls.{traceCall}
 use Rattle.model.specs.Run.{trace, sound, step}
@@ -16,8 +16,8 @@ use Rattle.model.proofs.Status.{is-node, is-node-of}
 use Rattle.model.proofs.Sound.{Sound}
 use Rattle.model.proofs.Lookup.{last-at}
 use Rattle.model.proofs.Taken.{state-taken, sound-free}
-use Rattle.model.proofs.Traces.{trace-counts, trace-counts-of, fault, MayGo, places-named, places-named-of, steps-allowed, steps-allowed-of, trace-taken, trace-free, refused-9, refused-23, trace-place-none, trace-answer}
-use Rattle.model.proofs.TracedHops.{hops-traced}
+use Rattle.model.proofs.Traces.{trace-counts, trace-counts-of, fault, may-go, may-go-of, places-named, places-named-of, steps-allowed, steps-allowed-of, trace-taken, trace-free, refused-9, refused-23, trace-place-none, trace-answer}
+use Rattle.model.proofs.TracedHops.{hops-traceable}
 use Rattle.promise.specs.Promise.{NodeIn}
 use Rattle.promise.specs.Traces.{IsSound, Accepts, Goes, Accepted, pathsBytes, traceOf, GoodPath, OfLookup, Each, refusalOf, pathOf, placeOf, FirstToFail, Traces}
 use Rattle.promise.proofs.Demand1.{taken-number, number-taken}
@@ -34,11 +34,13 @@ module _ (m : Memory) where
   unfolding step
   is-sound S = number-taken m sound (sound-free m S)
 
-  goes : (u v z : ℕ) → MayGo (m .state) (m .tables) u v z → Goes m u v z
-  goes u v z g = record { before = g .before; slot = g .slot; filled = g .filled; holds = g .holds }
+  goes : (u v z : ℕ) → mayGo (m .state) (m .tables) u v z ≡ true → Goes m u v z
+  goes u v z e =
+      let g = may-go (m .state) (m .tables) u v z e in
+      record { before = g .0; slot = g .1; filled = g .2; holds = g .3 }
 
-  may-go : (u v z : ℕ) → Goes m u v z → MayGo (m .state) (m .tables) u v z
-  may-go u v z g = record { before = g .before; slot = g .slot; filled = g .filled; holds = g .holds }
+  goes-of : (u v z : ℕ) → Goes m u v z → mayGo (m .state) (m .tables) u v z ≡ true
+  goes-of u v z g = may-go-of (m .state) (m .tables) u v z (g .before) (g .slot) (g .filled) (g .holds)
 
   nodes-in : (file : List ℕ) → placesNamed (m .state) file ≡ true → (p k : ℕ) → p < pathCount file → k < placeCount file p → NodeIn m (placeAt file p k)
   nodes-in file e p k l h = is-node-of (m .state) (placeAt file p k) (places-named (m .state) file e p k l h)
@@ -63,7 +65,7 @@ module _ (m : Memory) where
       number-taken m (trace file)
       (trace-free m file (sound-of (a .sound)) (trace-counts-of file (record { some = a .some; counts = a .counts; ends = a .ends }))
       (places-named-of (m .state) file (λ p k l h. is-node (m .state) (placeAt file p k) (a .nodes p k l h)))
-      (steps-allowed-of (m .state) (m .tables) file (λ p k l h. may-go _ _ _ (a .steps p k l (omega arith)))))
+      (steps-allowed-of (m .state) (m .tables) file (λ p k l h. goes-of _ _ _ (a .steps p k l (omega arith)))))
 
 -- ---- the bytes of some paths
 
@@ -171,7 +173,7 @@ module _ (m : Memory) (file : List ℕ) (n : ℕ) (path : List ℕ) (at : Stands
 of-lookup : (m : Memory) → Sound (m .state) (m .tables) → (path : List ℕ) → OfLookup m path → GoodPath m path
 of-lookup m S path o =
     let to = is-node (m .state) (o .to) (o .ends) in
-    let T = hops-traced (m .state) (m .tables) S (o .failed) (o .to) to (o .from) (is-node (m .state) (o .from) (o .starts)) in
+    let T = hops-traceable (m .state) (m .tables) S (o .failed) (o .to) to (o .from) (is-node (m .state) (o .from) (o .starts)) in
     subst (GoodPath m) (sym (o .hops))
     (record {
       least = T .least;

@@ -16,7 +16,7 @@ use Rattle.promise.specs.Withdrawals.{begunAs}
 -- ---- one join
 
 -- no other call changes the network: each call of the list is a delivery, or leaves the memory as it was, as a refused call, a lookup, a survey, a
--- verdict, a writing and the check of the state do
+-- verdict, a writing, the check of a trace and the check of the state do
 abbrev pub OnlyDeliveries : Memory → List Call → Type 0
 OnlyDeliveries m cs =
     (early late : List Call) (c : Call) → cs ≡ early ++ c ∷ late

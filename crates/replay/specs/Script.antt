@@ -11,6 +11,7 @@ use Rattle.model.specs.Run as book
 use Rattle.model.specs.Run.{after, play, isRun}
 use Rattle.promise.specs.Promise.{Promise}
 use Rattle.calls.specs.declared.Call as calls
+use Rattle.calls.specs.declared.Call.the-variants as call
 use Rattle.replay_calls.specs.Called.{called}
 use Rattle.script.specs.Commands.{commandOf}
 use Rattle.script.specs.declared.command.Command.{Command}
@@ -34,13 +35,13 @@ Saved m m₁ = (out : List ℕ) × (m₁ ≡ after m (book.write out))
 abbrev pub FilePlayed : calls.Call → Memory → Memory → Type 0
 FilePlayed c m m₁ = (m₁ ≡ m) ⊎ ((file : List ℕ) × (m₁ ≡ after m (called file [] c)))
 
--- an image was read, or nothing was done
+-- an image was read
 abbrev pub Loaded : Memory → Memory → Type 0
-Loaded m m₁ = (m₁ ≡ m) ⊎ ((image : List ℕ) × (m₁ ≡ after m (book.read image)))
+Loaded = FilePlayed call.Read
 
--- a trace was checked, or nothing was done
+-- a trace was checked
 abbrev pub Traced : Memory → Memory → Type 0
-Traced m m₁ = (m₁ ≡ m) ⊎ ((trace : List ℕ) × (m₁ ≡ after m (book.trace trace)))
+Traced = FilePlayed call.Trace
 
 -- what a command does: m before it, m₁ after it
 abbrev pub Turn : Command → Memory → Memory → Type 0

@@ -39,7 +39,7 @@ sentenceFrom17 n first =
     (cond (eqb n 19) (ascii "the node is not the highest-numbered one")
     (cond (eqb n 20) (ascii "the node is settled or notifying")
     (cond (eqb n 21) (ascii "the start or the destination has failed")
-    (cond (eqb n 22) (ascii "the trace is empty, a count is not 1 to 9, or the length differs from the counts")
+    (cond (eqb n 22) (ascii "the trace is empty, a path's count is not 1 to 9, or the length does not fit")
     (cond (eqb n 23) (ascii "the step goes to no node of the lookup's entry, or past the destination") []))))))
 
 -- a number that no sentence has is left without words

@@ -106,7 +106,7 @@ fn from_17(out: &mut [u8], at: usize, number: u64, first: u64) -> usize
             return piece(
                 out,
                 at,
-                b"the trace is empty, a count is not 1 to 9, or the length differs from the counts",
+                b"the trace is empty, a path's count is not 1 to 9, or the length does not fit",
             );
         }
         Refusal::STEP_NOT_ALLOWED => {

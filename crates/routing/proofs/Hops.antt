@@ -63,6 +63,7 @@ entry-stands s t S u z nu nz ne T d K e h ed long shallow =
       digit = h .low;
     }
 
+-- the same of the state's own depth, by the equation that the code has
 pub entry-of-depth : (s t : List ℕ) → Sound s t → (u z : ℕ) → IsNode s u → IsNode s z → u ≢ z → (T : List ℕ) (d K : ℕ) (e : Entry)
     → HopEntry s d u z e → d ≡ digits s → length T ≡ 512 → K ≡ depth s → Places.Entry T K (e .level) (e .digit)
 entry-of-depth s t S u z nu nz ne T d K e h ed long eK =

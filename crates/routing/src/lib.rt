@@ -55,7 +55,7 @@ pub fn next_hop(state: &[u64], tables: &[u8], u: usize, z: usize, failed: u64) -
     entry::frontmost(table, s.depth, e.level, e.digit, failed)
 }
 
-// Whether a path to z may go from u to v: it does not go on from z, and v stands in the entry in which a lookup at u finds its next hop.
+// Whether a path to z may go from u to v: it does not go on past z, and v stands in the entry in which a lookup at u finds its next hop.
 pub fn may_go(state: &[u64], tables: &[u8], u: usize, v: usize, z: usize) -> bool
     requires { ⌜ Sound (now state) (now tables) ⌝ }
     requires { ⌜ IsNode (now state) u ⌝ }

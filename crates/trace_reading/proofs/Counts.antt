@@ -1,5 +1,5 @@
 -- When the count of a path is right, by its parts. Assumes nothing.
-use Prim.Native.Nat.{ℕ, _+_, _≤_, _<_}
+use Prim.Native.Nat.{ℕ, _+_, _≤_}
 use mathlib.Core.Path.{_≡_, refl, sym, ap, _∙_}
 use mathlib.Core.Bool.{Bool, true, false, cond, true≢false, false≢true}
 use mathlib.Core.List.{List}
@@ -33,7 +33,7 @@ module _ (trace : List ℕ) (at : ℕ) where
 
   right-is : CountRight trace at → countRightAt trace at ≡ true
   unfolding countRightAt
-  right-is r = and-intro _ _ (le-leb 1 (byteAt trace at) (r .least)) (and-intro _ _ (le-leb (byteAt trace at) 9 (r .most)) (lt-ltb _ (length trace) (r .within)))
+  right-is r = and-intro _ _ (and-intro _ _ (le-leb 1 (byteAt trace at) (r .least)) (le-leb (byteAt trace at) 9 (r .most))) (lt-ltb _ (length trace) (r .within))
 
   -- ---- as it is read
 

@@ -2,9 +2,10 @@
 use Prim.Native.Nat.{ℕ, _+_, _≤_, _<_}
 use mathlib.Core.Bool.{Bool, cond, _&&_}
 use mathlib.Core.List.{List}
-use lib.Dec.{leb, ltb}
+use lib.Dec.{ltb}
 use lib.ListN.{length}
 use Rattle.model.specs.Image.{byteAt}
+use Rattle.model.specs.Traces.{fromOneToNine}
 use Rattle.trace_reading.specs.declared.Count.{Count}
 use Rattle.trace_reading.specs.declared.Count.the-variants.{Places, Wrong}
 
@@ -16,7 +17,7 @@ pub record CountRight (trace : List ℕ) (at : ℕ) : Type 0 where
 
 -- the same as a test
 unfoldable pub countRightAt : List ℕ → ℕ → Bool
-countRightAt trace at = leb 1 (byteAt trace at) && (leb (byteAt trace at) 9 && ltb (at + byteAt trace at) (length trace))
+countRightAt trace at = fromOneToNine (byteAt trace at) && ltb (at + byteAt trace at) (length trace)
 
 unfoldable pub countAt : List ℕ → ℕ → Count
 countAt trace at = cond (countRightAt trace at) (Places (byteAt trace at)) Wrong

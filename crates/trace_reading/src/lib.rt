@@ -1,4 +1,4 @@
-// Reading a trace: how many places the path has that starts at a place of it.
+// Reading a trace: how many places the path has that starts at a byte of it.
 pub mod reader;
 
 ghost use mathlib.Core.Path.{_≡_};
@@ -33,7 +33,7 @@ fn count_at(trace: &[u8], at: usize) -> Count
     Count::Places(places)
 }
 
-// The same by a reader at that place: what callers use, who have the trace and the place and no reader.
+// The same by a reader at that byte: what callers use, who have the trace and the cursor and no reader.
 pub fn path_at(trace: &[u8], at: usize) -> Count
     ensures { λ r. ⌜ r ≡ countAt (now (trace .entry)) at ⌝ }
 {

@@ -16,7 +16,7 @@ use Rattle.model.proofs.Traces.{TraceCounts, trace-counts, trace-counts-of, tra
 use Rattle.state.specs.Lent.{memory}
 use Rattle.trace_reading.specs.Read.{CountRight}
 use Rattle.answers.specs.declared.TraceAnswer.{TraceAnswer}
-use Rattle.traces.specs.Faults.{absent, faultBelow}
+use Rattle.traces.specs.Faults.{absent, faultIn}
 use Rattle.traces.specs.Judged.{sentencesRefusal, answer, answerOf}
 use Rattle.traces.specs.Walked.{Walked}
 use Rattle.traces.specs.declared.cursor.Cursor.{Cursor}
@@ -93,15 +93,15 @@ module _ (s t trace : List ℕ) where
 
   -- the cursor c is behind the last path, where the trace ends
   module _ (c : Cursor) (W : Walked s t trace c) (all : c .path ≡ pathCount trace) (e : c .at ≡ length trace) where
-    unnamed : c .unnamed ≡ faultBelow (pathCount trace) (placeCount trace) (placeNamed s trace)
-    unnamed = W .unnamed ∙ ap (λ (n : ℕ). faultBelow n (placeCount trace) (placeNamed s trace)) all
+    unnamed : c .unnamed ≡ faultIn (pathCount trace) (placeCount trace) (placeNamed s trace)
+    unnamed = W .unnamed ∙ ap (λ (n : ℕ). faultIn n (placeCount trace) (placeNamed s trace)) all
 
     past-22 : (n : ℕ) → n ≡ firstTrue ((not (placesNamed s trace), 9) ∷ (not (stepsAllowed s t trace), 23) ∷ []) → n ≡ sentencesRefusal s t trace
     unfolding sentencesRefusal
     past-22 n q = sentence-goes (traceCountsWrong trace) 22 _ n false (sym (counts-right s t trace c W all e)) refl q
 
     module _ (some : c .unnamed .path ≢ 0) where
-      faulty : faultBelow (pathCount trace) (placeCount trace) (placeNamed s trace) .path ≢ 0
+      faulty : faultIn (pathCount trace) (placeCount trace) (placeNamed s trace) .path ≢ 0
       faulty q = some (ap (λ (f : Fault). f .path) unnamed ∙ q)
 
       pub says-9 : (r : TraceAnswer) → r ≡ answer 9 (c .unnamed) → r ≡ answerOf s t trace (sentencesRefusal s t trace)
@@ -113,8 +113,8 @@ module _ (s t trace : List ℕ) where
           (ap (λ (f : Fault). f .path ∷ f .place ∷ []) unnamed ∙ fault-first _ _ (pathCount trace) faulty)
 
     module _ (none : c .unnamed .path ≡ 0) where
-      forbidden : c .forbidden ≡ faultBelow (pathCount trace) (stepCount trace) (stepAllowed s t trace)
-      forbidden = W .forbidden none ∙ ap (λ (n : ℕ). faultBelow n (stepCount trace) (stepAllowed s t trace)) all
+      forbidden : c .forbidden ≡ faultIn (pathCount trace) (stepCount trace) (stepAllowed s t trace)
+      forbidden = W .forbidden none ∙ ap (λ (n : ℕ). faultIn n (stepCount trace) (stepAllowed s t trace)) all
 
       past-9 : (n : ℕ) → n ≡ firstTrue ((not (stepsAllowed s t trace), 23) ∷ []) → n ≡ sentencesRefusal s t trace
       past-9 n q =
@@ -122,7 +122,7 @@ module _ (s t trace : List ℕ) where
           (sentence-goes _ 9 _ n false (sym (ap not (none-fails _ _ (pathCount trace) (sym (ap (λ (f : Fault). f .path) unnamed) ∙ none)))) refl q)
 
       module _ (some : c .forbidden .path ≢ 0) where
-        wrong-step : faultBelow (pathCount trace) (stepCount trace) (stepAllowed s t trace) .path ≢ 0
+        wrong-step : faultIn (pathCount trace) (stepCount trace) (stepAllowed s t trace) .path ≢ 0
         wrong-step q = some (ap (λ (f : Fault). f .path) forbidden ∙ q)
 
         pub says-23 : (r : TraceAnswer) → r ≡ answer 23 (c .forbidden) → r ≡ answerOf s t trace (sentencesRefusal s t trace)

@@ -16,7 +16,7 @@ use Rattle.model.proofs.Loops.{all-at, all-of}
 use Rattle.model.proofs.Status.{is-node}
 use Rattle.model.proofs.Traces.{in-paths}
 use Rattle.trace_reading.specs.Read.{CountRight}
-use Rattle.traces.specs.Faults.{faultAt, faultBelow}
+use Rattle.traces.specs.Faults.{faultAt, faultIn}
 use Rattle.traces.specs.Paths.{Stands, PathNamed}
 use Rattle.traces.specs.Walked.{Walked, started}
 use Rattle.traces.specs.declared.cursor.Cursor.{Cursor}
@@ -37,24 +37,24 @@ module _ (trace : List ℕ) where
 
 -- ---- the first fault, as the code goes on with f, which it found in n paths
 
-module _ (size : ℕ → ℕ) (test : ℕ → ℕ → Bool) (n : ℕ) (f : Fault) (e : f ≡ faultBelow n size test) where
-  pub keeps : f .path ≢ 0 → f ≡ faultBelow (n + 1) size test
+module _ (size : ℕ → ℕ) (test : ℕ → ℕ → Bool) (n : ℕ) (f : Fault) (e : f ≡ faultIn n size test) where
+  pub keeps : f .path ≢ 0 → f ≡ faultIn (n + 1) size test
   keeps some = e ∙ fault-kept size test n (λ q. some (ap (λ (f : Fault). f .path) e ∙ q))
 
   pub looks : f .path ≡ 0 → (m k : ℕ) (r : Fault) → m ≡ size n → k ≡ firstBelow m (λ k. not (test n k)) → r ≡ faultAt n m k
-      → r ≡ faultBelow (n + 1) size test
+      → r ≡ faultIn (n + 1) size test
   looks none m k r em ek er =
       er
       ∙ ap (λ (m : ℕ). faultAt n m k) em
       ∙ fault-next size test n k (sym (ap (λ (f : Fault). f .path) e) ∙ none) (ek ∙ ap (λ (m : ℕ). firstBelow m (λ k. not (test n k))) em)
 
 -- none in one path more, none before
-none-before : (size : ℕ → ℕ) (test : ℕ → ℕ → Bool) (n : ℕ) → faultBelow (n + 1) size test .path ≡ 0 → faultBelow n size test .path ≡ 0
+none-before : (size : ℕ → ℕ) (test : ℕ → ℕ → Bool) (n : ℕ) → faultIn (n + 1) size test .path ≡ 0 → faultIn n size test .path ≡ 0
 none-before size test n none =
     none-faulty size test n (all-of n _ (λ p l. all-at (n + 1) _ (none-fails size test (n + 1) none) p (omega arith)))
 
 -- where a path brings no place without a node, each of its places has one
-pub path-named : (s trace : List ℕ) (p : Path) → Stands trace p → (f : Fault) → f ≡ faultBelow (p .number + 1) (placeCount trace) (placeNamed s trace) → f .path ≡ 0
+pub path-named : (s trace : List ℕ) (p : Path) → Stands trace p → (f : Fault) → f ≡ faultIn (p .number + 1) (placeCount trace) (placeNamed s trace) → f .path ≡ 0
     → PathNamed s trace p
 unfolding placeNamed
 path-named s trace p S f e none =
@@ -85,12 +85,12 @@ module _ (s t trace : List ℕ) where
       })
 
   -- where one path more brings no place without a node, the cursor has the first step that is not allowed
-  pub forbidden-before : (c : Cursor) → Walked s t trace c → (n : ℕ) → n ≡ c .path → (f : Fault) → f ≡ faultBelow (n + 1) (placeCount trace) (placeNamed s trace)
-      → f .path ≡ 0 → c .forbidden ≡ faultBelow n (stepCount trace) (stepAllowed s t trace)
+  pub forbidden-before : (c : Cursor) → Walked s t trace c → (n : ℕ) → n ≡ c .path → (f : Fault) → f ≡ faultIn (n + 1) (placeCount trace) (placeNamed s trace)
+      → f .path ≡ 0 → c .forbidden ≡ faultIn n (stepCount trace) (stepAllowed s t trace)
   forbidden-before c W n en f e none =
       let before = none-before (placeCount trace) (placeNamed s trace) n (sym (ap (λ (f : Fault). f .path) e) ∙ none) in
-      W .forbidden (ap (λ (f : Fault). f .path) (W .unnamed ∙ ap (λ (n : ℕ). faultBelow n (placeCount trace) (placeNamed s trace)) (sym en)) ∙ before)
-      ∙ ap (λ (n : ℕ). faultBelow n (stepCount trace) (stepAllowed s t trace)) (sym en)
+      W .forbidden (ap (λ (f : Fault). f .path) (W .unnamed ∙ ap (λ (n : ℕ). faultIn n (placeCount trace) (placeNamed s trace)) (sym en)) ∙ before)
+      ∙ ap (λ (n : ℕ). faultIn n (stepCount trace) (stepAllowed s t trace)) (sym en)
 
   module _ (c : Cursor) (W : Walked s t trace c) (room : c .path < 255) (right : CountRight trace (c .at)) where
     -- the path at it stands in the trace
@@ -107,8 +107,8 @@ module _ (s t trace : List ℕ) where
 
     -- past it
     pub passes : (n : ℕ) → n ≡ byteAt trace (c .at) → (unnamed forbidden : Fault)
-        → unnamed ≡ faultBelow (c .path + 1) (placeCount trace) (placeNamed s trace)
-        → (unnamed .path ≡ 0 → forbidden ≡ faultBelow (c .path + 1) (stepCount trace) (stepAllowed s t trace))
+        → unnamed ≡ faultIn (c .path + 1) (placeCount trace) (placeNamed s trace)
+        → (unnamed .path ≡ 0 → forbidden ≡ faultIn (c .path + 1) (stepCount trace) (stepAllowed s t trace))
         → Walked s t trace (record { path = c .path + 1; at = c .at + 1 + n; unnamed = unnamed; forbidden = forbidden })
     passes n e unnamed forbidden eu ef =
         let here : n ≡ placeCount trace (c .path) = e ∙ ap (byteAt trace) (W .at) in

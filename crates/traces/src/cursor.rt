@@ -7,7 +7,7 @@ ghost use Rattle.model.specs.Image.{byteAt};
 ghost use Rattle.model.specs.Traces.{placeCount, stepCount, placeNamed, stepAllowed};
 ghost use Rattle.model.proofs.Sound.{Sound};
 ghost use Rattle.trace_reading.specs.Read.{CountRight};
-ghost use Rattle.traces.specs.Faults.{faultBelow};
+ghost use Rattle.traces.specs.Faults.{faultIn};
 ghost use Rattle.traces.specs.Paths.{Stands};
 ghost use Rattle.traces.specs.Walked.{started, Walked};
 use crate::fault::Fault;
@@ -41,8 +41,8 @@ impl Cursor {
     fn unnamed_to(self, state: &[u64], trace: &[u8], p: Path) -> Fault
         requires { ⌜ stateLength ≤ length (now state) ⌝ }
         requires { ⌜ Stands (now trace) p ⌝ }
-        requires { ⌜ self .unnamed ≡ faultBelow (p .number) (placeCount (now trace)) (placeNamed (now state) (now trace)) ⌝ }
-        ensures { λ r. ⌜ r ≡ faultBelow (p .number + 1) (placeCount (now (trace .entry))) (placeNamed (now (state .entry)) (now (trace .entry))) ⌝ }
+        requires { ⌜ self .unnamed ≡ faultIn (p .number) (placeCount (now trace)) (placeNamed (now state) (now trace)) ⌝ }
+        ensures { λ r. ⌜ r ≡ faultIn (p .number + 1) (placeCount (now (trace .entry))) (placeNamed (now (state .entry)) (now (trace .entry))) ⌝ }
     {
         let first = self.unnamed;
         if first.path != 0 {
@@ -64,8 +64,8 @@ impl Cursor {
         requires { ⌜ Stands (now trace) p ⌝ }
         requires { ⌜ Walked (now state) (now tables) (now trace) self ⌝ }
         requires { ⌜ p .number ≡ self .path ⌝ }
-        requires { ⌜ unnamed ≡ faultBelow (p .number + 1) (placeCount (now trace)) (placeNamed (now state) (now trace)) ⌝ }
-        ensures { λ r. ⌜ (unnamed .path ≡ 0 → r ≡ faultBelow (p .number + 1) (stepCount (now (trace .entry))) (stepAllowed (now (state .entry)) (now (tables .entry)) (now (trace .entry)))) ⌝ }
+        requires { ⌜ unnamed ≡ faultIn (p .number + 1) (placeCount (now trace)) (placeNamed (now state) (now trace)) ⌝ }
+        ensures { λ r. ⌜ (unnamed .path ≡ 0 → r ≡ faultIn (p .number + 1) (stepCount (now (trace .entry))) (stepAllowed (now (state .entry)) (now (tables .entry)) (now (trace .entry)))) ⌝ }
     {
         let first = self.forbidden;
         if unnamed.path != 0 {

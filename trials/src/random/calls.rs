@@ -21,11 +21,6 @@ pub fn judging_calls(rng: &mut Rng, network: &Network) -> [Call; 9] {
     };
     let highest = count as u64;
     let withdrawn = [highest, highest, highest + 1, highest + 1, node(rng)];
-    let path = |rng: &mut Rng, length| (0..length).map(|_| node(rng) as u8).collect();
-    let trace = match rng.below(4) {
-        0 => trace_file(&[]),
-        length => trace_file(&[path(rng, 1), path(rng, length)]),
-    };
     [
         Call::Sound,
         Call::Survey {
@@ -38,7 +33,9 @@ pub fn judging_calls(rng: &mut Rng, network: &Network) -> [Call; 9] {
             to: node(rng),
             failed: failed_set(rng, count),
         },
-        Call::Trace { trace },
+        Call::Trace {
+            trace: short_trace(rng, node),
+        },
         Call::Deliver { sender, receiver },
         Call::Begin {
             id: fresh_id(rng, network).unwrap_or(0),
@@ -48,4 +45,13 @@ pub fn judging_calls(rng: &mut Rng, network: &Network) -> [Call; 9] {
             node: rng.pick(&withdrawn),
         },
     ]
+}
+
+/// No paths, or one of a node and one of up to three.
+fn short_trace(rng: &mut Rng, node: impl Fn(&mut Rng) -> u64) -> Vec<u8> {
+    let path = |rng: &mut Rng, length| (0..length).map(|_| node(rng) as u8).collect();
+    match rng.below(4) {
+        0 => trace_file(&[]),
+        length => trace_file(&[path(rng, 1), path(rng, length)]),
+    }
 }

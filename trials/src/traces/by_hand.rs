@@ -1,6 +1,7 @@
 //! Traces with their answers, worked out by hand.
 
-use crate::by_hand::{five, surveyed};
+use super::networks::{chain, image_of};
+use crate::by_hand::five;
 use crate::compare::Pair;
 use crate::engine::Engine;
 use crate::paper::{e1_short, E1};
@@ -170,16 +171,12 @@ const IN_64: [Case; 5] = [
 ];
 
 pub fn by_hand(a: &dyn Engine, b: &dyn Engine) -> Result<(), String> {
-    let image = |name: &str| {
-        let case = surveyed().into_iter().find(|case| case.name == name);
-        case.expect(name).image
-    };
     let networks = [
         (E1.to_vec(), &IN_E1[..]),
         (e1_short(), &IN_E1_SHORT),
         (five(), &IN_FIVE),
-        (image("chain"), &IN_CHAIN),
-        (image("64 alone"), &IN_64),
+        (chain(), &IN_CHAIN),
+        (image_of("64 alone"), &IN_64),
     ];
     let mut pair = Pair::new(a, b);
     for (image, cases) in networks {

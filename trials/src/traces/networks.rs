@@ -43,10 +43,15 @@ pub fn network(image: Vec<u8>) -> Lent {
     memory
 }
 
+/// The image of this name whose survey is worked out by hand.
+pub fn image_of(name: &str) -> Vec<u8> {
+    let case = surveyed().into_iter().find(|case| case.name == name);
+    case.expect(name).image
+}
+
 /// The image of the chain: nine nodes, of which each has only the next.
 pub fn chain() -> Vec<u8> {
-    let chain = surveyed().into_iter().find(|case| case.name == "chain");
-    chain.expect("it is there").image
+    image_of("chain")
 }
 
 /// Some allowed paths, each once, of lookups and by the last of each entry: the longest, and others.

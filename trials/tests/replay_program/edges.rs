@@ -396,7 +396,7 @@ found: node 1
 trace: 0 paths accepted
 trace: 1 path accepted
 refused 9 at path 1, place 2: a node number is 0 or above the number of nodes
-refused 22: the trace is empty, a count is not 1 to 9, or the length differs from the counts
+refused 22: the trace is empty, a path's count is not 1 to 9, or the length does not fit
 trace: the file cannot be read
 begin: node 2
 refused 23 at path 1, step 1: the step goes to no node of the lookup's entry, or past the destination
@@ -406,8 +406,8 @@ trace: 1 path accepted
 trace: 2 paths accepted
 refused 23 at path 2, step 2: the step goes to no node of the lookup's entry, or past the destination
 refused 9 at path 2, place 1: a node number is 0 or above the number of nodes
-refused 22: the trace is empty, a count is not 1 to 9, or the length differs from the counts
-refused 22: the trace is empty, a count is not 1 to 9, or the length differs from the counts
+refused 22: the trace is empty, a path's count is not 1 to 9, or the length does not fit
+refused 22: the trace is empty, a path's count is not 1 to 9, or the length does not fit
 begin: node 3
 trace: 2 paths accepted
 trace: 0 paths accepted
@@ -460,7 +460,7 @@ fn traces_of_255_paths_and_overlong_files() {
     let nine = [&most[..509], &[9, 64, 64, 64, 64, 64, 64, 64, 64, 63]].concat();
     let refused = traced(&nine);
     assert!(refused.starts_with("refused 23 at path 255, step 1: "));
-    let counts = "refused 22: the trace is empty, a count is not 1 to 9, or the length differs from the counts\n";
+    let counts = "refused 22: the trace is empty, a path's count is not 1 to 9, or the length does not fit\n";
     for length in [512, 2_552, 65_535, 65_536, 65_537, 70_000, 1_000_000] {
         let mut long = most.clone();
         long.resize(length, 1);

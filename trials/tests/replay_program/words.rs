@@ -28,7 +28,7 @@ const SENTENCES: [&str; 24] = [
     "the node is not the highest-numbered one",
     "the node is settled or notifying",
     "the start or the destination has failed",
-    "the trace is empty, a count is not 1 to 9, or the length differs from the counts",
+    "the trace is empty, a path's count is not 1 to 9, or the length does not fit",
     "the step goes to no node of the lookup's entry, or past the destination",
 ];
 

@@ -214,6 +214,13 @@ fn lookup_survey_verdict_trace_and_writing_judge_in_order() {
     assert_eq!(second::write(state, tables, &mut out[..40]).length, 40);
 }
 
+/// Good ones and bad ones, whatever is wrong with them.
+fn all_traces_are_refused(state: &[u64], tables: &[u8], answer: u64) {
+    for trace in [&[][..], &[0], &[1, 1, 0], &[1, 2, 1, 1]] {
+        assert_eq!(second::trace(state, tables, trace).pack(), answer);
+    }
+}
+
 #[test]
 fn memory_too_short_comes_first_and_unsound_next() {
     let Lent {
@@ -237,9 +244,7 @@ fn memory_too_short_comes_first_and_unsound_next() {
             assert_eq!(looked_up.refusal, refusal);
             assert_eq!(second::survey(state, tables, failed).refusal, refusal);
         }
-        for trace in [&[][..], &[0], &[1, 1, 0], &[1, 2, 1, 1]] {
-            assert_eq!(second::trace(state, tables, trace).pack(), refusal.into());
-        }
+        all_traces_are_refused(state, tables, refusal.into());
         assert_eq!(second::verdict(state, tables).refusal, refusal);
         assert_eq!(second::write(state, tables, &mut out).refusal, refusal);
     }

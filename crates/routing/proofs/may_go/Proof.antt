@@ -1,4 +1,4 @@
--- `routing::may_go` meets its contract: no path goes on from its destination, and else the entry at the common suffix holds the node or not.
+-- `routing::may_go` meets its contract: no path goes on past its destination, and else the entry at the common suffix holds the node or not.
 -- Assumes nothing.
 use native.Mathlib.Omega.{arith}
 use borrow.Author.Needs.{needs}
