@@ -1,8 +1,9 @@
 //! Steps of two engines; an error says what is wrong.
 
-use crate::compare::Pair;
+use crate::compare::{same_network, Pair};
+use crate::lent::ALL;
 use crate::random::{fresh_id, Rng};
-use crate::script::{Call, Line};
+use crate::script::{Call, Lend, Line};
 use crate::second::memory::MOST_NODES;
 use crate::second::network::Network;
 
@@ -17,6 +18,26 @@ pub fn expect(pair: &mut Pair, made: Call, answer: u64) -> Result<(), String> {
     if found != answer {
         return Err(format!("{made}: {found:#x}, not {answer:#x}"));
     }
+    Ok(())
+}
+
+/// A call that must be answered so, and keep the network.
+pub fn expect_kept(pair: &mut Pair, made: Call, answer: u64) -> Result<(), String> {
+    let before = pair.memory().clone();
+    expect(pair, made, answer).map_err(|what| format!("{:?}, {what}", before.lend))?;
+    same_network(["before", "after"], &before, pair.memory())
+}
+
+/// From here on so many words and bytes are lent, with this in an unused word.
+pub fn lend(pair: &mut Pair, (state, tables, unused): (usize, usize, u64)) -> Result<(), String> {
+    let (place, value) = (7, unused);
+    pair.obey(&Line::Word { place, value })?;
+    let lend = Lend {
+        state,
+        tables,
+        ..ALL
+    };
+    pair.obey(&Line::Lend(lend))?;
     Ok(())
 }
 

@@ -1,11 +1,10 @@
 //! The refusals of lookups and surveys in their order: of all that are true the first wins. A survey has only the first two.
 
-use crate::compare::{same_network, Pair};
+use crate::compare::Pair;
 use crate::engine::Engine;
-use crate::lent::{Lent, ALL};
 use crate::panel::ALL_STATUSES;
-use crate::script::{Call, Lend, Line, Script};
-use crate::steps::expect;
+use crate::script::{Call, Script};
+use crate::steps::{expect_kept, lend};
 
 /// Words and bytes lent, what stands in an unused word, start, destination, failed nodes, and the answer. There are five nodes.
 type Case = (usize, usize, u64, u64, u64, u64, u64);
@@ -72,37 +71,14 @@ pub fn in_order(a: &dyn Engine, b: &dyn Engine) -> Result<(), String> {
     let whole = pair.memory().clone();
     for (state, tables, unused, from, to, failed, answer) in LOOKUPS {
         let call = Call::Lookup { from, to, failed };
-        lend(&mut pair, &whole, (state, tables, unused))?;
-        is_answered(&mut pair, call, answer)?;
+        pair.restore(&whole.state, &whole.tables);
+        lend(&mut pair, (state, tables, unused))?;
+        expect_kept(&mut pair, call, answer)?;
     }
     for (state, tables, unused, failed, answer) in SURVEYS {
-        lend(&mut pair, &whole, (state, tables, unused))?;
-        is_answered(&mut pair, Call::Survey { failed }, answer)?;
+        pair.restore(&whole.state, &whole.tables);
+        lend(&mut pair, (state, tables, unused))?;
+        expect_kept(&mut pair, Call::Survey { failed }, answer)?;
     }
     Ok(())
-}
-
-/// The network of `ALL_STATUSES`, so many words and bytes of it, with this in an unused word.
-fn lend(
-    pair: &mut Pair,
-    whole: &Lent,
-    (state, tables, unused): (usize, usize, u64),
-) -> Result<(), String> {
-    pair.restore(&whole.state, &whole.tables);
-    let (place, value) = (7, unused);
-    pair.obey(&Line::Word { place, value })?;
-    let lend = Lend {
-        state,
-        tables,
-        ..ALL
-    };
-    pair.obey(&Line::Lend(lend))?;
-    Ok(())
-}
-
-/// The network stays as it is.
-fn is_answered(pair: &mut Pair, call: Call, answer: u64) -> Result<(), String> {
-    let before = pair.memory().clone();
-    expect(pair, call, answer).map_err(|what| format!("{:?}, {what}", before.lend))?;
-    same_network(["before", "after"], &before, pair.memory())
 }

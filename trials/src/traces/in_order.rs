@@ -1,11 +1,10 @@
 //! The refusals of a trace in their order: of all that are true the first wins, and joins under way are none.
 
-use crate::compare::{same_network, Pair};
+use crate::compare::Pair;
 use crate::engine::Engine;
-use crate::lent::ALL;
 use crate::panel::ALL_STATUSES;
-use crate::script::{Call, Lend, Line, Script};
-use crate::steps::expect;
+use crate::script::{Call, Script};
+use crate::steps::{expect_kept, lend};
 
 /// Words and bytes lent, what stands in an unused word, the file, and the answer. There are five nodes, of which two are in system; node 1 has node 3
 /// for its way to it, and nodes 1 and 2 have each other.
@@ -82,19 +81,10 @@ pub fn in_order(a: &dyn Engine, b: &dyn Engine) -> Result<(), String> {
         pair.obey(line)?;
     }
     for (state, tables, unused, trace, answer) in CASES {
-        let (place, value) = (7, unused);
-        pair.obey(&Line::Word { place, value })?;
-        let lend = Lend {
-            state,
-            tables,
-            ..ALL
-        };
-        pair.obey(&Line::Lend(lend))?;
-        let before = pair.memory().clone();
+        lend(&mut pair, (state, tables, unused))?;
         let trace = trace.to_vec();
-        expect(&mut pair, Call::Trace { trace }, answer)
-            .map_err(|what| format!("{lend:?}, {unused} unused, {what}"))?;
-        same_network(["before", "after"], &before, pair.memory())?;
+        expect_kept(&mut pair, Call::Trace { trace }, answer)
+            .map_err(|what| format!("{unused} unused, {what}"))?;
     }
     Ok(())
 }

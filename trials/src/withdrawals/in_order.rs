@@ -3,9 +3,9 @@
 use super::steps::expect;
 use crate::compare::{same_network, Pair};
 use crate::engine::Engine;
-use crate::lent::ALL;
 use crate::panel::ALL_STATUSES;
-use crate::script::{Call, Lend, Line, Script};
+use crate::script::{Call, Script};
+use crate::steps::lend;
 
 /// Words and bytes lent, what stands in an unused word, the node, and the answer. Of five nodes the highest copies.
 const OF_FIVE: [(usize, usize, u64, u64, u64); 18] = [
@@ -50,13 +50,7 @@ pub fn in_order(a: &dyn Engine, b: &dyn Engine) -> Result<(), String> {
         for line in &script.lines[..lines] {
             pair.obey(line)?;
         }
-        let (place, value) = (7, unused);
-        pair.obey(&Line::Word { place, value })?;
-        pair.obey(&Line::Lend(Lend {
-            state,
-            tables,
-            ..ALL
-        }))?;
+        lend(&mut pair, (state, tables, unused))?;
         let before = pair.memory().clone();
         expect(&mut pair, Call::Withdraw { node }, answer)
             .map_err(|what| format!("{state} words, {tables} bytes, {unused} unused: {what}"))?;

@@ -7,28 +7,21 @@ use trials::engine::Second;
 use trials::failures::{
     any_set, arrives, by_hand, cost, every_set, in_order, kept, mean, survived, Literal,
 };
-use trials::fenced::{FencedArchive, Place};
 use trials::lent::Lent;
 use trials::script::{set_of, Call};
 use trials::second::memory::{COUNT, DEPTH};
 use trials::second::{Counts, LOST};
 
-use crate::support::Both;
+use crate::support::{fenced_too, Both};
 
 #[test]
 fn lookups_and_surveys_are_answered_as_worked_out_by_hand() {
-    by_hand(&Archive, &Second).unwrap();
-    for place in Place::ALL {
-        by_hand(&FencedArchive(place), &Second).unwrap();
-    }
+    fenced_too(by_hand);
 }
 
 #[test]
 fn the_first_refusal_that_is_true_wins() {
-    in_order(&Archive, &Second).unwrap();
-    for place in Place::ALL {
-        in_order(&FencedArchive(place), &Second).unwrap();
-    }
+    fenced_too(in_order);
 }
 
 #[test]

@@ -2,13 +2,22 @@
 
 use trials::archive::Archive;
 use trials::compare::{Difference, Pair};
-use trials::engine::Second;
+use trials::engine::{Engine, Second};
+use trials::fenced::{FencedArchive, Place};
 use trials::lent::Lent;
 use trials::random::{fresh_id, run, run_from_built, Rng};
 use trials::script::{Call, Lend, Line, Script};
 use trials::second::memory::{STATE_WORDS, TABLE_BYTES};
 use trials::second::network::Network;
 use trials::second::Counts;
+
+/// The trial of the proved engine beside the second one, and once more in each place of fenced memory.
+pub fn fenced_too<T>(trial: fn(&dyn Engine, &dyn Engine) -> Result<T, String>) {
+    trial(&Archive, &Second).unwrap();
+    for place in Place::ALL {
+        trial(&FencedArchive(place), &Second).unwrap();
+    }
+}
 
 /// How much of each memory is lent: mostly enough, now and then one place short or more than is needed.
 pub fn lent_lengths(rng: &mut Rng) -> (usize, usize) {

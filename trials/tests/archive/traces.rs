@@ -2,24 +2,19 @@
 
 use trials::archive::Archive;
 use trials::engine::Second;
-use trials::fenced::{FencedArchive, Place};
 use trials::traces::{accepted, by_hand, by_lookups, damaged, every_file, every_lookup};
 use trials::traces::{every_path, faulty, in_order, most};
 
+use crate::support::fenced_too;
+
 #[test]
 fn traces_are_answered_as_worked_out_by_hand() {
-    by_hand(&Archive, &Second).unwrap();
-    for place in Place::ALL {
-        by_hand(&FencedArchive(place), &Second).unwrap();
-    }
+    fenced_too(by_hand);
 }
 
 #[test]
 fn the_first_refusal_that_is_true_wins() {
-    in_order(&Archive, &Second).unwrap();
-    for place in Place::ALL {
-        in_order(&FencedArchive(place), &Second).unwrap();
-    }
+    fenced_too(in_order);
 }
 
 #[test]
@@ -59,8 +54,5 @@ fn damaged_files_are_answered_as_they_read() {
 
 #[test]
 fn a_fault_in_any_of_255_paths_is_named() {
-    most(&Archive, &Second).unwrap();
-    for place in Place::ALL {
-        most(&FencedArchive(place), &Second).unwrap();
-    }
+    fenced_too(most);
 }

@@ -2,31 +2,23 @@
 
 use trials::archive::Archive;
 use trials::engine::Second;
-use trials::fenced::{FencedArchive, Place};
 use trials::withdrawals::{again, apart, by_hand, down, each_number, in_order, last, undone};
+
+use crate::support::fenced_too;
 
 #[test]
 fn withdrawals_are_answered_as_worked_out_by_hand() {
-    by_hand(&Archive, &Second).unwrap();
-    for place in Place::ALL {
-        by_hand(&FencedArchive(place), &Second).unwrap();
-    }
+    fenced_too(by_hand);
 }
 
 #[test]
 fn the_first_refusal_that_is_true_wins() {
-    in_order(&Archive, &Second).unwrap();
-    for place in Place::ALL {
-        in_order(&FencedArchive(place), &Second).unwrap();
-    }
+    fenced_too(in_order);
 }
 
 #[test]
 fn the_64th_node_is_withdrawn() {
-    last(&Archive, &Second).unwrap();
-    for place in Place::ALL {
-        last(&FencedArchive(place), &Second).unwrap();
-    }
+    fenced_too(last);
 }
 
 #[test]
