@@ -14,6 +14,7 @@
 //! - `traces`: what checking a trace must answer, and trials of it.
 //! - `one_join`: what holds of a single join into a network that passes the verdict, and of several at once, and trials of it.
 //! - `panel`: what holds of each node's two counts.
+//! - `plain`: soundness, and the sentences about records, slow and literal.
 //! - `paper`: the images of document 01.
 //! - `by_hand`: other images, some with the counts of their survey.
 //! - `records`: images with bad records, and what reading must answer to each.
@@ -32,6 +33,7 @@ pub mod met;
 pub mod one_join;
 pub mod panel;
 pub mod paper;
+pub mod plain;
 pub mod random;
 pub mod records;
 pub mod script;

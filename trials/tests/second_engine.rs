@@ -12,10 +12,6 @@ mod images;
 mod one_join;
 #[path = "second_engine/panel.rs"]
 mod panel;
-#[path = "second_engine/plain.rs"]
-mod plain;
-#[path = "second_engine/plain_records.rs"]
-mod plain_records;
 #[path = "second_engine/promises.rs"]
 mod promises;
 #[path = "second_engine/records.rs"]

@@ -1,12 +1,12 @@
 //! Refused records: the number and the place, by hand, by the fault that was put in, and by the literal judge.
 
 use trials::lent::Lent;
+use trials::plain::plain_records;
 use trials::random::{image, image_damages, parts, seeds, Rng};
 use trials::records::{by_hand, long, moved, networks, one_fault, three_faults, two_faults};
 use trials::records::{two_replaced, Cause, Judged};
 use trials::second::Refusal;
 
-use crate::plain_records::plain_records;
 use crate::support::Trial;
 
 /// Reads each into the same memory, which a refused one leaves as it is; also answers how many there were.

@@ -3,11 +3,10 @@
 use trials::engine::Second;
 use trials::lent::Lent;
 use trials::panel::{ALL_STATUSES, SOUND, UNSOUND};
+use trials::plain::plain_sound;
 use trials::random::{built_state, damage, reached_state, seeds, Rng};
 use trials::script::{Line, Script};
 use trials::second::sound;
-
-use crate::plain::plain_sound;
 
 fn judged(memory: &Lent) -> bool {
     let (state, tables) = (memory.used_state(), memory.used_tables());

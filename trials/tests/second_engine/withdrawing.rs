@@ -1,11 +1,11 @@
 //! Withdrawals by the second engine.
 
 use trials::engine::Second;
+use trials::plain::plain_sound;
 use trials::random::{seeds, some_state, Rng};
 use trials::withdrawals::{again, apart, by_hand, down, each_number, in_order, last};
 use trials::withdrawals::{met_enough, undone};
 
-use crate::plain::plain_sound;
 use crate::support::Trial;
 
 #[test]

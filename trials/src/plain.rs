@@ -1,7 +1,12 @@
-//! Document 01's paragraph on soundness, and document 02's bounds of the counts, clause by clause, slow and literal.
+//! Document 01's paragraph on soundness, and document 02's bounds of the counts, clause by clause, slow and literal; in `records` the sentences about an
+//! image's records.
 
-use trials::panel::Bounds;
-use trials::second::memory::{State, Tables};
+mod records;
+
+pub use records::plain_records;
+
+use crate::panel::Bounds;
+use crate::second::memory::{State, Tables};
 
 /// One state as the clauses see it.
 struct Plain<'a> {
