@@ -89,7 +89,7 @@ fn use_of(nodes: usize, image: &[u8], rng: &mut Rng) -> Vec<Call> {
             Call::Survey {
                 failed: EVERY_FOURTH,
             },
-            Call::Write,
+            Call::WRITE_1,
         ]
     });
     let image = image.to_vec();
@@ -107,7 +107,7 @@ fn round(settings: [u64; 3], nodes: usize) -> Vec<Call> {
     let grown = panels(memory.used_state());
     let joined = grown[1..nodes].iter().all(|panel| panel.requests > 1);
     assert!(joined, "each node but the first has sent requests");
-    let length = (memory.call(&Second, &Call::Write) >> 8) as usize;
+    let length = (memory.call(&Second, &Call::WRITE_1) >> 8) as usize;
     calls.extend(use_of(nodes, &memory.out[..length], &mut rng));
     calls
 }
@@ -116,7 +116,7 @@ fn round(settings: [u64; 3], nodes: usize) -> Vec<Call> {
 fn round_of_traces() -> Vec<Call> {
     let (mut memory, paths) = long_ways();
     assert!(paths.iter().all(|path| path.len() == 9));
-    let length = (memory.call(&Second, &Call::Write) >> 8) as usize;
+    let length = (memory.call(&Second, &Call::WRITE_1) >> 8) as usize;
     let image = memory.out[..length].to_vec();
     let traces = [255, 127, 0].map(|count| trace_file(&paths[..count]));
     let mut calls = vec![Call::Read { image }];

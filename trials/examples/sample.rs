@@ -56,7 +56,7 @@ fn main() {
         _ => panic!("which sample: network64 or depth3?"),
     };
     let mut image = vec![0; 65536];
-    let answer = Second.write(&mut memory.state, &mut memory.tables, &mut image);
+    let answer = Second.write(&mut memory.state, &mut memory.tables, 1, &mut image);
     assert_eq!(answer & 0xff, 0);
     io::stdout()
         .write_all(&image[..(answer >> 8) as usize])

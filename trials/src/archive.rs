@@ -74,6 +74,7 @@ pub mod interface {
             state_len: usize,
             tables: *const u8,
             tables_len: usize,
+            version: u64,
             out: *mut u8,
             out_len: usize,
         ) -> u64;
@@ -163,12 +164,10 @@ impl Engine for Archive {
         unsafe { interface::overlay_verdict(state.as_mut_ptr(), words, tables.as_mut_ptr(), bytes) }
     }
 
-    fn write(&self, state: &mut [u64], tables: &mut [u8], out: &mut [u8]) -> u64 {
-        let (words, bytes) = (state.len(), tables.len());
-        let (state, tables) = (state.as_mut_ptr(), tables.as_mut_ptr());
-        unsafe {
-            interface::overlay_write(state, words, tables, bytes, out.as_mut_ptr(), out.len())
-        }
+    fn write(&self, state: &mut [u64], tables: &mut [u8], version: u64, out: &mut [u8]) -> u64 {
+        let (words, bytes, length) = (state.len(), tables.len(), out.len());
+        let (state, tables, out) = (state.as_mut_ptr(), tables.as_mut_ptr(), out.as_mut_ptr());
+        unsafe { interface::overlay_write(state, words, tables, bytes, version, out, length) }
     }
 
     fn survey(

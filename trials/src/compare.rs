@@ -161,7 +161,7 @@ fn may_write(call: &Call, answer: u64) -> Parts {
         }
         Call::Withdraw { node } => of_node(*node),
         Call::Lookup { .. } | Call::Verdict | Call::Sound | Call::Trace { .. } => NOTHING,
-        Call::Write => Parts {
+        Call::Write { .. } => Parts {
             out: 0..(answer >> 8) as usize,
             ..NOTHING
         },
@@ -245,9 +245,11 @@ fn may_be_refused(call: &Call, answer: u64) -> bool {
     }
 }
 
+/// By its own count; none where that is missing.
 fn record_count(image: &[u8]) -> u64 {
     let head = image.get(5).map_or(0, |&nodes| 8 + 4 * usize::from(nodes));
-    (image.len().saturating_sub(head) / 4) as u64
+    let count = image.get(..head).and_then(<[u8]>::last_chunk);
+    count.map_or(0, |&count| u16::from_le_bytes(count).into())
 }
 
 fn same<T: PartialEq + Display>(

@@ -23,7 +23,7 @@ pub trait Engine {
 
     fn verdict(&self, state: &mut [u64], tables: &mut [u8]) -> u64;
 
-    fn write(&self, state: &mut [u64], tables: &mut [u8], out: &mut [u8]) -> u64;
+    fn write(&self, state: &mut [u64], tables: &mut [u8], version: u64, out: &mut [u8]) -> u64;
 
     fn survey(&self, state: &mut [u64], tables: &mut [u8], failed: u64, counts: &mut Counts)
         -> u64;
@@ -80,8 +80,8 @@ impl Engine for Second {
         second::verdict(state, tables).pack()
     }
 
-    fn write(&self, state: &mut [u64], tables: &mut [u8], out: &mut [u8]) -> u64 {
-        second::write(state, tables, out).pack()
+    fn write(&self, state: &mut [u64], tables: &mut [u8], version: u64, out: &mut [u8]) -> u64 {
+        second::write(state, tables, version, out).pack()
     }
 
     fn survey(

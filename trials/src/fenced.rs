@@ -206,11 +206,11 @@ impl Engine for FencedArchive {
         })
     }
 
-    fn write(&self, state: &mut [u64], tables: &mut [u8], out: &mut [u8]) -> u64 {
+    fn write(&self, state: &mut [u64], tables: &mut [u8], version: u64, out: &mut [u8]) -> u64 {
         let length = out.len();
         let fenced = Fenced::new(self.0, out);
         let answer = self.looking(state, tables, &|words, n, bytes, m| unsafe {
-            interface::overlay_write(words, n, bytes, m, fenced.pointer(), length)
+            interface::overlay_write(words, n, bytes, m, version, fenced.pointer(), length)
         });
         fenced.put_back(out);
         answer

@@ -73,7 +73,9 @@ impl Lent {
             Call::Deliver { sender, receiver } => engine.deliver(state, tables, *sender, *receiver),
             Call::Lookup { from, to, failed } => engine.lookup(state, tables, *from, *to, *failed),
             Call::Verdict => engine.verdict(state, tables),
-            Call::Write => engine.write(state, tables, &mut self.out[..self.lend.out]),
+            Call::Write { version } => {
+                engine.write(state, tables, *version, &mut self.out[..self.lend.out])
+            }
             Call::Sound => engine.sound(state, tables),
             Call::Survey { failed } => {
                 let counts = self.counts.first_chunk_mut().expect("there is enough");

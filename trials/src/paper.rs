@@ -1,4 +1,4 @@
-//! The images of document 01.
+//! The images of document 01, and one of document 02.
 
 /// Image E1: two nodes.
 pub const E1: [u8; 40] = [
@@ -14,3 +14,12 @@ pub fn e1_short() -> Vec<u8> {
     image[14] = 5;
     image
 }
+
+/// Document 01's smallest join at its start, as version 2: node 2 copies from node 1 and has sent one request.
+pub const JOINING: [u8; 58] = [
+    4, 2, 2, 2, 1, // settings
+    2, 0, 0, 0, 0, 1, 0, 0, 0, // nodes
+    4, 0, 1, 0, 0, 1, 1, 1, 0, 1, 2, 0, 1, 2, 2, 1, 0, 2, // records
+    1, 2, 1, 0, 1, 0, 0, 0, 0, 0, 0, 0, 0, 0, 0, 0, 0, 0, 0, 0, 0, // joins under way
+    2, 0, 0, 1, 0, // counts
+];

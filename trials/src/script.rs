@@ -9,12 +9,13 @@
 //! lookup 1 2               from, to
 //! lookup 1 2 without 3 5   the same while nodes 3 and 5 have failed; numbers outside 1 to 64 mean nothing
 //! verdict
-//! write
+//! write                    an image of version 1
+//! write 2                  of this version
 //! sound                    what sentences 1 and 2 say of the memory
 //! survey
 //! survey without 3         the same while node 3 has failed
 //! trace 01020102           a trace in hexadecimal, nothing for an empty one
-//! lend 520 32768 23816     words of state, bytes of tables and of output lent from here on
+//! lend 520 32768 25226     words of state, bytes of tables and of output lent from here on
 //! word 12 5                state word 12 becomes 5 (hexadecimal), by the caller's hand
 //! byte 300 7               table byte 300 becomes 7 (hexadecimal), by the caller's hand
 //! ```
@@ -34,10 +35,17 @@ pub enum Call {
     Deliver { sender: u64, receiver: u64 },
     Lookup { from: u64, to: u64, failed: u64 },
     Verdict,
-    Write,
+    Write { version: u64 },
     Sound,
     Survey { failed: u64 },
     Trace { trace: Vec<u8> },
+}
+
+impl Call {
+    /// Writing an image of a network whose nodes are all in system.
+    pub const WRITE_1: Call = Call::Write { version: 1 };
+    /// Writing an image with the joins under way and the counts.
+    pub const WRITE_2: Call = Call::Write { version: 2 };
 }
 
 /// These nodes as the calls take them: bit u − 1 for node u. Numbers outside 1 to 64 mean nothing.
@@ -92,7 +100,8 @@ impl Display for Call {
                 write_failed(out, *failed)
             }
             Call::Verdict => out.write_str("verdict"),
-            Call::Write => out.write_str("write"),
+            Call::Write { version: 1 } => out.write_str("write"),
+            Call::Write { version } => write!(out, "write {version}"),
             Call::Sound => out.write_str("sound"),
             Call::Survey { failed } => {
                 out.write_str("survey")?;
@@ -186,7 +195,10 @@ fn parse_line(words: &[&str]) -> Result<Option<Line>, ParseIntError> {
             failed: parse_failed(without)?,
         },
         ["verdict"] => Call::Verdict,
-        ["write"] => Call::Write,
+        ["write"] => Call::WRITE_1,
+        ["write", version] => Call::Write {
+            version: version.parse()?,
+        },
         ["sound"] => Call::Sound,
         ["survey", ref without @ ..] if may_follow(without) => Call::Survey {
             failed: parse_failed(without)?,

@@ -84,7 +84,7 @@ fn under_way(rng: &mut Rng, settings: [u64; 3], nodes: usize) -> Lent {
 /// The same nodes with some neighbors left out, and the others of an entry in any order, but for an owner.
 pub fn shortened(rng: &mut Rng, whole: &Lent) -> Lent {
     let mut memory = whole.clone();
-    let length = (memory.call(&Second, &Call::Write) >> 8) as usize;
+    let length = (memory.call(&Second, &Call::WRITE_1) >> 8) as usize;
     let (head, records) = parts(&memory.out[..length]).expect("an image with its counts");
     let mut drawn: Vec<([u8; 4], u64)> = records.into_iter().map(|r| (r, rng.word())).collect();
     let owns = |[node, _, _, near]: [u8; 4]| node == near;

@@ -74,7 +74,7 @@ fn looks(pair: &mut Pair, rng: &mut Rng, node: u64, met: &mut Met) -> Result<(),
     }
     expect(pair, Call::Sound, 0)?;
     expect(pair, Call::Verdict, 15)?;
-    expect(pair, Call::Write, 15)?;
+    expect(pair, Call::WRITE_1, 15)?;
     expect(pair, Call::Read { image: vec![4] }, 3)?;
     let settings = [1, 1, 1];
     expect(pair, Call::Found { settings, id: 0 }, 5)?;

@@ -50,7 +50,7 @@ pub fn sample(a: &dyn Engine, b: &dyn Engine) -> Result<[u64; 2], String> {
         return Err(format!("ends with {network:?}"));
     }
     let image = fs::read(IMAGE).map_err(|error| format!("{IMAGE}: {error}"))?;
-    let length = call(&mut pair, Call::Write)? >> 8;
+    let length = call(&mut pair, Call::WRITE_1)? >> 8;
     if pair.memory().out[..length as usize] != image {
         return Err(format!("{IMAGE} is another image"));
     }

@@ -32,6 +32,24 @@ impl History {
         }
     }
 
+    /// After a reading: of version 1 nobody has sent anything, of version 2 each node starts with its counts at the image's end.
+    fn read_in(image: &[u8]) -> History {
+        let mut history = History::new();
+        let nodes = match image {
+            [4, 2, _, _, _, nodes, ..] => usize::from(*nodes),
+            _ => 0,
+        };
+        let start = image.len().saturating_sub(2 * nodes);
+        let counts = image[start..].chunks_exact(2);
+        for (panel, counts) in history.panels.iter_mut().zip(counts) {
+            *panel = Panel {
+                requests: counts[0].into(),
+                notices: counts[1].into(),
+            };
+        }
+        history
+    }
+
     /// Notes what a line did: a call by its answer, a change of a word by the memory after it.
     pub fn note(&mut self, line: &Line, answer: u64, after: &State) {
         match line {
@@ -41,11 +59,12 @@ impl History {
         }
     }
 
-    /// A founding or a reading starts a new run, in which nobody has sent anything. A beginning sends its new node's first request, and a delivery
+    /// A founding or a reading starts a new run. A beginning sends its new node's first request, and a delivery
     /// that was copied or sent on its sender's next one; one that was notified answers its sender's notice. A withdrawal sends nothing.
     fn taken(&mut self, call: &Call, answered: u64) {
         match call {
-            Call::Found { .. } | Call::Read { .. } => *self = History::new(),
+            Call::Found { .. } => *self = History::new(),
+            Call::Read { image } => *self = History::read_in(image),
             Call::Begin { .. } => self.begin(answered),
             Call::Withdraw { node } => self.withdraw(*node),
             Call::Deliver { sender, .. } => match answered & 0xff {

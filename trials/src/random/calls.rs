@@ -27,7 +27,7 @@ pub fn judging_calls(rng: &mut Rng, network: &Network) -> [Call; 9] {
             failed: failed_set(rng, count),
         },
         Call::Verdict,
-        Call::Write,
+        Call::WRITE_1,
         Call::Lookup {
             from: node(rng),
             to: node(rng),

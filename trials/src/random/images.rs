@@ -22,7 +22,7 @@ pub fn image(rng: &mut Rng) -> Vec<u8> {
         let answer = memory.call(&Second, &Call::Deliver { sender, receiver });
         assert_ne!(answer, 2, "a run leaves a sound state");
     }
-    let length = (memory.call(&Second, &Call::Write) >> 8) as usize;
+    let length = (memory.call(&Second, &Call::WRITE_1) >> 8) as usize;
     memory.out[..length].to_vec()
 }
 

@@ -188,7 +188,7 @@ impl<'a> Maker<'a> {
     }
 
     fn write(&mut self) {
-        let length = (self.call(Call::Write) >> 8) as usize;
+        let length = (self.call(Call::WRITE_1) >> 8) as usize;
         if length > 0 {
             self.images.push(self.memory.out[..length].to_vec());
         }

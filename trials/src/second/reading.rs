@@ -1,12 +1,16 @@
-//! Reading an image: judged sentence by sentence, each over the whole image, then taken as a settled network.
+//! Reading an image: judged sentence by sentence, each over the whole image, then taken: of version 1 as a settled network, of version 2 as
+//! the whole state that it has.
 
 use super::answers::{Answer, ReadAnswer};
 use super::founding::encode_all;
-use super::memory::{self, MOST_NODES};
+use super::joins::Joins;
+use super::memory::{self, State, Tables, MOST_NODES, STATE_WORDS, TABLE_BYTES};
 use super::network::Network;
 use super::refusal::Refusal;
 use super::settings::{digit, Settings};
+use super::soundness::sound;
 use super::table::Table;
+use super::version::Version;
 
 /// A longer image is refused whatever its counts say.
 pub const LONGEST_READ: usize = 65_535;
@@ -16,6 +20,8 @@ struct Image {
     settings: Settings,
     ids: Vec<u32>,
     records: Vec<Record>,
+    /// What version 2 adds.
+    joins: Option<Joins>,
 }
 
 /// One filled slot.
@@ -57,13 +63,30 @@ fn try_read(state: &mut [u64], tables: &mut [u8], image: &[u8]) -> Result<(), De
     let all = image.build_tables()?;
     image.judge_own_entries(&all)?;
 
-    encode_all(
-        &Network::settled(image.settings, &image.ids),
-        &all,
-        state,
-        tables,
-    );
+    let settled = Network::settled(image.settings, &image.ids);
+    match &image.joins {
+        None => encode_all(&settled, &all, state, tables),
+        Some(joins) => {
+            let (restored_state, restored_tables) = restored(&settled, &all, joins)?;
+            *state = *restored_state;
+            *tables = *restored_tables;
+        }
+    }
     Ok(())
+}
+
+/// Sentence 24: the whole state of an image of version 2, if it is sound.
+fn restored(
+    settled: &Network,
+    all: &[Table],
+    joins: &Joins,
+) -> Result<(Box<State>, Box<Tables>), Refusal> {
+    let mut state = Box::new([0; STATE_WORDS]);
+    let mut tables = Box::new([0; TABLE_BYTES]);
+    encode_all(settled, all, &mut state, &mut tables);
+    joins.put(&mut state)?;
+    Refusal::UnsoundImage.when(!sound(&state, &tables))?;
+    Ok((state, tables))
 }
 
 impl Image {
@@ -72,35 +95,35 @@ impl Image {
         let ([start, version, base, digits, depth], rest) =
             image.split_first_chunk().ok_or(Refusal::NotAnImage)?;
         Refusal::NotAnImage.when(*start != 4)?;
-        Refusal::ImageVersion.when(*version != 1)?;
+        let version = Version::new((*version).into()).ok_or(Refusal::ImageVersion)?;
         let settings = Settings::new((*base).into(), (*digits).into(), (*depth).into())
             .ok_or(Refusal::BadSetting)?;
         Refusal::ImageCounts.when(image.len() > LONGEST_READ)?;
-        let (ids, records) = Image::sections(rest).ok_or(Refusal::ImageCounts)?;
-        Ok(Image {
-            settings,
-            ids,
-            records,
-        })
+        Image::sections(settings, version, rest).ok_or(Refusal::ImageCounts)
     }
 
-    /// Ids and records, if the counts are there, in range, and give exactly the length.
-    fn sections(rest: &[u8]) -> Option<(Vec<u32>, Vec<Record>)> {
+    /// The sections behind the settings, if the counts are there, in range, and give exactly the length.
+    fn sections(settings: Settings, version: Version, rest: &[u8]) -> Option<Image> {
         let (&count, rest) = rest.split_first()?;
         let count = usize::from(count);
         if count == 0 || count > MOST_NODES {
             return None;
         }
         let (ids, rest) = rest.split_at_checked(4 * count)?;
-        let (&record_count, records) = rest.split_first_chunk()?;
-        if records.len() != 4 * usize::from(u16::from_le_bytes(record_count)) {
-            return None;
-        }
+        let (&record_count, rest) = rest.split_first_chunk()?;
+        let record_count = usize::from(u16::from_le_bytes(record_count));
+        let (records, rest) = rest.split_at_checked(4 * record_count)?;
+        let joins = match version {
+            Version::One => rest.is_empty().then_some(None)?,
+            Version::Two => Some(Joins::parse(rest)?),
+        };
         let id = |bytes: &[u8]| u32::from_le_bytes(bytes.try_into().expect("chunks of four"));
-        Some((
-            ids.chunks_exact(4).map(id).collect(),
-            records.chunks_exact(4).map(Record::new).collect(),
-        ))
+        Some(Image {
+            settings,
+            ids: ids.chunks_exact(4).map(id).collect(),
+            records: records.chunks_exact(4).map(Record::new).collect(),
+            joins,
+        })
     }
 
     /// Sentences 7 and 8.

@@ -25,11 +25,12 @@ pub enum Refusal {
     HasFailed = 21,
     TraceCounts = 22,
     StepNotAllowed = 23,
+    UnsoundImage = 24,
 }
 
 impl Refusal {
     /// Every refusal, in the order of the numbers.
-    pub const ALL: [Refusal; 23] = [
+    pub const ALL: [Refusal; 24] = [
         Refusal::ShortMemory,
         Refusal::Unsound,
         Refusal::NotAnImage,
@@ -53,6 +54,7 @@ impl Refusal {
         Refusal::HasFailed,
         Refusal::TraceCounts,
         Refusal::StepNotAllowed,
+        Refusal::UnsoundImage,
     ];
 
     /// How many numbers an answer may have: 0, and that of each refusal.

@@ -43,7 +43,7 @@ pub fn looking(rng: &mut Rng, node: u64) -> Call {
         0 => Call::Sound,
         1 => Call::Survey { failed },
         2 => Call::Verdict,
-        3 => Call::Write,
+        3 => Call::WRITE_1,
         4 => Call::Lookup {
             from: node,
             to: other,

@@ -20,7 +20,7 @@ fn joining_one_node_makes_e1() {
     assert_eq!(both.deliver(2, 1), ATTACHED | SETTLED);
     assert_eq!(both.deliver(2, 1), 13);
     assert!(both.network().all_in_system());
-    assert_eq!(both.image(), E1);
+    assert_eq!(both.image(1), E1);
 }
 
 /// P6 and P7.

@@ -76,7 +76,7 @@ fn each_call() -> [Call; 14] {
         lookup(0),
         lookup(!3),
         Call::Verdict,
-        Call::Write,
+        Call::WRITE_1,
         Call::Sound,
         Call::Survey { failed: 0 },
         Call::Survey { failed: !2 },
@@ -134,7 +134,7 @@ fn writing_agrees_at_every_length_of_the_output() {
         script.call(Call::Read { image });
         for out in [0, 1, length / 2, length - 1, length, length + 1, ALL.out] {
             script.lines.push(Line::Lend(Lend { out, ..EXACT }));
-            script.call(Call::Write);
+            script.call(Call::WRITE_1);
         }
         agree(seed, &script);
     }

@@ -19,7 +19,7 @@ const SETTINGS: [[u64; 3]; 6] = [
 
 /// Saves the network and reads it here and elsewhere: each word and byte is as it was, but that every count is zero.
 fn save_and_read(both: &mut Both) {
-    let image = both.image();
+    let image = both.image(1);
     let mut state = *both.memory().used_state();
     let tables = both.memory().used_tables().to_vec();
     for node in 1..=state[COUNT] as usize {

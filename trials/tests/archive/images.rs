@@ -51,7 +51,7 @@ impl Reader {
             let consistent = self.call(Call::Verdict, image) == 0x100;
             self.consistent += usize::from(consistent);
             self.not += usize::from(!consistent);
-            let length = self.call(Call::Write, image) >> 8;
+            let length = self.call(Call::WRITE_1, image) >> 8;
             assert_eq!(self.pair.memory().out[..length as usize], *image);
         }
         answer
@@ -234,6 +234,6 @@ fn an_image_is_judged_after_the_lent_lengths() {
         both.lend(just_enough);
         assert_eq!(both.read(&image), 0);
         assert_eq!(both.read(&[]), 3);
-        assert_eq!(both.image(), image);
+        assert_eq!(both.image(1), image);
     }
 }

@@ -94,7 +94,7 @@ impl Walk {
             self.pair.restore(&point.words, &point.bytes);
             let network = Network::decode(self.pair.memory().used_state());
             let [verdict, written] =
-                [Call::Verdict, Call::Write].map(|call| self.call(place, &point, &call));
+                [Call::Verdict, Call::WRITE_1].map(|call| self.call(place, &point, &call));
             self.survey(place, &point);
             let judged = self.judge(&network, [verdict, written & 0xff]);
             judged.unwrap_or_else(|what| panic!("{}", self.report(place, what)));

@@ -55,7 +55,7 @@ fn an_image_has_no_counts() {
         let mut rng = Rng::new(seed);
         let mut both = Both::founded([4, 3, 2], 0);
         both.grow(&mut rng, 12, 3);
-        let image = both.image();
+        let image = both.image(1);
         for node in 1..=both.memory().state[COUNT] as usize {
             let bounds = Bounds::of(both.memory().used_state(), node);
             let ranges = [bounds.requests, bounds.notices];
@@ -67,12 +67,12 @@ fn an_image_has_no_counts() {
                 both.obey(Line::Word { place, value });
             }
         }
-        assert_eq!(both.image(), image, "seed {seed}");
+        assert_eq!(both.image(1), image, "seed {seed}");
         written += usize::from(panels(both.memory().used_state()) != [Panel::default(); 64]);
         assert_eq!(both.read(&image), 0);
         assert_eq!(panels(both.memory().used_state()), [Panel::default(); 64]);
         assert_eq!(both.call(Call::Sound), 0);
-        assert_eq!(both.image(), image, "seed {seed}");
+        assert_eq!(both.image(1), image, "seed {seed}");
     }
     assert!(written > 50, "{written}");
 }

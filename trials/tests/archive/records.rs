@@ -16,7 +16,7 @@ fn are_judged(cases: Vec<Judged>) {
         for case in part {
             assert_eq!(both.read(&case.image), case.answer(), "{}", case.name);
             if case.refusal == 0 {
-                assert_eq!(both.image(), case.image, "{}", case.name);
+                assert_eq!(both.image(1), case.image, "{}", case.name);
             }
         }
     }

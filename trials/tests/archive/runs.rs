@@ -76,7 +76,7 @@ fn calls_on_damaged_states_agree() {
         let image = image(&mut rng);
         script.call(Call::Read { image });
         script.call(Call::Verdict);
-        script.call(Call::Write);
+        script.call(Call::WRITE_1);
         agree(seed, &script);
     }
 }

@@ -159,9 +159,9 @@ impl Both {
         *self.memory().used_counts()
     }
 
-    /// The image of the network, which the call of writing gives.
-    pub fn image(&mut self) -> Vec<u8> {
-        let answer = self.call(Call::Write);
+    /// The image of the network of this version, which the call of writing gives.
+    pub fn image(&mut self, version: u64) -> Vec<u8> {
+        let answer = self.call(Call::Write { version });
         assert_eq!(answer & 0xff, 0);
         self.pair.memory().out[..(answer >> 8) as usize].to_vec()
     }
@@ -172,5 +172,5 @@ pub fn full_image(rng: &mut Rng) -> Vec<u8> {
     let settings = rng.pick(&[[16, 8, 4], [4, 4, 2], [2, 7, 3]]);
     let mut both = Both::founded(settings, 0);
     both.grow(rng, 64, 4);
-    both.image()
+    both.image(1)
 }

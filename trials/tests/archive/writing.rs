@@ -4,7 +4,7 @@ use trials::by_hand::longest;
 use trials::lent::ALL;
 use trials::random::{damage, image, seeds, Rng};
 use trials::script::{Call, Lend};
-use trials::second::{Refusal, LONGEST_IMAGE};
+use trials::second::{Refusal, LONGEST_OF_VERSION_1};
 
 use crate::support::Both;
 
@@ -16,11 +16,11 @@ fn writing_needs_the_length_of_the_image_and_leaves_the_rest_alone() {
         let mut both = Both::read_in(&image);
         for out in [0, 1, length / 2, length - 1] {
             both.lend(Lend { out, ..ALL });
-            assert_eq!(both.call(Call::Write), 16, "seed {seed}, {out} bytes");
+            assert_eq!(both.call(Call::WRITE_1), 16, "seed {seed}, {out} bytes");
         }
         for out in [length, length + 1, ALL.out] {
             both.lend(Lend { out, ..ALL });
-            assert_eq!(both.image(), image, "seed {seed}, {out} bytes");
+            assert_eq!(both.image(1), image, "seed {seed}, {out} bytes");
         }
     }
 }
@@ -29,13 +29,13 @@ fn writing_needs_the_length_of_the_image_and_leaves_the_rest_alone() {
 #[test]
 fn the_longest_image_is_written() {
     let image = longest();
-    assert_eq!(image.len(), LONGEST_IMAGE);
+    assert_eq!(image.len(), LONGEST_OF_VERSION_1);
     let mut both = Both::read_in(&image);
     let lend = |out| Lend { out, ..ALL };
-    both.lend(lend(LONGEST_IMAGE - 1));
-    assert_eq!(both.call(Call::Write), 16);
-    both.lend(lend(LONGEST_IMAGE));
-    assert_eq!(both.image(), image);
+    both.lend(lend(LONGEST_OF_VERSION_1 - 1));
+    assert_eq!(both.call(Call::WRITE_1), 16);
+    both.lend(lend(LONGEST_OF_VERSION_1));
+    assert_eq!(both.image(1), image);
 }
 
 /// In any state, sound and settled or not, then after each of some damages.
@@ -47,7 +47,7 @@ fn verdict_and_writing_agree_in_any_state() {
         let mut both = Both::after_some_run(&mut rng);
         let sound = both.memory().clone();
         for _ in 0..5 {
-            let answers = [Call::Verdict, Call::Write].map(|call| both.call(call) & 0xff);
+            let answers = [Call::Verdict, Call::WRITE_1].map(|call| both.call(call) & 0xff);
             assert_eq!(answers[0], answers[1], "seed {seed}");
             met[answers[0] as usize] += 1;
             both.obey(damage(&mut rng, &sound));

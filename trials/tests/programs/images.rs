@@ -118,7 +118,7 @@ impl ImageProgram {
             let mut long = whole.clone();
             long.resize(length, 0);
             assert_eq!(self.printed(&long, WHOLE), "refusal 6\n", "{length}");
-            long[1] = 2;
+            long[1] = 3;
             assert_eq!(self.printed(&long, WHOLE), "refusal 4\n", "{length}");
         }
         assert_eq!(self.printed(&[], 1), "refusal 3\n");

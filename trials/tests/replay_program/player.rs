@@ -122,7 +122,7 @@ impl<'a> Player<'a> {
     /// A file is made, or emptied, only where writing is not refused.
     fn save(&mut self, file: &[u8]) -> String {
         let mut image = vec![0; 65_536];
-        let answer = Second.write(&mut self.state, &mut self.tables, &mut image);
+        let answer = Second.write(&mut self.state, &mut self.tables, 1, &mut image);
         said(answer, |answer| {
             let image = &image[..(answer >> 8) as usize];
             let kept = fs::File::create(self.path(file)).and_then(|mut out| out.write_all(image));

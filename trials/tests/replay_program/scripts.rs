@@ -178,7 +178,7 @@ impl Maker<'_> {
             Call::Verdict => Command::Verdict,
             Call::Survey { failed } => Command::Survey { failed },
             Call::Sound => Command::Sound,
-            Call::Write => Command::Save {
+            Call::Write { .. } => Command::Save {
                 file: self.saved_name(),
             },
             Call::Read { image } => Command::Load {

@@ -18,7 +18,7 @@ fn judge(trial: &mut Trial, before: &mut Lent, image: &[u8]) -> u8 {
         assert!(trial.network().all_in_system());
         let panels = panels(trial.memory.used_state());
         assert!(panels.iter().all(|panel| *panel == Panel::default()));
-        assert_eq!(trial.image(), image);
+        assert_eq!(trial.image(1), image);
     } else {
         assert_eq!(trial.memory, *before);
     }
@@ -30,7 +30,7 @@ fn written_images_are_read_back() {
     for seed in seeds(0, 150) {
         let image = image(&mut Rng::new(seed));
         let mut trial = Trial::read_in(&image);
-        assert_eq!(trial.image(), image, "seed {seed}");
+        assert_eq!(trial.image(1), image, "seed {seed}");
         let guard = Lent::noise();
         assert_eq!(trial.memory.out[image.len()..], guard.out[image.len()..]);
         assert_eq!(trial.memory.state[520..], guard.state[520..]);

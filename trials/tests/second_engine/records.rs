@@ -17,7 +17,7 @@ fn are_judged(cases: Vec<Judged>) -> usize {
         let answer = (read.refusal, read.place);
         assert_eq!(answer, (case.refusal, case.place), "{}", case.name);
         if read.refusal == 0 {
-            assert_eq!(trial.image(), case.image, "{}", case.name);
+            assert_eq!(trial.image(1), case.image, "{}", case.name);
             trial = Trial::new();
         }
         assert!(trial.memory == before, "{}", case.name);
@@ -74,7 +74,7 @@ fn as_many_records_as_an_image_holds() {
 fn the_networks_are_right() {
     for whole in networks() {
         let image = whole.holding(whole.records.clone()).image();
-        assert_eq!(Trial::read_in(&image).image(), image);
+        assert_eq!(Trial::read_in(&image).image(1), image);
     }
 }
 

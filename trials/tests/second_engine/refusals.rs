@@ -59,7 +59,10 @@ fn founding_and_reading_judge_in_order() {
     }
     let cases = [
         (damaged(0, 5), 3),
-        (damaged(1, 2), 4),
+        (damaged(1, 0), 4),
+        (damaged(1, 3), 4),
+        // Without the two sections of version 2.
+        (damaged(1, 2), 6),
         (damaged(2, 1), 5),
         (damaged(3, 9), 5),
         (damaged(4, 0), 5),
@@ -194,7 +197,11 @@ fn lookup_survey_verdict_trace_and_writing_judge_in_order() {
         assert_eq!(trial.survey(failed).refusal, 0);
     }
     assert_eq!(trial.verdict().refusal, 15);
-    assert_eq!(trial.write().refusal, 15);
+    assert_eq!(trial.write(1).refusal, 15);
+    assert_eq!(trial.write(2).refusal, 0);
+    for version in [0, 3, 255, 256 + 1, (1 << 32) + 2, 1 << 63, u64::MAX] {
+        assert_eq!(trial.write(version).refusal, 4, "{version}");
+    }
     // Joins under way are no refusal.
     for (trace, answer) in [
         (&[0][..], (0, 0, 0)),
@@ -210,8 +217,13 @@ fn lookup_survey_verdict_trace_and_writing_judge_in_order() {
     let Lent {
         state, tables, out, ..
     } = &mut trial.memory;
-    assert_eq!(second::write(state, tables, &mut out[..39]).refusal, 16);
-    assert_eq!(second::write(state, tables, &mut out[..40]).length, 40);
+    for (version, length) in [(1, 40), (2, 46)] {
+        let short = second::write(state, tables, version, &mut out[..length - 1]);
+        assert_eq!(short.refusal, 16);
+        let written = second::write(state, tables, version, &mut out[..length]);
+        assert_eq!(written.length, length as u64);
+    }
+    assert_eq!(second::write(state, tables, 3, &mut []).refusal, 4);
 }
 
 /// Good ones and bad ones, whatever is wrong with them.
@@ -246,7 +258,10 @@ fn memory_too_short_comes_first_and_unsound_next() {
         }
         all_traces_are_refused(state, tables, refusal.into());
         assert_eq!(second::verdict(state, tables).refusal, refusal);
-        assert_eq!(second::write(state, tables, &mut out).refusal, refusal);
+        for version in 0..4 {
+            let written = second::write(state, tables, version, &mut out);
+            assert_eq!(written.refusal, refusal);
+        }
     }
     assert_eq!(
         second::found(&mut state[..519], &mut tables, 0, 0, 0, 0).refusal,

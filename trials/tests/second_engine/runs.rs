@@ -123,7 +123,7 @@ fn runs_meet_lookups_around_failed_nodes() {
 /// Traces that are accepted and refused, with many paths, and while nodes join.
 #[test]
 fn runs_meet_traces() {
-    let (mut answers, mut joining) = ([0; 24], 0);
+    let (mut answers, mut joining) = ([0; 25], 0);
     for seed in 5_000..5_200 {
         let (script, _) = run(&mut Rng::new(seed), 300);
         let mut memory = Lent::noise();

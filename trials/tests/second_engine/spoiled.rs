@@ -218,8 +218,8 @@ impl Engine for Spoiled {
         (self.verdict)(Second.verdict(state, tables))
     }
 
-    fn write(&self, state: &mut [u64], tables: &mut [u8], out: &mut [u8]) -> u64 {
-        let answer = Second.write(state, tables, out);
+    fn write(&self, state: &mut [u64], tables: &mut [u8], version: u64, out: &mut [u8]) -> u64 {
+        let answer = Second.write(state, tables, version, out);
         (self.write)(out);
         answer
     }

@@ -72,15 +72,15 @@ impl Trial {
         second::trace(&self.memory.state, &self.memory.tables, trace)
     }
 
-    pub fn write(&mut self) -> WriteAnswer {
+    pub fn write(&mut self, version: u64) -> WriteAnswer {
         let Lent {
             state, tables, out, ..
         } = &mut self.memory;
-        second::write(state, tables, out)
+        second::write(state, tables, version, out)
     }
 
-    pub fn image(&mut self) -> Vec<u8> {
-        let written = self.write();
+    pub fn image(&mut self, version: u64) -> Vec<u8> {
+        let written = self.write(version);
         assert_eq!(written.refusal, 0);
         self.memory.out[..written.length as usize].to_vec()
     }
