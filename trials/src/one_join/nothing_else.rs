@@ -8,7 +8,7 @@ use crate::engine::{Engine, Second};
 use crate::met::{meet, Met};
 use crate::random::{seeds, Rng};
 use crate::script::Call;
-use crate::steps::{call, expect, network};
+use crate::steps::{call, expect, expect_kept, network};
 
 const SETTINGS: [[u64; 3]; 6] = [
     [2, 4, 1],
@@ -54,8 +54,8 @@ fn join_watched(pair: &mut Pair, rng: &mut Rng, met: &mut Met) -> Result<(), Str
     same_network(["alone", "looked at"], &alone, pair.memory())
 }
 
-/// Lookups, with failed nodes too, which may be refused, and surveys; traces, accepted and refused; a verdict and a writing, which are refused; a founding out
-/// of range and a reading of no image.
+/// Lookups, with failed nodes too, which may be refused, and surveys; traces, accepted and refused; a verdict and writings, which are refused, but for that of
+/// version 2; a founding out of range and a reading of no image.
 fn looks(pair: &mut Pair, rng: &mut Rng, node: u64, met: &mut Met) -> Result<(), String> {
     for failed in [0, rng.word() & rng.word()] {
         for (from, to) in [(1, node), (node, 1), (rng.between(1, node), node)] {
@@ -75,11 +75,23 @@ fn looks(pair: &mut Pair, rng: &mut Rng, node: u64, met: &mut Met) -> Result<(),
     expect(pair, Call::Sound, 0)?;
     expect(pair, Call::Verdict, 15)?;
     expect(pair, Call::WRITE_1, 15)?;
+    expect(pair, Call::Write { version: 3 }, 4)?;
+    written_and_read(pair)?;
     expect(pair, Call::Read { image: vec![4] }, 3)?;
     let settings = [1, 1, 1];
     expect(pair, Call::Found { settings, id: 0 }, 5)?;
     meet(met, "looked");
     Ok(())
+}
+
+/// An image of version 2 is written, and is the whole network: reading it changes no byte.
+fn written_and_read(pair: &mut Pair) -> Result<(), String> {
+    let answer = call(pair, Call::WRITE_2)?;
+    if answer & 0xff != 0 {
+        return Err(format!("{}: refused, {answer:#x}", Call::WRITE_2));
+    }
+    let image = pair.memory().out[..(answer >> 8) as usize].to_vec();
+    expect_kept(pair, Call::Read { image }, 0)
 }
 
 /// Deliveries of every other pair of numbers, and the beginning of an id that a node has.

@@ -27,7 +27,9 @@ pub fn judging_calls(rng: &mut Rng, network: &Network) -> [Call; 9] {
             failed: failed_set(rng, count),
         },
         Call::Verdict,
-        Call::WRITE_1,
+        Call::Write {
+            version: rng.pick(&[1, 1, 2, 2, 2, 0, 3]),
+        },
         Call::Lookup {
             from: node(rng),
             to: node(rng),

@@ -1,14 +1,24 @@
 //! Images: written by random runs, and damaged in every way that an image can be.
 
-use super::{run, Rng};
+use super::joins::{damaged_joins, JOINS_KINDS};
+use super::{before_joins, joins, run, some_state, Rng};
 use crate::engine::Second;
 use crate::script::Call;
 use crate::second::network::Network;
 
-/// What reading an image can answer once there is memory: 0, and these refusals.
+/// What reading an image of version 1, whole or damaged, can answer once there is memory: 0, and these refusals.
 pub const READING: [usize; 11] = [0, 3, 4, 5, 6, 7, 8, 9, 10, 17, 18];
+/// The same of version 2.
+pub const READING_2: [usize; 12] = [0, 3, 4, 5, 6, 7, 8, 9, 10, 17, 18, 24];
 
-/// The image of a network of some size, K-consistent or not.
+/// The image of version 2 of a network of some size, in any state.
+pub fn image_2(rng: &mut Rng) -> Vec<u8> {
+    let mut memory = some_state(rng);
+    let length = (memory.call(&Second, &Call::WRITE_2) >> 8) as usize;
+    memory.out[..length].to_vec()
+}
+
+/// The image of version 1 of a network of some size, K-consistent or not.
 pub fn image(rng: &mut Rng) -> Vec<u8> {
     let calls = rng.pick(&[1, 5, 20, 60, 200]);
     let (_, mut memory) = run(rng, calls);
@@ -27,7 +37,7 @@ pub fn image(rng: &mut Rng) -> Vec<u8> {
 }
 
 /// The image cut at every byte.
-pub fn cuts(image: &[u8]) -> impl Iterator<Item = Vec<u8>> + '_ {
+pub fn cuts(image: &[u8]) -> impl DoubleEndedIterator<Item = Vec<u8>> + ExactSizeIterator + '_ {
     (0..image.len()).map(|length| image[..length].to_vec())
 }
 
@@ -49,7 +59,7 @@ pub fn changed_bytes<'a>(rng: &'a mut Rng, image: &'a [u8]) -> impl Iterator<Ite
     })
 }
 
-/// Each record removed, repeated, and exchanged with the next, one at a time, under the right count.
+/// Each record removed, repeated, and exchanged with the next, one at a time, under the right count; of an image of version 1.
 pub fn changed_records(image: &[u8]) -> impl Iterator<Item = Vec<u8>> + '_ {
     let (head, records) = parts(image).expect("an image with its counts");
     (0..records.len()).flat_map(move |place| {
@@ -61,7 +71,7 @@ pub fn changed_records(image: &[u8]) -> impl Iterator<Item = Vec<u8>> + '_ {
     })
 }
 
-/// What stands before the records, and the records; None for an image without its counts.
+/// What stands before the records, and the records, of an image of version 1; None for one without its counts.
 pub fn parts(image: &[u8]) -> Option<(Vec<u8>, Vec<[u8; 4]>)> {
     let count = usize::from(*image.get(5)?);
     let (head, records) = image.split_at_checked(8 + 4 * count)?;
@@ -89,20 +99,31 @@ pub fn with_records(head: &[u8], records: &[[u8; 4]]) -> Vec<u8> {
 
 /// The image with one damage of some kind; an image too short for it is cut instead.
 pub fn damaged_image(rng: &mut Rng, image: &[u8]) -> Vec<u8> {
-    let kind = rng.below(KINDS);
+    let more = if image.get(1) == Some(&2) {
+        JOINS_KINDS
+    } else {
+        0
+    };
+    let kind = rng.below(KINDS + more);
     damaged(rng, image, kind).unwrap_or_else(|| image[..rng.below(image.len())].to_vec())
 }
 
-/// The image with each kind of damage once.
+/// The image with each kind of damage that it can have once.
 pub fn image_damages(rng: &mut Rng, image: &[u8]) -> Vec<Vec<u8>> {
-    let each = (0..KINDS).filter_map(|kind| damaged(rng, image, kind));
+    let each = (0..KINDS + JOINS_KINDS).filter_map(|kind| damaged(rng, image, kind));
     each.collect()
 }
 
-const KINDS: usize = 15;
+/// Kinds of damage of any image; those of what version 2 adds follow.
+const KINDS: usize = 16;
 
 fn damaged(rng: &mut Rng, image: &[u8], kind: usize) -> Option<Vec<u8>> {
-    let (mut head, mut records) = parts(image)?;
+    let (before, behind) = image.split_at_checked(before_joins(image)?)?;
+    if kind >= KINDS {
+        let joins = joins(behind)?;
+        return Some([before, &damaged_joins(rng, &joins, kind - KINDS)].concat());
+    }
+    let (mut head, mut records) = parts(before)?;
     let count = usize::from(head[5]);
     match kind {
         0 => head[rng.below(6)] = rng.word() as u8,
@@ -114,12 +135,15 @@ fn damaged(rng: &mut Rng, image: &[u8], kind: usize) -> Option<Vec<u8>> {
         6 => repeat_id(rng, &mut head),
         7..=10 => damage_records(rng, &mut records, kind),
         14 => damage_more_records(rng, &mut records),
+        // The other version.
+        15 => head[1] ^= 3,
         _ => {}
     }
     let mut image = match kind {
         7..=10 | 14 => with_records(&head, &records),
         _ => [&head, records.as_flattened()].concat(),
     };
+    image.extend(behind);
     let longer = image.len() + [1, 4_000, 70_000][rng.below(3)];
     match kind {
         11 => image.push(0),

@@ -9,6 +9,18 @@ use crate::second::memory::{STATE_WORDS, TABLE_BYTES};
 use crate::second::network::Network;
 use crate::second::Settings;
 
+const BAD_VERSIONS: [u64; 9] = [
+    0,
+    3,
+    255,
+    256 + 1,
+    256 + 2,
+    (1 << 32) + 1,
+    1 << 63,
+    (1 << 63) + 2,
+    u64::MAX,
+];
+
 /// Writes a script while playing it, so as to know what is outstanding.
 struct Maker<'a> {
     rng: &'a mut Rng,
@@ -99,13 +111,13 @@ impl<'a> Maker<'a> {
         }
         match self.rng.below(40) {
             0 => self.found_or_read_again(),
-            1 | 2 => self.write(),
-            3 | 4 => self.look(Call::Verdict),
-            5..=8 => self.lookup(),
-            9 => self.look(Call::Sound),
-            10 => self.survey(),
-            11 | 12 => self.withdraw(),
-            13 => self.trace(),
+            1..=3 => self.write(),
+            4 | 5 => self.look(Call::Verdict),
+            6..=9 => self.lookup(),
+            10 => self.look(Call::Sound),
+            11 => self.survey(),
+            12 | 13 => self.withdraw(),
+            14 => self.trace(),
             _ => self.deliver(),
         }
     }
@@ -188,7 +200,8 @@ impl<'a> Maker<'a> {
     }
 
     fn write(&mut self) {
-        let length = (self.call(Call::WRITE_1) >> 8) as usize;
+        let version = self.rng.pick(&[1, 2]);
+        let length = (self.call(Call::Write { version }) >> 8) as usize;
         if length > 0 {
             self.images.push(self.memory.out[..length].to_vec());
         }
@@ -206,9 +219,9 @@ impl<'a> Maker<'a> {
     }
 
     fn bad_call(&mut self) {
-        match self.rng.below(17) {
+        match self.rng.below(19) {
             0 => self.bad_founding(),
-            1 => self.bad_reading(),
+            1 | 17 => self.bad_reading(),
             2..=4 => self.bad_beginning(),
             5..=7 => self.bad_delivery(),
             8 => self.bad_lookup(),
@@ -216,6 +229,7 @@ impl<'a> Maker<'a> {
             10 | 11 => self.bad_withdrawal(),
             12 => self.failed_lookup(),
             13 | 14 => self.bad_trace(),
+            18 => self.bad_version(),
             _ => self.short_memory(),
         }
     }
@@ -232,8 +246,20 @@ impl<'a> Maker<'a> {
         self.call(Call::Found { settings, id });
     }
 
+    /// A version that there is not; some look like one when cut to fewer bits.
+    fn bad_version(&mut self) {
+        let version = self.rng.pick(&BAD_VERSIONS);
+        self.call(Call::Write { version });
+    }
+
+    /// One of the last two images, damaged.
     fn bad_reading(&mut self) {
-        let image = self.images.last().cloned().unwrap_or(vec![4, 1, 2, 2, 1]);
+        let last = self.images.iter().rev().take(2);
+        let last: Vec<&Vec<u8>> = last.collect();
+        let image = match last.is_empty() {
+            true => vec![4, 1, 2, 2, 1],
+            false => self.rng.pick(&last).clone(),
+        };
         let image = damaged_image(self.rng, &image);
         self.call(Call::Read { image });
     }

@@ -43,7 +43,9 @@ pub fn looking(rng: &mut Rng, node: u64) -> Call {
         0 => Call::Sound,
         1 => Call::Survey { failed },
         2 => Call::Verdict,
-        3 => Call::WRITE_1,
+        3 => Call::Write {
+            version: rng.pick(&[1, 2, 3]),
+        },
         4 => Call::Lookup {
             from: node,
             to: other,

@@ -7,9 +7,9 @@ use trials::compare::{Difference, Pair};
 use trials::engine::Second;
 use trials::fenced::{Fenced, FencedArchive, Place};
 use trials::lent::{ALL, EXACT};
-use trials::paper::E1;
-use trials::random::{cuts, damaged_trace, image, image_damages, paths, run, run_from_built};
-use trials::random::{seeds, trace_file, Rng};
+use trials::paper::{E1, JOINING};
+use trials::random::{cuts, damaged_trace, image, image_2, image_damages, paths, run};
+use trials::random::{run_from_built, seeds, trace_file, Rng};
 use trials::records::{by_hand, long, Judged};
 use trials::script::{Call, Lend, Line, Script};
 use trials::second::memory::{COUNT, STATE_WORDS, TABLE_BYTES};
@@ -55,8 +55,10 @@ fn runs_agree_on_exact_memory() {
 }
 
 /// One call of each kind, and of those that take failed nodes one with some; a trace without paths, and one of a path that every network below allows.
-fn each_call() -> [Call; 14] {
-    let image = E1.to_vec();
+fn each_call() -> [Call; 16] {
+    let read = |image: &[u8]| Call::Read {
+        image: image.to_vec(),
+    };
     let trace = |bytes: &[u8]| Call::Trace {
         trace: bytes.to_vec(),
     };
@@ -69,7 +71,8 @@ fn each_call() -> [Call; 14] {
     };
     [
         Call::Found { settings, id: 1 },
-        Call::Read { image },
+        read(&E1),
+        read(&JOINING),
         Call::Begin { id: 2, gateway: 1 },
         Call::Withdraw { node: 2 },
         Call::Deliver { sender, receiver },
@@ -77,6 +80,7 @@ fn each_call() -> [Call; 14] {
         lookup(!3),
         Call::Verdict,
         Call::WRITE_1,
+        Call::WRITE_2,
         Call::Sound,
         Call::Survey { failed: 0 },
         Call::Survey { failed: !2 },
@@ -101,7 +105,7 @@ fn around(fixed: usize) -> [usize; 6] {
 
 #[test]
 fn each_call_agrees_at_every_length() {
-    let mut taken = [0; 14];
+    let mut taken = [0; 16];
     for network in networks() {
         for state in around(STATE_WORDS) {
             for tables in around(TABLE_BYTES) {
@@ -127,34 +131,37 @@ fn each_call_agrees_at_every_length() {
 #[test]
 fn writing_agrees_at_every_length_of_the_output() {
     for seed in seeds(100, 30) {
-        let image = image(&mut Rng::new(seed));
-        let mut script = Script::default();
-        script.lines.push(Line::Lend(EXACT));
-        let length = image.len();
-        script.call(Call::Read { image });
-        for out in [0, 1, length / 2, length - 1, length, length + 1, ALL.out] {
-            script.lines.push(Line::Lend(Lend { out, ..EXACT }));
-            script.call(Call::WRITE_1);
+        let rng = &mut Rng::new(seed);
+        for (version, image) in [(1, image(rng)), (2, image_2(rng))] {
+            let mut script = Script::default();
+            script.lines.push(Line::Lend(EXACT));
+            let length = image.len();
+            script.call(Call::Read { image });
+            for out in [0, 1, length / 2, length - 1, length, length + 1, ALL.out] {
+                script.lines.push(Line::Lend(Lend { out, ..EXACT }));
+                script.call(Call::Write { version });
+            }
+            agree(seed, &script);
         }
-        agree(seed, &script);
     }
 }
 
 #[test]
 fn images_of_every_length_are_judged_alike() {
     for seed in seeds(200, 12) {
-        let mut rng = Rng::new(seed);
-        let image = image(&mut rng);
-        let mut script = Script::default();
-        script.lines.push(Line::Lend(EXACT));
-        let step = 1 + image.len() / 200;
-        let early = cuts(&image).take(20);
-        let images = early.chain(cuts(&image).step_by(step));
-        let images = images.chain([image.clone(), [&image[..], &[0]].concat()]);
-        for image in images.chain(image_damages(&mut rng, &image)) {
-            script.call(Call::Read { image });
+        let rng = &mut Rng::new(seed);
+        for image in [image(rng), image_2(rng)] {
+            let mut script = Script::default();
+            script.lines.push(Line::Lend(EXACT));
+            let step = 1 + image.len() / 200;
+            let ends = cuts(&image).take(20).chain(cuts(&image).rev().take(100));
+            let images = ends.chain(cuts(&image).step_by(step));
+            let images = images.chain([image.clone(), [&image[..], &[0]].concat()]);
+            for image in images.chain(image_damages(rng, &image)) {
+                script.call(Call::Read { image });
+            }
+            agree(seed, &script);
         }
-        agree(seed, &script);
     }
 }
 

@@ -4,21 +4,21 @@ use trials::archive::Archive;
 use trials::compare::Pair;
 use trials::engine::Second;
 use trials::lent::ALL;
-use trials::random::{
-    changed_bytes, changed_records, cuts, image, image_damages, seeds, with_records, Rng, READING,
-};
+use trials::random::{changed_bytes, changed_records, cuts, image, image_2, image_damages};
+use trials::random::{seeds, with_records, Rng, READING, READING_2};
 use trials::script::{Call, Lend, Line};
 use trials::second::Refusal;
 
 use crate::support::{full_image, Both};
 
-/// Both engines on one memory, and how often each refusal and each verdict was met.
+/// Both engines on one memory, and how often each refusal and each verdict was met, 15 too.
 struct Reader {
     pair: Pair<'static>,
     seed: u64,
     refusals: [usize; Refusal::NUMBERS],
     consistent: usize,
     not: usize,
+    joining: usize,
 }
 
 impl Reader {
@@ -29,6 +29,7 @@ impl Reader {
             refusals: [0; Refusal::NUMBERS],
             consistent: 0,
             not: 0,
+            joining: 0,
         }
     }
 
@@ -40,7 +41,7 @@ impl Reader {
         })
     }
 
-    /// Reads over what the memory holds; the packed answer. A taken image is judged, and written back byte for byte.
+    /// Reads over what the memory holds; the packed answer. A taken image is judged, and written back byte for byte in its own version.
     fn read(&mut self, image: &[u8]) -> u64 {
         let read = Call::Read {
             image: image.to_vec(),
@@ -48,10 +49,12 @@ impl Reader {
         let answer = self.call(read, image);
         self.refusals[(answer & 0xff) as usize] += 1;
         if answer == 0 {
-            let consistent = self.call(Call::Verdict, image) == 0x100;
-            self.consistent += usize::from(consistent);
-            self.not += usize::from(!consistent);
-            let length = self.call(Call::WRITE_1, image) >> 8;
+            let verdict = self.call(Call::Verdict, image);
+            self.consistent += usize::from(verdict == 0x100);
+            self.not += usize::from(verdict & 0xffff == 0);
+            self.joining += usize::from(verdict == 15);
+            let version = image[1].into();
+            let length = self.call(Call::Write { version }, image) >> 8;
             assert_eq!(self.pair.memory().out[..length as usize], *image);
         }
         answer
@@ -70,14 +73,23 @@ impl Reader {
     }
 }
 
+/// Images of a version, and what reading them damaged can answer.
+type Made = (fn(&mut Rng) -> Vec<u8>, &'static [usize]);
+
+/// Of each version.
+const VERSIONS: [Made; 2] = [(image, &READING), (image_2, &READING_2)];
+
 #[test]
 fn images_of_runs_are_taken_and_written_back() {
     let mut reader = Reader::new();
     for seed in seeds(0, 300) {
         reader.seed = seed;
-        assert_eq!(reader.read(&image(&mut Rng::new(seed))), 0, "seed {seed}");
+        for (made, _) in VERSIONS {
+            assert_eq!(reader.read(&made(&mut Rng::new(seed))), 0, "seed {seed}");
+        }
     }
-    assert!(reader.consistent > 250, "{} consistent", reader.consistent);
+    let (consistent, joining) = (reader.consistent, reader.joining);
+    assert!(consistent > 250 && joining > 150, "{consistent}, {joining}");
 }
 
 #[test]
@@ -85,25 +97,29 @@ fn images_cut_at_every_byte_are_refused() {
     let mut reader = Reader::new();
     for seed in seeds(0, 40) {
         reader.seed = seed;
-        for cut in cuts(&image(&mut Rng::new(seed))) {
-            let refusal = reader.read(&cut);
-            assert_eq!(refusal, if cut.len() < 5 { 3 } else { 6 }, "seed {seed}");
+        for (made, _) in VERSIONS {
+            for cut in cuts(&made(&mut Rng::new(seed))) {
+                let refusal = reader.read(&cut);
+                assert_eq!(refusal, if cut.len() < 5 { 3 } else { 6 }, "seed {seed}");
+            }
         }
     }
 }
 
 #[test]
 fn images_with_each_byte_changed_are_judged_alike() {
-    let mut reader = Reader::new();
-    for seed in seeds(0, 60) {
-        reader.seed = seed;
-        let mut rng = Rng::new(seed);
-        let image = image(&mut rng);
-        if image.len() < 2_000 {
-            reader.read_each(changed_bytes(&mut rng, &image));
+    for (made, answers) in VERSIONS {
+        let mut reader = Reader::new();
+        for seed in seeds(0, 60) {
+            reader.seed = seed;
+            let mut rng = Rng::new(seed);
+            let image = made(&mut rng);
+            if image.len() < 2_000 {
+                reader.read_each(changed_bytes(&mut rng, &image));
+            }
         }
+        reader.met_each(answers, 10);
     }
-    reader.met_each(&READING, 10);
 }
 
 /// A few bytes changed at once, so that several sentences may hold.
@@ -123,16 +139,18 @@ fn bytes_changed(rng: &mut Rng, image: &[u8]) -> Vec<u8> {
 
 #[test]
 fn images_with_several_bytes_changed_are_judged_alike() {
-    let mut reader = Reader::new();
-    for seed in seeds(600, 150) {
-        reader.seed = seed;
-        let mut rng = Rng::new(seed);
-        let image = image(&mut rng);
-        for _ in 0..100 {
-            reader.read(&bytes_changed(&mut rng, &image));
+    for (made, answers) in VERSIONS {
+        let mut reader = Reader::new();
+        for seed in seeds(600, 150) {
+            reader.seed = seed;
+            let mut rng = Rng::new(seed);
+            let image = made(&mut rng);
+            for _ in 0..100 {
+                reader.read(&bytes_changed(&mut rng, &image));
+            }
         }
+        reader.met_each(answers, 10);
     }
-    reader.met_each(&READING, 10);
 }
 
 #[test]
@@ -151,16 +169,18 @@ fn images_with_records_changed_are_judged_alike() {
 
 #[test]
 fn damaged_images_are_judged_alike() {
-    let mut reader = Reader::new();
-    for seed in seeds(200, 150) {
-        reader.seed = seed;
-        let mut rng = Rng::new(seed);
-        let image = image(&mut rng);
-        for _ in 0..10 {
-            reader.read_each(image_damages(&mut rng, &image));
+    for (made, answers) in VERSIONS {
+        let mut reader = Reader::new();
+        for seed in seeds(200, 150) {
+            reader.seed = seed;
+            let mut rng = Rng::new(seed);
+            let image = made(&mut rng);
+            for _ in 0..10 {
+                reader.read_each(image_damages(&mut rng, &image));
+            }
         }
+        reader.met_each(answers, 10);
     }
-    reader.met_each(&READING, 10);
 }
 
 #[test]
@@ -224,16 +244,18 @@ fn an_image_is_judged_after_the_lent_lengths() {
         ..ALL
     };
     for seed in seeds(500, 30) {
-        let image = image(&mut Rng::new(seed));
-        let mut both = Both::new();
-        for lend in short {
-            both.lend(lend);
-            assert_eq!(both.read(&image), 1);
-            assert_eq!(both.read(&[]), 1);
+        let rng = &mut Rng::new(seed);
+        for (version, image) in [(1, image(rng)), (2, image_2(rng))] {
+            let mut both = Both::new();
+            for lend in short {
+                both.lend(lend);
+                assert_eq!(both.read(&image), 1);
+                assert_eq!(both.read(&[]), 1);
+            }
+            both.lend(just_enough);
+            assert_eq!(both.read(&image), 0);
+            assert_eq!(both.read(&[]), 3);
+            assert_eq!(both.image(version), image);
         }
-        both.lend(just_enough);
-        assert_eq!(both.read(&image), 0);
-        assert_eq!(both.read(&[]), 3);
-        assert_eq!(both.image(1), image);
     }
 }

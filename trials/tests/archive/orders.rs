@@ -95,6 +95,7 @@ impl Walk {
             let network = Network::decode(self.pair.memory().used_state());
             let [verdict, written] =
                 [Call::Verdict, Call::WRITE_1].map(|call| self.call(place, &point, &call));
+            self.stop(place, &point);
             self.survey(place, &point);
             let judged = self.judge(&network, [verdict, written & 0xff]);
             judged.unwrap_or_else(|what| panic!("{}", self.report(place, what)));
@@ -120,6 +121,21 @@ impl Walk {
             panic!("{}", self.report(place, what));
         }
         self.steps.len()
+    }
+
+    /// The image of version 2 is the whole point: read over other memory it is there again.
+    fn stop(&mut self, place: usize, point: &Point) {
+        let length = self.call(place, point, &Call::WRITE_2) >> 8;
+        let image = self.pair.memory().out[..length as usize].to_vec();
+        let over = Point {
+            words: [u64::MAX; 8 * (MOST + 1)],
+            bytes: [u8::MAX; 512 * MOST],
+        };
+        let answer = self.call(place, &over, &Call::Read { image });
+        if answer != 0 || self.point() != *point {
+            let what = format!("its image is read otherwise: {answer:#x}");
+            panic!("{}", self.report(place, what));
+        }
     }
 
     /// At one point in five with some set of failed nodes; at each with none.

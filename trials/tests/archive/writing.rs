@@ -2,7 +2,7 @@
 
 use trials::by_hand::longest;
 use trials::lent::ALL;
-use trials::random::{damage, image, seeds, Rng};
+use trials::random::{damage, image, image_2, seeds, Rng};
 use trials::script::{Call, Lend};
 use trials::second::{Refusal, LONGEST_OF_VERSION_1};
 
@@ -11,23 +11,26 @@ use crate::support::Both;
 #[test]
 fn writing_needs_the_length_of_the_image_and_leaves_the_rest_alone() {
     for seed in seeds(0, 200) {
-        let image = image(&mut Rng::new(seed));
-        let length = image.len();
-        let mut both = Both::read_in(&image);
-        for out in [0, 1, length / 2, length - 1] {
-            both.lend(Lend { out, ..ALL });
-            assert_eq!(both.call(Call::WRITE_1), 16, "seed {seed}, {out} bytes");
-        }
-        for out in [length, length + 1, ALL.out] {
-            both.lend(Lend { out, ..ALL });
-            assert_eq!(both.image(1), image, "seed {seed}, {out} bytes");
+        let rng = &mut Rng::new(seed);
+        for (version, image) in [(1, image(rng)), (2, image_2(rng))] {
+            let length = image.len();
+            let mut both = Both::read_in(&image);
+            for out in [0, 1, length / 2, length - 1] {
+                both.lend(Lend { out, ..ALL });
+                let answer = both.call(Call::Write { version });
+                assert_eq!(answer, 16, "seed {seed}, {out} bytes");
+            }
+            for out in [length, length + 1, ALL.out] {
+                both.lend(Lend { out, ..ALL });
+                assert_eq!(both.image(version), image, "seed {seed}, {out} bytes");
+            }
         }
     }
 }
 
-/// OVERLAY_MOST_WRITTEN_BYTES of the header: one network needs them all.
+/// OVERLAY_MOST_WRITTEN_BYTES of the header, less what version 2 adds: one network needs them all. The longest of version 2 is in `resumed`.
 #[test]
-fn the_longest_image_is_written() {
+fn the_longest_image_of_version_1_is_written() {
     let image = longest();
     assert_eq!(image.len(), LONGEST_OF_VERSION_1);
     let mut both = Both::read_in(&image);
@@ -38,7 +41,7 @@ fn the_longest_image_is_written() {
     assert_eq!(both.image(1), image);
 }
 
-/// In any state, sound and settled or not, then after each of some damages.
+/// In any state, sound and settled or not, then after each of some damages. Version 2 is written in every sound state.
 #[test]
 fn verdict_and_writing_agree_in_any_state() {
     let mut met = [0; Refusal::NUMBERS];
@@ -47,9 +50,15 @@ fn verdict_and_writing_agree_in_any_state() {
         let mut both = Both::after_some_run(&mut rng);
         let sound = both.memory().clone();
         for _ in 0..5 {
-            let answers = [Call::Verdict, Call::WRITE_1].map(|call| both.call(call) & 0xff);
-            assert_eq!(answers[0], answers[1], "seed {seed}");
-            met[answers[0] as usize] += 1;
+            let mut refusal = |call| both.call(call) & 0xff;
+            let verdict = refusal(Call::Verdict);
+            let written = [1, 2, 3].map(|version| refusal(Call::Write { version }));
+            let expected = match verdict {
+                2 => [2, 2, 2],
+                in_flight => [in_flight, 0, 4],
+            };
+            assert_eq!(written, expected, "seed {seed}");
+            met[verdict as usize] += 1;
             both.obey(damage(&mut rng, &sound));
         }
     }

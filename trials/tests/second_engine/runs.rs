@@ -9,6 +9,7 @@ use trials::random::{damage, run, seeds, Rng};
 use trials::script::{Call, Line};
 use trials::second::memory::COUNT;
 use trials::second::network::Network;
+use trials::second::Refusal;
 
 #[test]
 fn runs_leave_alone_what_they_must() {
@@ -51,13 +52,13 @@ fn name(line: &Line) -> String {
 /// What the calls of runs are refused by, 0 for a taken one.
 const MET: [(&str, &[u64]); 10] = [
     ("found", &[0, 1, 5, 7]),
-    ("read", &[0, 1, 3, 4, 5, 6, 7, 8, 9, 10, 17, 18]),
+    ("read", &[0, 1, 3, 4, 5, 6, 7, 8, 9, 10, 17, 18, 24]),
     ("begin", &[0, 1, 7, 8, 9, 11, 12]),
     ("withdraw", &[0, 1, 9, 19, 20]),
     ("deliver", &[0, 1, 9, 13, 14]),
     ("lookup", &[0, 1, 9, 21]),
     ("verdict", &[0, 1, 15]),
-    ("write", &[0, 1, 15, 16]),
+    ("write", &[0, 1, 4, 15, 16]),
     ("survey", &[0, 1]),
     ("trace", &[0, 1, 9, 22, 23]),
 ];
@@ -123,7 +124,7 @@ fn runs_meet_lookups_around_failed_nodes() {
 /// Traces that are accepted and refused, with many paths, and while nodes join.
 #[test]
 fn runs_meet_traces() {
-    let (mut answers, mut joining) = ([0; 25], 0);
+    let (mut answers, mut joining) = ([0; Refusal::NUMBERS], 0);
     for seed in 5_000..5_200 {
         let (script, _) = run(&mut Rng::new(seed), 300);
         let mut memory = Lent::noise();

@@ -16,9 +16,9 @@ fn every_line_has_its_text() {
     let text =
         "found 2 2 1 a0\nbegin ff 18446744073709551615\nwithdraw 18446744073709551615\ndeliver 2 1\nlookup 1 2\nverdict\nwrite\n\
                 read 0401ff\nsound\nsurvey\nlend 520 32768 40\nword 12 ffffffffffffffff\nbyte 300 7\n\
-                lookup 1 18446744073709551615 without 1 3 64\nsurvey without 2\ntrace 0102ff00\n";
+                lookup 1 18446744073709551615 without 1 3 64\nsurvey without 2\ntrace 0102ff00\nwrite 2\nwrite 18446744073709551615\n";
     let script: Script = text.parse().unwrap();
-    assert_eq!(script.lines.len(), 16);
+    assert_eq!(script.lines.len(), 18);
     assert_eq!(script.to_string(), text);
 }
 
@@ -29,6 +29,15 @@ fn nothing_behind_the_name_is_no_bytes() {
     let empty = [Call::Read { image: vec![] }, Call::Trace { trace: vec![] }];
     assert_eq!(script.lines, empty.map(Line::Call));
     assert_eq!(script.to_string().parse(), Ok(script));
+}
+
+/// A version that is not named is 1.
+#[test]
+fn a_writing_has_its_version() {
+    let script: Script = "write\nwrite 1\nwrite 2\nwrite 0".parse().unwrap();
+    let versions = [1, 1, 2, 0].map(|version| Line::Call(Call::Write { version }));
+    assert_eq!(script.lines, versions);
+    assert_eq!(script.to_string(), "write\nwrite\nwrite 2\nwrite 0\n");
 }
 
 /// In any order, twice, and with numbers that mean nothing.
@@ -61,6 +70,10 @@ fn other_lines_are_errors() {
         "trace 0g",
         "trace 00 00",
         "traces 00",
+        "write 1 2",
+        "write x",
+        "write -1",
+        "write 18446744073709551616",
         "survey 1",
         "survey without",
         "survey with 1",
