@@ -505,6 +505,59 @@ fn the_refused_image_of_the_page_is_printed() {
     section_is_printed("## A refused image\n", "e1-damaged.image");
 }
 
+/// A join is saved under way and loaded again, once over the join of another network; then it goes on.
+const RESUMED: &str = "\
+found: node 1
+begin: node 2
+refused 15: a node is not settled
+refused 15: a node is not settled
+save: 58 bytes
+found: node 1
+begin: node 2
+load: 58 bytes
+node 1: id 00, settled, requests 0, notices 0
+node 2: id 01, copying, requests 1, notices 0
+deliver: copied
+save: 62 bytes
+deliver: attached at level 0, settled
+save: 40 bytes
+save: 46 bytes
+load: 62 bytes
+node 1: id 00, settled, requests 0, notices 0
+node 2: id 01, waiting, requests 2, notices 0
+load: 46 bytes
+node 1: id 00, settled, requests 0, notices 0
+node 2: id 01, settled, requests 2, notices 0
+load: 40 bytes
+node 1: id 00, settled, requests 0, notices 0
+node 2: id 01, settled, requests 0, notices 0
+line 23: not understood
+line 24: not understood
+line 25: not understood
+line 26: not understood
+line 27: not understood
+";
+
+#[test]
+fn joins_under_way_are_saved_as_version_2() {
+    let script = b"\
+found 2 2 1 0\nbegin 1 1\nsave a\nsave a 1\nsave a 2\nfound 4 3 2 321\nbegin 120 1\nload a\npanel\n\
+deliver 2 1\n\tsave b  002 # waiting\ndeliver 2 1\nsave c\nsave d 2\nload b\npanel\nload d\npanel\n\
+load c\npanel\n\n\nsave c 2 2\nsave c x\nsave c -2\nsave c 18446744073709551616\nSave c 2";
+    assert_eq!(printed(script), RESUMED);
+}
+
+#[test]
+fn other_versions_are_refused_and_make_no_file() {
+    for version in ["0", "3", "255", "257", "9223372036854775809"] {
+        let script = format!("found 2 2 1 0\nsave a {version}\nload a");
+        let printed = printed(script.as_bytes());
+        let lines: Vec<&str> = printed.lines().collect();
+        assert!(lines[1].starts_with("refused 4: "), "{version}");
+        assert_eq!(lines[2], "load: the file cannot be read", "{version}");
+    }
+}
+
 /// What is printed of an image that is loaded.
 fn loaded(image: &[u8]) -> String {
     printed_beside(&[("image".into(), image.to_vec())], b"load image")
@@ -590,7 +643,7 @@ fn images_are_kept_as_they_come_and_overlong_ones_meet_6_if_nothing_earlier() {
         let mut long = whole.clone();
         long.resize(length, 0);
         assert!(loaded(&long).starts_with("refused 6: "), "{length}");
-        long[1] = 2;
+        long[1] = 3;
         assert!(loaded(&long).starts_with("refused 4: "), "{length}");
     }
 }

@@ -12,7 +12,7 @@ pub enum Command {
     Verdict,
     Survey { failed: u64 },
     Sound,
-    Save { file: Vec<u8> },
+    Save { file: Vec<u8>, version: u64 },
     Load { file: Vec<u8> },
     Trace { file: Vec<u8> },
     Table { node: u64 },
@@ -72,7 +72,14 @@ fn command(words: &[&[u8]]) -> Option<Command> {
             failed: failed(without)?,
         },
         [b"sound"] => Command::Sound,
-        [b"save", file] => Command::Save { file: file.into() },
+        [b"save", file] => Command::Save {
+            file: file.into(),
+            version: 1,
+        },
+        [b"save", file, version] => Command::Save {
+            file: file.into(),
+            version: number(version)?,
+        },
         [b"load", file] => Command::Load { file: file.into() },
         [b"trace", file] => Command::Trace { file: file.into() },
         [b"table", node] => Command::Table {

@@ -107,7 +107,7 @@ impl<'a> Player<'a> {
                 let answer = Second.sound(state, tables);
                 said(answer, |_| "sound: the state is sound".into())
             }
-            Command::Save { file } => self.save(file),
+            Command::Save { file, version } => self.save(file, *version),
             Command::Load { file } => self.load(file),
             Command::Trace { file } => self.trace(file),
             Command::Table { node } => shown(tabled(state, tables, *node)),
@@ -120,9 +120,9 @@ impl<'a> Player<'a> {
     }
 
     /// A file is made, or emptied, only where writing is not refused.
-    fn save(&mut self, file: &[u8]) -> String {
+    fn save(&mut self, file: &[u8], version: u64) -> String {
         let mut image = vec![0; 65_536];
-        let answer = Second.write(&mut self.state, &mut self.tables, 1, &mut image);
+        let answer = Second.write(&mut self.state, &mut self.tables, version, &mut image);
         said(answer, |answer| {
             let image = &image[..(answer >> 8) as usize];
             let kept = fs::File::create(self.path(file)).and_then(|mut out| out.write_all(image));

@@ -63,9 +63,14 @@ fn grown_script(rng: &mut Rng, folder: &Folder) -> Made {
     }
     let patience = maker.rng.pick(&[200, 5_000]);
     while !maker.rng.once_in(patience) && maker.deliver() {}
-    let file = b"grown".to_vec();
-    maker.command(Command::Save { file: file.clone() });
-    maker.command(Command::Load { file });
+    let version = maker.rng.pick(&[1, 2]);
+    maker.command(Command::Save {
+        file: b"grown".to_vec(),
+        version,
+    });
+    maker.command(Command::Load {
+        file: b"grown".to_vec(),
+    });
     maker.end()
 }
 
@@ -129,7 +134,10 @@ impl Maker<'_> {
                 Command::Deliver { sender, receiver },
                 Command::Begin { id: 0, gateway: 1 },
                 Command::Withdraw { node: one },
-                Command::Save { file: file.clone() },
+                Command::Save {
+                    file: file.clone(),
+                    version: one,
+                },
                 Command::Trace { file },
             ];
             let command = commands[self.rng.below(commands.len())].clone();
@@ -178,8 +186,9 @@ impl Maker<'_> {
             Call::Verdict => Command::Verdict,
             Call::Survey { failed } => Command::Survey { failed },
             Call::Sound => Command::Sound,
-            Call::Write { .. } => Command::Save {
+            Call::Write { version } => Command::Save {
                 file: self.saved_name(),
+                version,
             },
             Call::Read { image } => Command::Load {
                 file: self.loaded_name("image", image),
@@ -282,7 +291,12 @@ fn command_words(rng: &mut Rng, command: &Command) -> Vec<Vec<u8>> {
         Command::Verdict => vec!["verdict".into()],
         Command::Survey { failed } => [vec!["survey".into()], without(rng, *failed)].concat(),
         Command::Sound => vec!["sound".into()],
-        Command::Save { file } => return vec![b"save".to_vec(), file.clone()],
+        Command::Save { file, version } => {
+            let version = number(*version).into_bytes();
+            let words = vec![b"save".to_vec(), file.clone(), version];
+            let unsaid = words[2] == b"1" && rng.once_in(2);
+            return words[..words.len() - usize::from(unsaid)].to_vec();
+        }
         Command::Load { file } => return vec![b"load".to_vec(), file.clone()],
         Command::Trace { file } => return vec![b"trace".to_vec(), file.clone()],
         Command::Table { node } => vec!["table".into(), number(*node)],
