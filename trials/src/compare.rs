@@ -1,7 +1,7 @@
 //! One script on two engines: every answer, every byte of memory, output and counts after every call, what any
 //! engine must leave alone, what a refusal may have beside its number, that a lookup is between nodes that have not failed
-//! and not too long, that a survey adds up, that a trace is answered as it reads, that a withdrawn node is gone, and that each
-//! node's two counts are those of the history.
+//! and not too long, that a survey adds up, that a trace is answered as it reads, that a withdrawn node is gone, that an image is
+//! written and restored as its state has it, and that each node's two counts are those of the history.
 
 use std::fmt::{self, Display, Formatter};
 use std::ops::Range;
@@ -10,6 +10,7 @@ use crate::engine::Engine;
 use crate::failures::fits;
 use crate::lent::Lent;
 use crate::panel::History;
+use crate::resumed;
 use crate::script::{Call, Line, Script};
 use crate::second::memory::{COUNT, MOST_NODES, STATE_WORDS, TABLE_BYTES};
 use crate::second::LOST;
@@ -93,6 +94,8 @@ impl<'a> Pair<'a> {
             }
             Call::Withdraw { node } if taken => is_gone(*node, answer, before, after),
             Call::Trace { trace } if !matches!(answer, 1 | 2) => reads_so(after, trace, answer),
+            Call::Write { version } if taken => is_written(after, *version, answer),
+            Call::Read { image } if matches!(answer, 0 | 24) => is_restored(after, image, answer),
             _ => Ok(()),
         }
     }
@@ -231,6 +234,32 @@ fn reads_so(memory: &Lent, trace: &[u8], answer: u64) -> Result<(), String> {
         return Err(format!("answered {answer:#x}, and reads {expected:#x}"));
     }
     Ok(())
+}
+
+/// An image of a sound state.
+fn is_written(memory: &Lent, version: u64, answer: u64) -> Result<(), String> {
+    let (state, tables) = (memory.used_state(), memory.used_tables());
+    let expected = resumed::written(state, tables, version as u8);
+    let length = (answer >> 8) as usize;
+    match memory.out.get(..length) == Some(&expected[..]) && matches!(version, 1 | 2) {
+        true => Ok(()),
+        false => Err(format!("version {version} is not the state's image")),
+    }
+}
+
+/// An image that is taken, or refused by the last number that one can be.
+fn is_restored(memory: &Lent, image: &[u8], answer: u64) -> Result<(), String> {
+    let expected = resumed::read_behind(image);
+    let left = expected.restored.is_none_or(|restored| {
+        memory.used_state() == &*restored.state && memory.used_tables() == &*restored.tables
+    });
+    match answer == expected.answer && left {
+        true => Ok(()),
+        false => Err(format!(
+            "answered {answer:#x}, and reads {:#x}, or is restored otherwise",
+            expected.answer
+        )),
+    }
 }
 
 /// A refusal has no other field, but that of a record has its place in the image, where 18 may have none, and that of a node or a step of a trace its path

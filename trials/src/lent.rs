@@ -33,7 +33,12 @@ pub struct Lent {
 impl Lent {
     /// The same noise each time, so that a script alone repeats a case.
     pub fn noise() -> Lent {
-        let mut rng = Rng::new(1);
+        Lent::of_noise(1)
+    }
+
+    /// Other noise for each seed.
+    pub fn of_noise(seed: u64) -> Lent {
+        let mut rng = Rng::new(seed);
         let mut lent = Lent {
             state: (0..ALL.state).map(|_| rng.word()).collect(),
             tables: (0..ALL.tables).map(|_| rng.word() as u8).collect(),

@@ -36,6 +36,7 @@ pub mod paper;
 pub mod plain;
 pub mod random;
 pub mod records;
+pub mod resumed;
 pub mod script;
 pub mod second;
 pub mod steps;

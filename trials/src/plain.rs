@@ -18,10 +18,10 @@ pub fn plain_sound(state: &State, tables: &Tables) -> bool {
     let plain = Plain { state, tables };
     plain.settings_in_range()
         && plain.nodes_have_valid_different_ids()
-        && plain.unused_places_are_zero()
         && plain
             .nodes()
-            .all(|x| plain.table_obeys(x) && plain.record_obeys(x) && plain.counts_obey(x))
+            .all(|x| plain.record_obeys(x) && plain.counts_obey(x) && plain.table_obeys(x))
+        && plain.unused_places_are_zero()
 }
 
 impl Plain<'_> {

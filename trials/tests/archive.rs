@@ -22,6 +22,8 @@ mod orders;
 mod panel;
 #[path = "archive/records.rs"]
 mod records;
+#[path = "archive/resumed.rs"]
+mod resumed;
 #[path = "archive/runs.rs"]
 mod runs;
 #[path = "archive/sample_traces.rs"]

@@ -18,6 +18,8 @@ mod promises;
 mod records;
 #[path = "second_engine/refusals.rs"]
 mod refusals;
+#[path = "second_engine/resumed.rs"]
+mod resumed;
 #[path = "second_engine/runs.rs"]
 mod runs;
 #[path = "second_engine/scripts.rs"]
@@ -40,8 +42,12 @@ mod withdrawing;
 mod wrong_counts;
 #[path = "second_engine/wrong_failures.rs"]
 mod wrong_failures;
+#[path = "second_engine/wrong_images.rs"]
+mod wrong_images;
 #[path = "second_engine/wrong_joins.rs"]
 mod wrong_joins;
+#[path = "second_engine/wrong_reading.rs"]
+mod wrong_reading;
 #[path = "second_engine/wrong_trace_counts.rs"]
 mod wrong_trace_counts;
 #[path = "second_engine/wrong_trace_places.rs"]
@@ -54,3 +60,5 @@ mod wrong_traces;
 mod wrong_turns;
 #[path = "second_engine/wrong_withdrawals.rs"]
 mod wrong_withdrawals;
+#[path = "second_engine/wrong_writing.rs"]
+mod wrong_writing;

@@ -6,8 +6,9 @@ use trials::script::Script;
 use trials::second::memory::COUNT;
 use trials::second::LOST;
 
-use crate::spoiled::{AfterLookup, AfterTrace, SpoilLookup, SpoilSurvey, SpoilTrace};
-use crate::spoiled::{SpoilWithdrawal, Spoiled, UNSPOILED};
+use crate::spoiled::{AfterLookup, AfterReading, AfterTrace, AfterWriting, SpoilLookup};
+use crate::spoiled::{SpoilReading, SpoilSurvey, SpoilTrace, SpoilWithdrawal, SpoilWriting};
+use crate::spoiled::{Spoiled, UNSPOILED};
 
 const SCRIPT: &str = "found 2 2 1 0\nwrite\nlookup 1 1\nbegin 1 1\nbegin 1 1\nverdict\nsound\n\
                       read 04\nread 0401020201010000000002000100000101010001\nverdict\n\
@@ -17,7 +18,11 @@ const SCRIPT: &str = "found 2 2 1 0\nwrite\nlookup 1 1\nbegin 1 1\nbegin 1 1\nve
                       read 04010202010200000000010000000600010000010100010201010001020000010200010202010002\n\
                       lookup 1 2 without 2\nlookup 1 3 without 1\nlookup 2 1 without 3 64\n\
                       survey without 2\nsurvey without 64\n\
-                      trace 00\ntrace 01020102\ntrace\ntrace 0103010203\ntrace 020101020202\n";
+                      trace 00\ntrace 01020102\ntrace\ntrace 0103010203\ntrace 020101020202\n\
+                      lend 536 32896 100\n\
+                      read 04020202010200000000010000000400010000010101000102000102020100020102010001000000000000000000000000000000000200000100\n\
+                      write 2\nwrite\nwrite 3\n\
+                      read 04020202010200000000010000000400010000010101000102000102020100020100010001000000000000000000000000000000000200000100\n";
 
 /// The line of the first difference between two engines.
 fn first_difference(a: &dyn Engine, b: &dyn Engine) -> Option<usize> {
@@ -375,6 +380,62 @@ fn every_difference_of_a_trace_is_seen() {
         assert_eq!(first_difference(&fault(), &Second), Some(line), "{number}");
         assert_eq!(first_difference(&Second, &fault()), Some(line), "{number}");
         assert_eq!(first_difference(&fault(), &fault()), Some(line), "{number}");
+    }
+}
+
+/// Line 35 reads an image of version 2 in which node 2 copies, line 36 writes it, line 37 names version 1 and is refused 15, line 38 is refused 4, and line 39
+/// is refused 24.
+const WRONG_READINGS: [(SpoilReading, usize); 7] = [
+    (|after| read_2(after, |after| after.state[17] = 0), 35),
+    (|after| read_2(after, |after| after.state[22] = 0), 35),
+    (|after| read_2(after, |after| after.state[519] = 1), 35),
+    (|after| read_2(after, |after| after.tables[1_023] = 1), 35),
+    (|after| read_2(after, |after| after.answer = 24), 35),
+    (|after| after.answer *= u64::from(after.answer != 24), 39),
+    (
+        |after| after.answer |= u64::from(after.answer == 24) << 8,
+        39,
+    ),
+];
+
+fn read_2(after: &mut AfterReading, change: fn(&mut AfterReading)) {
+    if after.answer == 0 && after.image[1] == 2 {
+        change(after);
+    }
+}
+
+const WRONG_WRITINGS: [(SpoilWriting, usize); 6] = [
+    (|after| wrote_2(after, |after| after.out[1] = 1), 36),
+    (|after| wrote_2(after, |after| after.out[56] = 0), 36),
+    (|after| wrote_2(after, |after| after.out[58] ^= 1), 36),
+    (|after| wrote_2(after, |after| after.answer += 0x100), 36),
+    (|after| wrote_2(after, |after| after.answer = 15), 36),
+    (|after| after.answer *= u64::from(after.answer != 4), 38),
+];
+
+fn wrote_2(after: &mut AfterWriting, change: fn(&mut AfterWriting)) {
+    if after.answer == 58 << 8 && after.version == 2 {
+        change(after);
+    }
+}
+
+#[test]
+fn every_difference_of_an_image_is_seen() {
+    let readings = WRONG_READINGS.into_iter().map(|(restore, line)| {
+        let engine = Spoiled {
+            restore,
+            ..UNSPOILED
+        };
+        (engine, line)
+    });
+    let writings = WRONG_WRITINGS.into_iter().map(|(save, line)| {
+        let engine = Spoiled { save, ..UNSPOILED };
+        (engine, line)
+    });
+    for (number, (engine, line)) in readings.chain(writings).enumerate() {
+        assert_eq!(first_difference(&engine, &Second), Some(line), "{number}");
+        assert_eq!(first_difference(&Second, &engine), Some(line), "{number}");
+        assert_eq!(first_difference(&engine, &engine), Some(line), "{number}");
     }
 }
 

@@ -5,11 +5,13 @@ use trials::second::memory::{record, record_mut, Record, State, COUNT, MOST_NODE
 use trials::second::Counts;
 
 /// The second engine, but spoiled in what it judges sound, or in what a founding, a reading, a beginning, a withdrawal, a delivery, a lookup, a verdict,
-/// a writing, a survey or the check of a trace does. A delivery is spoiled in the records of its two nodes, or in all of its memory.
+/// a writing, a survey or the check of a trace does. A delivery is spoiled in the records of its two nodes, or in all of its memory; a reading and a writing
+/// in what they leave alone, or beside the image too.
 pub struct Spoiled {
     pub judge: SpoilJudge,
     pub found: fn(&mut [u64]),
     pub read: fn(&mut [u64], &mut [u8], u64) -> u64,
+    pub restore: SpoilReading,
     pub begin: fn(&mut [u64], &mut [u8], u64) -> u64,
     pub withdraw: SpoilWithdrawal,
     pub deliver: SpoilDelivery,
@@ -17,12 +19,36 @@ pub struct Spoiled {
     pub lookup: SpoilLookup,
     pub verdict: fn(u64) -> u64,
     pub write: fn(&mut [u8]),
+    pub save: SpoilWriting,
     pub survey: SpoilSurvey,
     pub trace: SpoilTrace,
 }
 
 /// What is judged in place of a node's record.
 pub type SpoilJudge = fn(&State, usize, &mut Record);
+
+pub type SpoilReading = fn(&mut AfterReading);
+
+/// Its memory before and after it, the image that was passed, and its answer.
+pub struct AfterReading<'a> {
+    pub before: (Vec<u64>, Vec<u8>),
+    pub state: &'a mut [u64],
+    pub tables: &'a mut [u8],
+    pub image: &'a [u8],
+    pub answer: u64,
+}
+
+pub type SpoilWriting = fn(&mut AfterWriting);
+
+/// Its memory, the version that was passed, the output before and after it, and its answer.
+pub struct AfterWriting<'a> {
+    pub state: &'a mut [u64],
+    pub tables: &'a mut [u8],
+    pub version: u64,
+    pub before: Vec<u8>,
+    pub out: &'a mut [u8],
+    pub answer: u64,
+}
 
 pub type SpoilWithdrawal = fn(&mut AfterWithdrawal);
 
@@ -96,6 +122,7 @@ pub const UNSPOILED: Spoiled = Spoiled {
     judge: |_, _, _| {},
     found: |_| {},
     read: |_, _, answer| answer,
+    restore: |_| {},
     begin: |_, _, answer| answer,
     withdraw: |_| {},
     deliver: |_| {},
@@ -103,6 +130,7 @@ pub const UNSPOILED: Spoiled = Spoiled {
     lookup: |_| {},
     verdict: |answer| answer,
     write: |_| {},
+    save: |_| {},
     survey: |_| {},
     trace: |_| {},
 };
@@ -152,8 +180,18 @@ impl Engine for Spoiled {
     }
 
     fn read(&self, state: &mut [u64], tables: &mut [u8], image: &[u8]) -> u64 {
+        let before = (state.to_vec(), tables.to_vec());
         let answer = Second.read(state, tables, image);
-        (self.read)(state, tables, answer)
+        let answer = (self.read)(state, tables, answer);
+        let mut after = AfterReading {
+            before,
+            state,
+            tables,
+            image,
+            answer,
+        };
+        (self.restore)(&mut after);
+        after.answer
     }
 
     fn begin(&self, state: &mut [u64], tables: &mut [u8], id: u32, gateway: u64) -> u64 {
@@ -219,9 +257,19 @@ impl Engine for Spoiled {
     }
 
     fn write(&self, state: &mut [u64], tables: &mut [u8], version: u64, out: &mut [u8]) -> u64 {
+        let before = out.to_vec();
         let answer = Second.write(state, tables, version, out);
         (self.write)(out);
-        answer
+        let mut after = AfterWriting {
+            state,
+            tables,
+            version,
+            before,
+            out,
+            answer,
+        };
+        (self.save)(&mut after);
+        after.answer
     }
 
     fn survey(
