@@ -84,8 +84,8 @@ impl Plain<'_> {
             let (base, digits) = (self.base() as usize, self.digits() as usize);
             x < self.count() as usize && level < digits && digit < base
         };
-        (0..520).all(|place| used_word(place) || self.state[place] == 0)
-            && (0..32_768).all(|place| used_byte(place) || self.tables[place] == 0)
+        (0..520).all(|place| self.state[place] == 0 || used_word(place))
+            && (0..32_768).all(|place| self.tables[place] == 0 || used_byte(place))
     }
 
     fn table_obeys(&self, x: u64) -> bool {
