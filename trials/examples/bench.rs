@@ -1,8 +1,9 @@
 //! Times the proved engine beside the second one on the same calls, in one run: `cargo run --release --example bench`.
 //!
 //! A network grows to its size with joins in flight, each of them begun, withdrawn and begun again; then nodes are looked up in it, and it is judged,
-//! surveyed and written, with the counts of its joins, and read back last, as reading sets these to zero. Lookups and surveys are also made while every
-//! fourth node has failed. Traces are checked in a network of their own, in which every path has nine nodes: as many paths as a file holds, half as
+//! surveyed and written, with the counts of its joins, and read back last, as reading sets these to zero. Behind that it is read as version 2, with its
+//! counts, and written so: these are the rows `read 2` and `write 2`, which a network of 64 nodes with joins under way has as well. Lookups and surveys are
+//! also made while every fourth node has failed. Traces are checked in a network of their own, in which every path has nine nodes: as many paths as a file holds, half as
 //! many, and none, which leaves the check of the state. The two engines play this in turn for many rounds; a call counts with its shortest time over the
 //! rounds. The share of `sound` in a call is told by further rounds.
 
@@ -23,7 +24,7 @@ const ROUNDS: usize = 150;
 const IN_FLIGHT: usize = 4;
 
 /// Calls that judge the state first; those `without` have failed nodes, and a trace is `of` so many paths.
-const JUDGING: [&str; 12] = [
+const JUDGING: [&str; 13] = [
     "begin",
     "withdraw",
     "deliver",
@@ -33,6 +34,7 @@ const JUDGING: [&str; 12] = [
     "survey",
     "survey without",
     "write",
+    "write 2",
     "trace of 255",
     "trace of 127",
     "trace of 0",
@@ -96,6 +98,14 @@ fn use_of(nodes: usize, image: &[u8], rng: &mut Rng) -> Vec<Call> {
     calls.chain(vec![Call::Read { image }; nodes]).collect()
 }
 
+/// The image of version 2 read and written, each so often.
+fn version_2(image: &[u8], times: usize) -> Vec<Call> {
+    let image = image.to_vec();
+    let mut calls = vec![Call::Read { image }; times];
+    calls.extend(vec![Call::WRITE_2; times]);
+    calls
+}
+
 /// The calls of a round.
 fn round(settings: [u64; 3], nodes: usize) -> Vec<Call> {
     let mut rng = Rng::new(1);
@@ -107,9 +117,47 @@ fn round(settings: [u64; 3], nodes: usize) -> Vec<Call> {
     let grown = panels(memory.used_state());
     let joined = grown[1..nodes].iter().all(|panel| panel.requests > 1);
     assert!(joined, "each node but the first has sent requests");
-    let length = (memory.call(&Second, &Call::WRITE_1) >> 8) as usize;
-    calls.extend(use_of(nodes, &memory.out[..length], &mut rng));
+    let [first, second] = [1, 2].map(|version| {
+        let length = (memory.call(&Second, &Call::Write { version }) >> 8) as usize;
+        memory.out[..length].to_vec()
+    });
+    calls.extend(use_of(nodes, &first, &mut rng));
+    calls.extend(version_2(&second, nodes));
     calls
+}
+
+/// How many nodes join in the network with joins under way.
+const JOINING: usize = 16;
+
+/// Do at least three nodes copy, three wait and three notify?
+fn has_all_statuses(memory: &Lent) -> bool {
+    let statuses = (1..=64).map(|node| memory.state[8 * node + 1]);
+    let count = |status| statuses.clone().filter(|&other| other == status).count();
+    [1, 2, 3].into_iter().all(|status| count(status) >= 3)
+}
+
+/// The calls of a round on a network of 64 nodes, some of which copy, wait and notify: it is read, then judged, read and written as often as it has nodes.
+fn round_of_joins(settings: [u64; 3]) -> Vec<Call> {
+    let mut rng = Rng::new(1);
+    let mut memory = Lent::noise();
+    for call in growth(settings, 64 - JOINING, &mut rng) {
+        memory.call(&Second, &call);
+    }
+    for _ in 0..JOINING {
+        let network = Network::decode(memory.used_state());
+        let id = fresh_id(&mut rng, &network).expect("there are more ids than nodes");
+        memory.call(&Second, &Call::Begin { id, gateway: 1 });
+    }
+    while !has_all_statuses(&memory) {
+        let network = Network::decode(memory.used_state());
+        let (sender, receiver) = rng.pick(&network.outstanding());
+        let (sender, receiver) = (sender as u64, receiver as u64);
+        memory.call(&Second, &Call::Deliver { sender, receiver });
+    }
+    let length = (memory.call(&Second, &Call::WRITE_2) >> 8) as usize;
+    let used = version_2(&memory.out[..length], 64);
+    let judged = vec![Call::Sound; 64];
+    [&used[..1], &judged, &used[1..]].concat()
 }
 
 /// The calls of a round of traces: the network is read, then judged, and traces in it are checked, as often as it has nodes.
@@ -205,8 +253,14 @@ fn places(calls: &[Call], kind: &str) -> Vec<usize> {
 }
 
 fn is_of(call: &Call, kind: &str) -> bool {
-    if let Call::Trace { trace } = call {
-        return kind == format!("trace of {}", trace[0]);
+    let named = match call {
+        Call::Trace { trace } => Some(format!("trace of {}", trace[0])),
+        Call::Write { version: 2 } => Some("write 2".to_string()),
+        Call::Read { image } if image[1] == 2 => Some("read 2".to_string()),
+        _ => None,
+    };
+    if let Some(named) = named {
+        return kind == named;
     }
     let (name, failed) = match kind.strip_suffix(" without") {
         Some(name) => (name, true),
@@ -220,7 +274,7 @@ fn is_of(call: &Call, kind: &str) -> bool {
 fn print(calls: &[Call], proved: &Clock, second: &Clock) {
     let shares = shares_of_sound(proved.engine, calls).map(|share| format!("{share:>8.2}"));
     let judging = JUDGING.into_iter().zip(shares);
-    let others = ["found", "read", "sound"].map(|kind| (kind, String::new()));
+    let others = ["found", "read", "read 2", "sound"].map(|kind| (kind, String::new()));
     for (kind, share) in others.into_iter().chain(judging) {
         let places = places(calls, kind);
         if places.is_empty() {
@@ -239,8 +293,8 @@ fn print(calls: &[Call], proved: &Clock, second: &Clock) {
     );
 }
 
-/// Plays the calls on a network of these settings and so many nodes by both engines in turn, and prints their times.
-fn bench([base, digits, depth]: [u64; 3], nodes: usize, calls: &[Call]) {
+/// Plays the calls on a network of these settings and nodes by both engines in turn, and prints their times.
+fn bench([base, digits, depth]: [u64; 3], nodes: &str, calls: &[Call]) {
     let mut proved = Clock::new(&Archive, calls.len());
     let mut second = Clock::new(&Second, calls.len());
     for _ in 0..ROUNDS {
@@ -248,7 +302,7 @@ fn bench([base, digits, depth]: [u64; 3], nodes: usize, calls: &[Call]) {
         second.play(calls);
     }
     assert!(proved.memory == second.memory, "the engines differ");
-    println!("{nodes} nodes, b {base}, d {digits}, K {depth}");
+    println!("{nodes}, b {base}, d {digits}, K {depth}");
     println!(
         "{:>25} {:>10} {:>8} {:>8}",
         "proved", "second", "ratio", "sound"
@@ -259,7 +313,11 @@ fn bench([base, digits, depth]: [u64; 3], nodes: usize, calls: &[Call]) {
 fn main() {
     println!("ns a call, and the share of sound in the proved engine's");
     for (settings, nodes) in [([16, 8, 4], 64), ([4, 4, 2], 64), ([4, 4, 2], 5)] {
-        bench(settings, nodes, &round(settings, nodes));
+        bench(settings, &format!("{nodes} nodes"), &round(settings, nodes));
     }
-    bench([2, 8, 4], 64, &round_of_traces());
+    for settings in [[16, 8, 4], [4, 4, 2]] {
+        let nodes = format!("64 nodes, {JOINING} of them joining");
+        bench(settings, &nodes, &round_of_joins(settings));
+    }
+    bench([2, 8, 4], "64 nodes", &round_of_traces());
 }
