@@ -15,6 +15,14 @@ pub fn e1_short() -> Vec<u8> {
     image
 }
 
+/// E1 as version 2, at the end of document 01's smallest join: nobody joins, and node 2 has sent two requests.
+pub fn e1_version_2() -> Vec<u8> {
+    let mut image = E1.to_vec();
+    image[1] = 2;
+    image.extend([0, 2, 0, 0, 2, 0]);
+    image
+}
+
 /// Document 01's smallest join at its start, as version 2: node 2 copies from node 1 and has sent one request.
 pub const JOINING: [u8; 58] = [
     4, 2, 2, 2, 1, // settings

@@ -9,7 +9,8 @@ use images::ImageProgram;
 use trials::by_hand::surveyed;
 use trials::engine::Second;
 use trials::lent::Lent;
-use trials::paper::{e1_short, E1};
+use trials::paper::{e1_short, e1_version_2, E1, JOINING};
+use trials::random::{image, image_2};
 use trials::script::Call;
 use trials::second::memory::DIGITS;
 use trials::second::{Counts, LOST};
@@ -21,10 +22,11 @@ const SURVEY: ImageProgram = ImageProgram {
     refused: |_| String::new(),
 };
 
-/// The lines of Ticket 1.
-fn lines(memory: &mut Lent) -> String {
+/// The lines of Ticket 1; joins under way are no refusal.
+fn lines(memory: &mut Lent) -> Result<String, u64> {
     assert_eq!(memory.call(&Second, &Call::Survey { failed: 0 }), 0);
-    lines_of(memory.state[DIGITS] as usize, memory.used_counts())
+    let digits = memory.state[DIGITS] as usize;
+    Ok(lines_of(digits, memory.used_counts()))
 }
 
 fn lines_of(digits: usize, counts: &Counts) -> String {
@@ -51,6 +53,27 @@ fn counts_worked_out_by_hand_are_printed() {
     }
 }
 
+/// All nodes are counted, those that join too.
+#[test]
+fn images_of_version_2_print_these_lines() {
+    let mut knows = JOINING.to_vec();
+    // Node 2 waits, and knows node 1.
+    knows.splice(24..24, [2, 0, 0, 1]);
+    (knows[14], knows[38]) = (5, 2);
+    for (image, lines) in [
+        (JOINING.to_vec(), "refusal 0\nhops 1 0\nhops 2 0\nlost 2\n"),
+        (knows, "refusal 0\nhops 1 1\nhops 2 0\nlost 1\n"),
+        (e1_version_2(), "refusal 0\nhops 1 2\nhops 2 0\nlost 0\n"),
+    ] {
+        assert_eq!(SURVEY.printed(&image, image.len()), lines);
+    }
+}
+
+#[test]
+fn refused_images_of_version_2_print_one_line() {
+    SURVEY.refused_images_of_version_2_print_one_line();
+}
+
 /// A refusal is one line, whichever it is.
 #[test]
 fn bad_records_print_one_line() {
@@ -74,7 +97,7 @@ fn samples_print_what_stands_beside_them() {
 /// Among them are images with lost pairs, with several hops and with refusals.
 #[test]
 fn random_and_damaged_images_print_the_same() {
-    let printed = SURVEY.random_and_damaged_images_print_the_same();
+    let printed = SURVEY.random_and_damaged_images_print_the_same(image);
     let count = |has: fn(&str) -> bool| printed.iter().filter(|lines| has(lines)).count();
     let losing = count(|lines| lines.contains("lost ") && !lines.contains("lost 0\n"));
     let far = count(|lines| lines.contains("hops 3 ") && !lines.contains("hops 3 0\n"));
@@ -83,6 +106,23 @@ fn random_and_damaged_images_print_the_same() {
         losing > 30 && far > 30 && refused > 300,
         "{losing} losing, {far} far, {refused} refused"
     );
+}
+
+/// Among them are images with joins under way, and some that are refused 24.
+#[test]
+fn random_and_damaged_images_of_version_2_print_the_same() {
+    let printed = SURVEY.random_and_damaged_images_print_the_same(image_2);
+    let count = |start: &str| {
+        let starts = printed.iter().filter(|lines| lines.starts_with(start));
+        starts.count()
+    };
+    let (taken, refused, joining) = (
+        count("refusal 0\n"),
+        count("refusal 24\n"),
+        count("refusal 15\n"),
+    );
+    assert!(taken > 300 && refused > 100, "{taken}, {refused}");
+    assert_eq!(joining, 0);
 }
 
 #[test]

@@ -5,7 +5,7 @@ use super::steps::{both_read, taken, write};
 use crate::compare::Pair;
 use crate::engine::Engine;
 use crate::lent::Lent;
-use crate::paper::{E1, JOINING};
+use crate::paper::{e1_version_2, JOINING};
 use crate::script::{Call, Script};
 use crate::steps::{call, expect};
 
@@ -18,14 +18,11 @@ fn smallest() -> [(&'static str, u64, Vec<u8>); 4] {
     // One record more, by which node 2 knows node 1; the status; a second request.
     waiting.splice(24..24, [2, 0, 0, 1]);
     (waiting[14], waiting[38], waiting[60]) = (5, 2, 2);
-    let mut settled = E1.to_vec();
-    settled[1] = 2;
-    settled.extend([0, 2, 0, 0, 2, 0]);
     [
         ("found 2 2 1 0", 0, founded.to_vec()),
         ("begin 1 1", 0x200, JOINING.to_vec()),
         ("deliver 2 1", 0x100, waiting),
-        ("deliver 2 1", 0x100_0300, settled),
+        ("deliver 2 1", 0x100_0300, e1_version_2()),
     ]
 }
 

@@ -4,10 +4,14 @@ use std::fs;
 
 use trials::engine::{Engine, Second};
 use trials::lent::Lent;
-use trials::random::{cuts, damaged_image, image, seeds, Rng};
+use trials::paper::JOINING;
+use trials::random::{cuts, damaged_image, image, image_2, seeds, Rng};
 use trials::records::{by_hand, long, moved, named, one_fault, Judged};
 
 use crate::pipes::{printed, root};
+
+/// How an image is made.
+pub type Made = fn(&mut Rng) -> Vec<u8>;
 
 /// A piece that holds a whole image.
 const WHOLE: usize = 65_536;
@@ -17,8 +21,8 @@ pub struct ImageProgram {
     pub name: &'static str,
     /// What stands behind a sample's name in that of the file with its lines.
     pub ending: &'static str,
-    /// The lines after the first, of an image that was read into this memory.
-    pub lines: fn(&mut Lent) -> String,
+    /// The lines after the first, of an image that was read into this memory, or the answer by which the program refuses it still.
+    pub lines: fn(&mut Lent) -> Result<String, u64>,
     /// The lines after the first, of an image that is refused with this answer.
     pub refused: fn(u64) -> String,
 }
@@ -31,9 +35,13 @@ impl ImageProgram {
     /// Its lines by the second engine.
     fn expected(&self, image: &[u8]) -> String {
         let mut memory = Lent::noise();
-        match Second.read(&mut memory.state, &mut memory.tables, image) {
-            0 => format!("refusal 0\n{}", (self.lines)(&mut memory)),
-            answer => self.refusal(answer),
+        let lines = match Second.read(&mut memory.state, &mut memory.tables, image) {
+            0 => (self.lines)(&mut memory),
+            answer => Err(answer),
+        };
+        match lines {
+            Ok(lines) => format!("refusal 0\n{lines}"),
+            Err(answer) => self.refusal(answer),
         }
     }
 
@@ -65,12 +73,12 @@ impl ImageProgram {
         }
     }
 
-    /// Also answers what was printed for each.
-    pub fn random_and_damaged_images_print_the_same(&self) -> Vec<String> {
+    /// Images that are made so; also answers what was printed for each.
+    pub fn random_and_damaged_images_print_the_same(&self, made: Made) -> Vec<String> {
         let mut all = vec![];
         for seed in seeds(0, 400) {
             let mut rng = Rng::new(seed);
-            let whole = image(&mut rng);
+            let whole = made(&mut rng);
             all.push(self.agree(&whole, WHOLE, seed));
             for _ in 0..8 {
                 all.push(self.agree(&damaged_image(&mut rng, &whole), WHOLE, seed));
@@ -98,17 +106,22 @@ impl ImageProgram {
     }
 
     pub fn cut_images_print_the_same(&self) {
-        let whole = image(&mut Rng::new(7));
-        for (place, cut) in cuts(&whole[..whole.len().min(300)]).enumerate() {
-            self.agree(&cut, WHOLE, place as u64);
+        for made in [image, image_2] {
+            let whole = made(&mut Rng::new(7));
+            let ends = cuts(&whole).take(300).chain(cuts(&whole).rev().take(100));
+            for (place, cut) in ends.enumerate() {
+                self.agree(&cut, WHOLE, place as u64);
+            }
         }
     }
 
     pub fn a_pipe_may_deliver_in_pieces_of_any_size(&self) {
         for seed in seeds(1_000, 40) {
             let mut rng = Rng::new(seed);
-            let whole = image(&mut rng);
-            self.agree(&whole, 1 + rng.below(700), seed);
+            for made in [image, image_2] {
+                let whole = made(&mut rng);
+                self.agree(&whole, 1 + rng.below(700), seed);
+            }
         }
     }
 
@@ -122,5 +135,32 @@ impl ImageProgram {
             assert_eq!(self.printed(&long, WHOLE), "refusal 4\n", "{length}");
         }
         assert_eq!(self.printed(&[], 1), "refusal 3\n");
+    }
+
+    /// Images of version 2 that are refused, each by its number alone: its length, and what stands behind its records.
+    pub fn refused_images_of_version_2_print_one_line(&self) {
+        let changed = |place: usize, value| {
+            let mut image = JOINING.to_vec();
+            image[place] = value;
+            image
+        };
+        let cases = [
+            (changed(1, 3), 4),
+            (changed(1, 1), 6),
+            (changed(32, 0), 6),
+            (changed(53, 1), 6),
+            (changed(33, 0), 24),
+            (changed(33, 3), 24),
+            (changed(34, 0), 24),
+            (changed(36, 2), 24),
+            (changed(56, 2), 24),
+            ([&JOINING[..53], &[1, 0, 0]].concat(), 24),
+            ([&JOINING[..], &[0]].concat(), 6),
+        ];
+        for (image, refusal) in cases {
+            let lines = format!("refusal {refusal}\n");
+            assert_eq!(self.printed(&image, WHOLE), lines, "{image:02x?}");
+            assert_eq!(self.expected(&image), lines, "{image:02x?}");
+        }
     }
 }
