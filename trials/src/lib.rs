@@ -18,6 +18,7 @@
 //! - `paper`: the images of document 01.
 //! - `by_hand`: other images, some with the counts of their survey.
 //! - `records`: images with bad records, and what reading must answer to each.
+//! - `resumed`: images with joins under way: what writing and reading them must do, and trials of it.
 //! - `random`: seeded settings, ids, runs, states, images and traces, good and bad, and sets of failed nodes.
 //!
 //! `TRIALS_COUNT=50 TRIALS_SEED=1000000 cargo test --release` plays 50 times as many cases, with other seeds.

@@ -196,9 +196,7 @@ fn parse_line(words: &[&str]) -> Result<Option<Line>, ParseIntError> {
         },
         ["verdict"] => Call::Verdict,
         ["write"] => Call::WRITE_1,
-        ["write", version] => Call::Write {
-            version: version.parse()?,
-        },
+        ["write", version] => parse_writing(version)?,
         ["sound"] => Call::Sound,
         ["survey", ref without @ ..] if may_follow(without) => Call::Survey {
             failed: parse_failed(without)?,
@@ -209,6 +207,11 @@ fn parse_line(words: &[&str]) -> Result<Option<Line>, ParseIntError> {
         _ => return parse_memory_line(words),
     };
     Ok(Some(Line::Call(call)))
+}
+
+fn parse_writing(version: &str) -> Result<Call, ParseIntError> {
+    let version = version.parse()?;
+    Ok(Call::Write { version })
 }
 
 fn parse_memory_line(words: &[&str]) -> Result<Option<Line>, ParseIntError> {

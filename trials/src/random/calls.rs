@@ -11,14 +11,11 @@ pub fn judging_calls(rng: &mut Rng, network: &Network) -> [Call; 9] {
         0 => bad_number(rng, count),
         _ => rng.between(1, count as u64),
     };
-    let outstanding = network.outstanding();
-    let (sender, receiver) = match outstanding.is_empty() {
-        true => (node(rng), node(rng)),
-        false => {
-            let (sender, receiver) = rng.pick(&outstanding);
-            (sender as u64, receiver as u64)
-        }
+    let (sender, receiver) = match request(rng, network) {
+        Some((sender, receiver)) => (sender as u64, receiver as u64),
+        None => (node(rng), node(rng)),
     };
+    let version = rng.pick(&[1, 1, 2, 2, 2, 0, 3]);
     let highest = count as u64;
     let withdrawn = [highest, highest, highest + 1, highest + 1, node(rng)];
     [
@@ -27,9 +24,7 @@ pub fn judging_calls(rng: &mut Rng, network: &Network) -> [Call; 9] {
             failed: failed_set(rng, count),
         },
         Call::Verdict,
-        Call::Write {
-            version: rng.pick(&[1, 1, 2, 2, 2, 0, 3]),
-        },
+        Call::Write { version },
         Call::Lookup {
             from: node(rng),
             to: node(rng),
@@ -47,6 +42,12 @@ pub fn judging_calls(rng: &mut Rng, network: &Network) -> [Call; 9] {
             node: rng.pick(&withdrawn),
         },
     ]
+}
+
+/// One that is outstanding, if there is any.
+fn request(rng: &mut Rng, network: &Network) -> Option<(usize, usize)> {
+    let outstanding = network.outstanding();
+    (!outstanding.is_empty()).then(|| rng.pick(&outstanding))
 }
 
 /// No paths, or one of a node and one of up to three.

@@ -1,5 +1,5 @@
-//! Images of version 2 with sections four and five damaged: each byte changed, cut anywhere, longer, and each section changed under its right count; every answer
-//! beside the literal reading.
+//! Images of version 2 with sections four and five damaged: each byte changed, cut anywhere, longer, and each section changed under its right count;
+//! every answer beside the literal reading.
 
 use super::literal::{read, read_behind, Read};
 use super::networks::all_statuses;

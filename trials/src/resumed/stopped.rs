@@ -122,8 +122,8 @@ impl Beside {
         }
     }
 
-    /// Answer, every word and byte of the fixed lengths, what was written and what was counted are those of the run that did not stop, and the rest of the memory
-    /// is what it was.
+    /// Answer, every word and byte of the fixed lengths, what was written and what was counted are those of the run that did not stop, and the rest of
+    /// the memory is what it was.
     fn hold(
         &mut self,
         line: &Line,

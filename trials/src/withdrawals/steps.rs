@@ -39,13 +39,12 @@ pub fn looking(rng: &mut Rng, node: u64) -> Call {
     let other = rng.between(1, node);
     let bad = bad_number(rng, node as usize);
     let failed = failed_set(rng, node as usize);
+    let version = rng.pick(&[1, 2, 3]);
     match rng.below(13) {
         0 => Call::Sound,
         1 => Call::Survey { failed },
         2 => Call::Verdict,
-        3 => Call::Write {
-            version: rng.pick(&[1, 2, 3]),
-        },
+        3 => Call::Write { version },
         4 => Call::Lookup {
             from: node,
             to: other,

@@ -72,14 +72,8 @@ fn command(words: &[&[u8]]) -> Option<Command> {
             failed: failed(without)?,
         },
         [b"sound"] => Command::Sound,
-        [b"save", file] => Command::Save {
-            file: file.into(),
-            version: 1,
-        },
-        [b"save", file, version] => Command::Save {
-            file: file.into(),
-            version: number(version)?,
-        },
+        [b"save", file] => save(file, 1),
+        [b"save", file, version] => save(file, number(version)?),
         [b"load", file] => Command::Load { file: file.into() },
         [b"trace", file] => Command::Trace { file: file.into() },
         [b"table", node] => Command::Table {
@@ -88,6 +82,11 @@ fn command(words: &[&[u8]]) -> Option<Command> {
         [b"panel"] => Command::Panel,
         _ => return None,
     })
+}
+
+fn save(file: &[u8], version: u64) -> Command {
+    let file = file.into();
+    Command::Save { file, version }
 }
 
 /// The failed nodes at the end of a line: none, or `without` and at least one number.

@@ -353,13 +353,15 @@ fn agree(made: Made, ours: &Folder, seed: u64, looks: &mut BTreeMap<String, usiz
 }
 
 /// What random scripts must meet.
-const PRINTED: [&str; 6] = [
+const PRINTED: [&str; 8] = [
     " at record ",
     "withdraw: node ",
     "refused 19: ",
     "refused 20: ",
     "refused 21: ",
     "lookup: lost ",
+    "refused 4: ",
+    "refused 24: ",
 ];
 
 #[test]

@@ -32,9 +32,8 @@ fn damaged(place: usize, value: u8) -> Vec<u8> {
     image
 }
 
-/// Of reading all that comes before the records; those are in `records`.
 #[test]
-fn founding_and_reading_judge_in_order() {
+fn founding_judges_in_order() {
     let mut trial = Trial::new();
     let before = trial.memory.clone();
     for settings in [
@@ -49,6 +48,14 @@ fn founding_and_reading_judge_in_order() {
     }
     assert_eq!(trial.found([2 + (1 << 32), 2, 1], 0).refusal, 5);
     assert_eq!(trial.found([2, 2, 1], 2).refusal, 7);
+    assert_eq!(trial.memory, before);
+}
+
+/// All that comes before the records; those are in `records`.
+#[test]
+fn reading_judges_in_order() {
+    let mut trial = Trial::new();
+    let before = trial.memory.clone();
     for length in 0..E1.len() {
         let refusal = if length < 5 { 3 } else { 6 };
         assert_eq!(
@@ -180,8 +187,8 @@ fn a_held_wait_stays_outstanding() {
 }
 
 #[test]
-fn lookup_survey_verdict_trace_and_writing_judge_in_order() {
-    let mut trial = two_joins();
+fn lookup_survey_verdict_and_trace_judge_in_order() {
+    let trial = two_joins();
     for (from, to) in [(0, 1), (1, 0), (5, 1), (1, 5), (1 << 63, 1)] {
         for failed in [0, 1, 1 << 4, u64::MAX] {
             assert_eq!(trial.lookup(from, to, failed).refusal, 9);
@@ -197,11 +204,6 @@ fn lookup_survey_verdict_trace_and_writing_judge_in_order() {
         assert_eq!(trial.survey(failed).refusal, 0);
     }
     assert_eq!(trial.verdict().refusal, 15);
-    assert_eq!(trial.write(1).refusal, 15);
-    assert_eq!(trial.write(2).refusal, 0);
-    for version in [0, 3, 255, 256 + 1, (1 << 32) + 2, 1 << 63, u64::MAX] {
-        assert_eq!(trial.write(version).refusal, 4, "{version}");
-    }
     // Joins under way are no refusal.
     for (trace, answer) in [
         (&[0][..], (0, 0, 0)),
@@ -212,6 +214,16 @@ fn lookup_survey_verdict_trace_and_writing_judge_in_order() {
     ] {
         let traced = trial.trace(trace);
         assert_eq!((traced.refusal, traced.path, traced.place), answer);
+    }
+}
+
+#[test]
+fn writing_judges_in_order() {
+    let mut trial = two_joins();
+    assert_eq!(trial.write(1).refusal, 15);
+    assert_eq!(trial.write(2).refusal, 0);
+    for version in [0, 3, 255, 256 + 1, (1 << 32) + 2, 1 << 63, u64::MAX] {
+        assert_eq!(trial.write(version).refusal, 4, "{version}");
     }
     let mut trial = Trial::read_in(&E1);
     let Lent {
@@ -226,6 +238,14 @@ fn lookup_survey_verdict_trace_and_writing_judge_in_order() {
     assert_eq!(second::write(state, tables, 3, &mut []).refusal, 4);
 }
 
+/// Of every version, and of others.
+fn all_writings_are_refused(state: &[u64], tables: &[u8], refusal: u8) {
+    for version in 0..4 {
+        let written = second::write(state, tables, version, &mut [0; 65_536]);
+        assert_eq!(written.refusal, refusal);
+    }
+}
+
 /// Good ones and bad ones, whatever is wrong with them.
 fn all_traces_are_refused(state: &[u64], tables: &[u8], answer: u64) {
     for trace in [&[][..], &[0], &[1, 1, 0], &[1, 2, 1, 1]] {
@@ -238,7 +258,6 @@ fn memory_too_short_comes_first_and_unsound_next() {
     let Lent {
         mut state,
         mut tables,
-        mut out,
         ..
     } = Lent::noise();
     for (words, bytes, refusal) in [
@@ -258,10 +277,7 @@ fn memory_too_short_comes_first_and_unsound_next() {
         }
         all_traces_are_refused(state, tables, refusal.into());
         assert_eq!(second::verdict(state, tables).refusal, refusal);
-        for version in 0..4 {
-            let written = second::write(state, tables, version, &mut out);
-            assert_eq!(written.refusal, refusal);
-        }
+        all_writings_are_refused(state, tables, refusal);
     }
     assert_eq!(
         second::found(&mut state[..519], &mut tables, 0, 0, 0, 0).refusal,
