@@ -19,7 +19,7 @@ pub struct Step {
 }
 
 /// Each line is followed by the nodes' requests and notices, node 1's first.
-const JOINS: [(&str, &str); 7] = [
+const JOINS: [(&str, &str); 8] = [
     // The smallest join of document 01, which makes E1, and calls that count nothing.
     (
         "E1",
@@ -141,6 +141,23 @@ const JOINS: [(&str, &str); 7] = [
          deliver 3 1   | 0/0 0/0 3/0
          found 2 2 1 1 | 0/0
          begin 0 1     | 0/0 1/0",
+    ),
+    // Images of version 2, read twice: the nodes that they have go on from the counts there, and a new one starts with its first request.
+    (
+        "resumed",
+        "found 2 2 1 0 | 0/0
+         begin 1 1     | 0/0 1/0
+         deliver 2 1   | 0/0 2/0
+         write 2       | 0/0 2/0
+         read 04020202010200000000010000000400010000010101000102000102020100020102010001000000000000000000000000000000000200000100 | 0/0 1/0
+         deliver 2 1   | 0/0 2/0
+         deliver 2 1   | 0/0 2/0
+         begin 10 2    | 0/0 2/0 1/0
+         read 040202020102000000000100000006000100000101000102010100010200000102000102020100020002033e0200 | 3/62 2/0
+         begin 10 2    | 3/62 2/0 1/0
+         deliver 3 2   | 3/62 2/0 2/0
+         deliver 3 1   | 3/62 2/0 3/0
+         deliver 3 1   | 3/62 2/0 3/0",
     ),
 ];
 

@@ -194,6 +194,27 @@ fn a_run_that_does_not_start_with_zero_is_seen() {
     is_seen("reading keeps the counts", read, "new runs", 5);
 }
 
+/// Node 2 of an image of version 2 that is read.
+#[test]
+fn a_run_that_does_not_start_with_the_counts_of_its_image_is_seen() {
+    let restored = |restore| Spoiled {
+        restore,
+        ..UNSPOILED
+    };
+    let zero = restored(|after| {
+        if after.answer == 0 {
+            after.state[requests_word(2)] = 0;
+        }
+    });
+    is_seen("reading sets the counts to zero", zero, "resumed", 5);
+    let added = restored(|after| {
+        if after.answer == 0 {
+            after.state[requests_word(2)] = after.before.0[requests_word(2)];
+        }
+    });
+    is_seen("reading keeps the counts from before", added, "resumed", 5);
+}
+
 /// What stands in place of a node's record when it is judged.
 const JUDGES: [(&str, SpoilJudge); 16] = [
     ("nothing of the counts is judged", |state, node, record| {
