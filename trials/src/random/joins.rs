@@ -67,8 +67,11 @@ fn changed(rng: &mut Rng, byte: u8) -> u8 {
     rng.pick(&values)
 }
 
-/// One more, one less, two exchanged, or one with another count.
+/// One more, one less, two exchanged, or one with another count; of none one more.
 fn damage_panels(rng: &mut Rng, panels: &mut Vec<[u8; 2]>) {
+    if panels.is_empty() {
+        return panels.push([0; 2]);
+    }
     let (one, other) = (rng.below(panels.len()), rng.below(panels.len()));
     match rng.below(5) {
         0 => panels.insert(one, panels[one]),

@@ -58,15 +58,36 @@ impl<'a> Damaged<'a> {
         self.changed_bytes(values, met)?;
         self.other_lengths(met)?;
         self.other_counts(met)?;
-        let whole = joins(&self.image[self.behind..]).expect("it has its counts");
-        for kind in (0..JOINS_KINDS).flat_map(|kind| [kind; 12]) {
-            let behind = damaged_joins(&mut self.rng, &whole, kind);
-            let image = [&self.image[..self.behind], &behind].concat();
-            self.answered(&image, read_behind(&image), met)?;
-        }
+        self.other_pieces(met)?;
+        self.changed_sections(met)?;
         if self.image.len() < 600 {
             for image in image_damages(&mut self.rng, self.image) {
                 self.answered(&image, read(&image), met)?;
+            }
+        }
+        Ok(())
+    }
+
+    /// With these bytes in place of its last two sections.
+    fn behind(&mut self, behind: &[u8], met: &mut Met) -> Result<u64, String> {
+        let image = [&self.image[..self.behind], behind].concat();
+        let expected = read_behind(&image);
+        let answer = expected.answer;
+        self.answered(&image, expected, met)?;
+        Ok(answer)
+    }
+
+    /// Damaged once, and once more.
+    fn changed_sections(&mut self, met: &mut Met) -> Result<(), String> {
+        let whole = joins(&self.image[self.behind..]).expect("it has its counts");
+        for kind in (0..JOINS_KINDS).flat_map(|kind| [kind; 12]) {
+            let once = damaged_joins(&mut self.rng, &whole, kind);
+            self.behind(&once, met)?;
+            if let Some(damaged) = joins(&once) {
+                let kind = self.rng.below(JOINS_KINDS);
+                let twice = damaged_joins(&mut self.rng, &damaged, kind);
+                self.behind(&twice, met)?;
+                meet(met, "damaged twice");
             }
         }
         Ok(())
@@ -114,13 +135,23 @@ impl<'a> Damaged<'a> {
         let nodes = joins.panels.len();
         for count in [0, 1, nodes - 1, nodes + 1, 64, 65, 255] {
             joins.panels.resize(count, [0; 2]);
-            let image = [&self.image[..self.behind], &joins.bytes()].concat();
-            let expected = read_behind(&image);
-            if count != nodes && expected.answer != 24 {
+            let answer = self.behind(&joins.bytes(), met)?;
+            if count != nodes && answer != 24 {
                 return Err(format!("{count} counts of {nodes} nodes"));
             }
-            self.answered(&image, expected, met)?;
             meet(met, "another number of counts");
+        }
+        Ok(())
+    }
+
+    /// Other numbers of nodes that are not settled, with the right length.
+    fn other_pieces(&mut self, met: &mut Met) -> Result<(), String> {
+        let mut joins = joins(&self.image[self.behind..]).expect("it has its counts");
+        let pieces = joins.unsettled.clone();
+        for count in [0, 1, 2, 63, 64, 65, 128, 255] {
+            let again = pieces.iter().chain([&[0; 20]]).cycle();
+            joins.unsettled = again.take(count).copied().collect();
+            self.behind(&joins.bytes(), met)?;
         }
         Ok(())
     }

@@ -48,7 +48,7 @@ fn states_are_restored_whole_and_images_written_back() {
 fn damaged_images_are_answered_as_they_read() {
     let met = damaged(&Second, &Second).unwrap();
     println!("{met:?}");
-    let all = ["taken", "6", "24", "cut or longer"];
+    let all = ["taken", "6", "24", "cut or longer", "damaged twice"];
     assert!(met_enough(&met, 500, &all));
     assert!(met_enough(
         &met,
