@@ -7,7 +7,7 @@ use crate::met::{meet, Met};
 use crate::script::Call;
 use crate::second::memory::{State, Tables, COUNT, STATE_WORDS, TABLE_BYTES};
 
-/// Memory with another state in it, lent in full.
+/// Memory with this state in it and noise behind it, lent in full.
 pub fn holding(state: &State, tables: &Tables, noise: u64) -> Lent {
     let mut memory = Lent::of_noise(noise);
     memory.state[..STATE_WORDS].copy_from_slice(state);

@@ -65,23 +65,24 @@ impl Run {
         met: &mut Met,
     ) -> Result<(), String> {
         for at in 0..self.points.len() {
-            let resumed = self.resumed(engines[at % 2], at, lines, met);
+            let writer_and_reader = [at % 2, at / 2 % 2].map(|engine| engines[engine]);
+            let resumed = self.resumed(writer_and_reader, at, lines, met);
             let line = &self.lines[at];
             resumed.map_err(|what| format!("stopped after line {at}, {line}: {what}"))?;
         }
         Ok(())
     }
 
-    /// Stopped at a point and continued for so many lines.
+    /// Stopped at a point and saved by one engine, continued for so many lines by the other, or by the same.
     fn resumed(
         &self,
-        engine: &dyn Engine,
+        [writer, engine]: [&dyn Engine; 2],
         at: usize,
         lines: usize,
         met: &mut Met,
     ) -> Result<(), String> {
         let (_, stopped) = &self.points[at];
-        let image = write(engine, stopped, 2)?;
+        let image = write(writer, stopped, 2)?;
         let mut other = Lent::of_noise(at as u64 + 100);
         let mut beside = Beside::new(&other);
         let read = Call::Read {
@@ -94,6 +95,7 @@ impl Run {
         other.lend = stopped.lend;
         let later = self.lines[at + 1..].iter().zip(&self.points[at + 1..]);
         for (line, (expected, point)) in later.take(lines) {
+            other.spoil_counts();
             let answer = other.obey(engine, line);
             beside
                 .hold(line, [*expected, answer], point, &other)

