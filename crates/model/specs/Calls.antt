@@ -92,10 +92,10 @@ verdictCall m =
     unlessRefused (verdictRefusal m) (refused m [] 4) (taken m [] (verdictFields (verdict (m .state) (m .tables))))
 
 -- answer: the refusal and the length. The output past the image stays as it was.
-unfoldable pub writeCall : Memory → List ℕ → Outcome
-writeCall m out =
-    let im = imageOf (m .state) (m .tables) in
-    unlessRefused (writeRefusal m out) (refused m out 1) (taken m (im ++ drop (length im) out) (length im ∷ []))
+unfoldable pub writeCall : Memory → ℕ → List ℕ → Outcome
+writeCall m version out =
+    let im = imageOf version (m .state) (m .tables) in
+    unlessRefused (writeRefusal m version out) (refused m out 1) (taken m (im ++ drop (length im) out) (length im ∷ []))
 
 -- answer: the refusal, and path and place, or step, that it is about
 unfoldable pub traceCall : Memory → List ℕ → Outcome

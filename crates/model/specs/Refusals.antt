@@ -1,4 +1,4 @@
--- The refusals: document 01, "What a call declines", and document 02, Tickets 2, 5, 6 and 8. Each call has its own sentences, in the papers' order.
+-- The refusals: document 01, "What a call declines", and document 02, Tickets 2, 5, 6, 8 and 9. Each call has its own sentences, in the papers' order.
 use Prim.Native.Nat.{ℕ, _+_}
 use mathlib.Core.Bool.{Bool, cond, not, _&&_, _||_}
 use mathlib.Core.List.{List, [], _∷_, _++_}
@@ -11,8 +11,8 @@ use Rattle.model.specs.Nodes.{isNode, allNodes, anyNode}
 use Rattle.model.specs.Sound.{sound}
 use Rattle.model.specs.Join.{outstanding}
 use Rattle.model.specs.Lookup.{endFailed}
-use Rattle.model.specs.Image.{byteAt, imBase, imDigits, imDepth, imNodes, imRecords, lengthRight, imIdValid, imIdNew, recNodesGood}
-use Rattle.model.specs.Image.{recOrdered, recAllowed, recOwnerFirst, recordsOrdered, recordsAllowed, ownPresent, recordsOwned, imageOf}
+use Rattle.model.specs.Image.{isVersion, hasJoins, byteAt, imVersion, imBase, imDigits, imDepth, imNodes, imRecords, lengthRight, imIdValid, imIdNew, recNodesGood}
+use Rattle.model.specs.Image.{recOrdered, recAllowed, recOwnerFirst, recordsOrdered, recordsAllowed, ownPresent, recordsOwned, joinsListed, held, imageOf}
 use Rattle.model.specs.Traces.{pathCount, placeCount, stepCount, traceCountsWrong, placeNamed, stepAllowed, placesNamed, stepsAllowed, firstFault}
 
 -- a sentence: its test, and its number
@@ -36,9 +36,9 @@ unsound m = not (sound (m .state) (m .tables))
 abbrev pub noSettings : List ℕ → Bool
 noSettings im = ltb (length im) 5 || not (eqb (byteAt im 0) 4)
 
--- 4: the image is of another version than 1
-abbrev pub otherVersion : List ℕ → Bool
-otherVersion im = not (eqb (byteAt im 1) 1)
+-- 4: the version, an image's or that of the image to be written, is none
+abbrev pub otherVersion : ℕ → Bool
+otherVersion version = not (isVersion version)
 
 -- 6: the node count is missing or not from 1 to 64, or the image is not as long as its counts say, or longer than 65,535 bytes
 abbrev pub countsWrong : List ℕ → Bool
@@ -75,7 +75,7 @@ foundRefusal m b d K id =
 abbrev pub frameSentences : List ℕ → List Sentence
 frameSentences im =
     (noSettings im, 3)
-    ∷ (otherVersion im, 4)
+    ∷ (otherVersion (imVersion im), 4)
     ∷ (not (settingsInRange (imBase im) (imDigits im) (imDepth im)), 5)
     ∷ (countsWrong im, 6)
     ∷ (not (allBelow (imNodes im) (node (imIdValid im))), 7)
@@ -89,8 +89,12 @@ abbrev pub recordSentences : List ℕ → List Sentence
 recordSentences im =
     (not (recordsOrdered im), 10) ∷ (not (recordsAllowed im), 17) ∷ (not (ownPresent im && recordsOwned im), 18) ∷ []
 
+-- 24, of version 2: the joins under way are not listed as they must be, the counts are not as many as the nodes, or the state that the image gives is not sound
+abbrev pub joinsWrong : List ℕ → Bool
+joinsWrong im = hasJoins (imVersion im) && not (joinsListed im && sound (held im .state) (held im .tables))
+
 abbrev pub imageSentences : List ℕ → List Sentence
-imageSentences im = frameSentences im ++ recordSentences im
+imageSentences im = frameSentences im ++ (recordSentences im ++ ((joinsWrong im, 24) ∷ []))
 
 unfoldable pub imageRefusal : List ℕ → ℕ
 imageRefusal im = firstTrue (imageSentences im)
@@ -160,13 +164,16 @@ verdictSentences s = (someNotInSystem s, 15) ∷ []
 unfoldable pub verdictRefusal : Memory → ℕ
 verdictRefusal m = firstTrue (stateSentences m ++ verdictSentences (m .state))
 
--- 15; 16, the image is longer than the memory for it
-abbrev pub writeSentences : Memory → List ℕ → List Sentence
-writeSentences m out =
-    (someNotInSystem (m .state), 15) ∷ (ltb (length out) (length (imageOf (m .state) (m .tables))), 16) ∷ []
+-- 4; 15, of version 1; 16, the image is longer than the memory for it
+abbrev pub writeSentences : Memory → ℕ → List ℕ → List Sentence
+writeSentences m version out =
+    (otherVersion version, 4)
+    ∷ (not (hasJoins version) && someNotInSystem (m .state), 15)
+    ∷ (ltb (length out) (length (imageOf version (m .state) (m .tables))), 16)
+    ∷ []
 
-unfoldable pub writeRefusal : Memory → List ℕ → ℕ
-writeRefusal m out = firstTrue (stateSentences m ++ writeSentences m out)
+unfoldable pub writeRefusal : Memory → ℕ → List ℕ → ℕ
+writeRefusal m version out = firstTrue (stateSentences m ++ writeSentences m version out)
 
 -- 22, the trace's counts are wrong; 9, some place has no node; 23, some step is not allowed; each sentence over the whole trace
 abbrev pub traceSentences : Memory → List ℕ → List Sentence
