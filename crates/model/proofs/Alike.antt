@@ -163,7 +163,7 @@ module _ (s t s′ t′ : List ℕ) (a : LongAlike s t s′ t′) where
     back : (x : ℕ) → IsNode s′ x → IsNode s x
     back = node-among s′ s (omega (arith, count))
 
-    still-sound : Sound s′ t′
+    pub still-sound : Sound s′ t′
     still-sound = record {
       long = a .long′;
       settings = subst₃ InRange (sym (base-same s s′ w)) (sym (digits-same s s′ w)) (sym (depth-same s s′ w)) (S .settings);

@@ -7,21 +7,22 @@ use mathlib.Core.List.{List, _∷_}
 use native.Mathlib.Omega.{arith}
 use lib.ListN.{take}
 use Rattle.model.specs.Loops.{allBelow, firstBelow, countBelow, sumBelow, joinBelow, node}
-use Rattle.model.specs.Memory.{stateLength, base, digits, nodeCount, tableOf}
+use Rattle.model.specs.Memory.{stateLength, base, digits, nodeCount, nodeOf, tableOf}
 use Rattle.model.specs.Nodes.{qualifies}
 use Rattle.model.specs.Lookup.{hopEntry, NextHop, frontmost, nextHop, veryHopsWithin, answerOf, lookup}
 use Rattle.model.specs.Survey.{arrivesIn, isLost, isPair, ofPair, pairsFrom, countPairs, hopPairs, lostPairs, surveyCounts}
 use Rattle.model.specs.Consistency.{Verdict, howMany, entryWhole, levelWhole, nodeWhole, consistent, nodeShort, levelShort, entryShort, firstShort, verdict}
-use Rattle.model.specs.Image.{idBytes, entryRecords, levelRecords, nodeRecords, allRecords, imageOf}
+use Rattle.model.specs.Image.{idBytes, entryRecords, levelRecords, nodeRecords, allRecords, underWay, joinFields, joinBytes, countBytes, restBytes, imageOf}
 use Rattle.model.specs.Traces.{pathCount, placeCount, placeAt, destination, stepCount, mayGo, stepAllowed, placesNamed}
 use Rattle.model.proofs.Loops.{all-same, count-same, sum-same, first-same, join-same, first-fails}
-use Rattle.model.proofs.Status.{IsNode}
+use Rattle.model.proofs.Memory.{same-status, same-level, same-target, same-pending, same-notified, same-requests, same-notices}
+use Rattle.model.proofs.Status.{IsNode, in-system-same}
 use Rattle.model.proofs.Sound.{Sound}
 use Rattle.model.proofs.NextHop.{Agreeing, front-same, entry-hop}
 use Rattle.model.proofs.Traces.{places-named}
 use Rattle.model.proofs.Lookup.{Step, arrives, loses, hops, step-of, arrives-path, loses-path, hops-path, hop-node}
 use Rattle.model.proofs.Alike as same
-use Rattle.model.proofs.Alike.{LongAlike, base-same, digits-same, depth-same, id-same, alike-to, suffix-alike, table-same}
+use Rattle.model.proofs.Alike.{LongAlike, base-same, digits-same, depth-same, id-same, record-same, alike-to, suffix-alike, table-same}
 
 -- loops over the nodes, where both memories have as many
 pub nodes-same {ℓ κ} : {A : Type ℓ} {B : Type κ} (loop : ℕ → (ℕ → A) → B)
@@ -199,9 +200,29 @@ module _ (s t s′ t′ : List ℕ) (L : LongAlike s t s′ t′) (S : Sound s t
       levels : levelRecords s′ (tableOf t x) x ≡ levelRecords s (tableOf t x) x
       levels = fun-ext (λ i. cc (base-same s s′ a, entries i))
 
-  pub image-same : imageOf s′ t′ ≡ imageOf s t
+  -- a node's join and its counts, by its record
+  record-there : (x : ℕ) → x ≤ nodeCount s → nodeOf s′ x ≡ nodeOf s x
+  record-there x h = record-same s s′ a x (few x h)
+
+  join-bytes-same : (x : ℕ) → 1 ≤ x → x ≤ nodeCount s → joinBytes s′ x ≡ joinBytes s x
+  unfolding joinBytes joinFields
+  join-bytes-same x l h =
+      let r = record-there x h in cc (same-status r, same-level r, same-target r, same-pending r, same-notified r)
+
+  rest-same : (v : ℕ) → restBytes v s′ ≡ restBytes v s
+  unfolding restBytes
+  rest-same v =
+      cc (
+        count,
+        nodes-same countBelow count-same (nodeCount s) (nodeCount s′) count (underWay s) (underWay s′) (λ x l h. ap not (in-system-same s s′ x (record-there x h))),
+        nodes-same joinBelow join-same (nodeCount s) (nodeCount s′) count (joinBytes s) (joinBytes s′) join-bytes-same,
+        nodes-same joinBelow join-same (nodeCount s) (nodeCount s′) count (countBytes s) (countBytes s′)
+            (λ x l h. let r = record-there x h in cc (same-requests r, same-notices r)),
+      )
+
+  pub image-same : (v : ℕ) → imageOf v s′ t′ ≡ imageOf v s t
   unfolding imageOf allRecords
-  image-same =
+  image-same v =
       cc (
         base-same s s′ a,
         digits-same s s′ a,
@@ -209,4 +230,5 @@ module _ (s t s′ t′ : List ℕ) (L : LongAlike s t s′ t′) (S : Sound s t
         count,
         nodes-same joinBelow join-same (nodeCount s) (nodeCount s′) count (idBytes s) (idBytes s′) (λ x l h. cc (id-same s s′ a x (few x h))),
         nodes-same joinBelow join-same (nodeCount s) (nodeCount s′) count (nodeRecords s t) (nodeRecords s′ t′) records-same,
+        rest-same v,
       )

@@ -1,7 +1,7 @@
 -- On memories alike in the fixed lengths each call is refused alike, and a trace at the same place. Assumes nothing.
 use Prim.Native.Nat.{ℕ, _+_, _≤_}
 use mathlib.Core.Path.{_≡_, refl, sym, ap, ap₂, _∙_}
-use mathlib.Core.Bool.{Bool, true, false, cond, not, _||_}
+use mathlib.Core.Bool.{Bool, true, false, cond, not, _&&_, _||_}
 use mathlib.Core.List.{List, [], _∷_, _++_}
 use native.Mathlib.Omega.{arith}
 use lib.Dec.{eqb}
@@ -11,6 +11,7 @@ use Rattle.model.specs.Memory.{Memory, nodeCount, nodeOf, isInSystem}
 use Rattle.model.specs.Nodes.{isNode}
 use Rattle.model.specs.Sound.{sound}
 use Rattle.model.specs.Join.{outstanding}
+use Rattle.model.specs.Image.{hasJoins}
 use Rattle.model.specs.Traces.{pathCount, placeCount, placeAt, stepCount, placeNamed, stepAllowed}
 use Rattle.model.specs.Refusals.{Sentence, firstTrue, memoryShort, unsound, hasId, areNodes, someNotInSystem, stateSentences, beginSentences, withdrawSentences, deliverSentences, lookupSentences, verdictSentences, writeSentences, traceSentences, foundRefusal, readRefusal, stateRefusal, beginRefusal, withdrawRefusal, deliverRefusal, lookupRefusal, verdictRefusal, writeRefusal, traceRefusal, tracePlace}
 use Rattle.model.proofs.Loops.{all-same, any-same}
@@ -164,13 +165,15 @@ module _ (m m′ : Memory) (a : Alike (m .state) (m .tables) (m′ .state) (m′
       past-sound (verdictSentences s) (verdictSentences s′)
       (λ L S. sentence-same _ _ 15 [] [] (not-in-system-same S) (λ e. refl))
 
-  pub write-same : (out : List ℕ) → writeRefusal m′ out ≡ writeRefusal m out
+  pub write-same : (v : ℕ) (out : List ℕ) → writeRefusal m′ v out ≡ writeRefusal m v out
   unfolding writeRefusal
-  write-same out =
-      past-sound (writeSentences m out) (writeSentences m′ out)
+  write-same v out =
+      past-sound (writeSentences m v out) (writeSentences m′ v out)
       (λ L S.
-      sentence-same _ _ 15 _ _ (not-in-system-same S)
-      (λ e₁₅. sentence-same _ _ 16 [] [] (cc (image-same s (m .tables) s′ (m′ .tables) L S)) (λ e₁₆. refl)))
+      sentence-same _ _ 4 _ _ refl
+      (λ e₄.
+      sentence-same _ _ 15 _ _ (ap (λ (b : Bool). not (hasJoins v) && b) (not-in-system-same S))
+      (λ e₁₅. sentence-same _ _ 16 [] [] (cc (image-same s (m .tables) s′ (m′ .tables) L S v)) (λ e₁₆. refl))))
 
   -- ---- traces
 

@@ -68,14 +68,23 @@ pub mod HopsUnchanged
 -- ---- images: read, written, and back
 pub mod RecordRules
 pub mod LoadingIsSound
+pub mod JoinsLoaded
 pub mod Records
 pub mod RecordsAreFew
 pub mod Sections
 pub mod WrittenIsTaken
 pub mod Frame
 pub mod WithoutCounts
+pub mod IdsReloaded
 pub mod Reloaded
+pub mod BytesFrom
 pub mod ReadGivesRecords
+pub mod JoinSections
+pub mod JoinsListed
+pub mod JoinsReloaded
+pub mod ReadGivesJoins
+pub mod WrittenRead
+pub mod ReadWritten
 pub mod RoundTrip
 -- ---- refusals and calls
 pub mod Refusals
@@ -95,5 +104,6 @@ pub mod AlikeLearning
 pub mod AlikeDelivery
 pub mod AlikeLooking
 pub mod AlikeRefusals
+pub mod ReadingIsSound
 -- ---- with a node that copies or waits, and without it
 pub mod Invisible

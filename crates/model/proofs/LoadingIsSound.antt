@@ -1,4 +1,4 @@
--- The state that an image gives is sound, if reading takes the image. The entries of each table are the neighbours of the entry's
+-- The settings, ids and records of an image that reading takes make a sound state. The entries of each table are the neighbours of the entry's
 -- records, in their order. Assumes nothing.
 use Prim.Native.Nat.{ℕ, zero, suc, _+_, _*_, _≤_, _<_}
 use mathlib.Core.Path.{_≡_, refl, sym, ap, ap₂, subst, subst₂, subst₃, _∙_}
@@ -18,7 +18,7 @@ use Rattle.model.specs.Memory.{stateLength, tablesLength, base, digits, 
 use Rattle.model.specs.Tables.{qualified, slotPlace, slotAt, firstOf, entrySize, entry, holds, append}
 use Rattle.model.specs.Nodes.{qualifies}
 use Rattle.model.specs.Join.{withSettings}
-use Rattle.model.specs.Image.{imBase, imDigits, imDepth, imNodes, imId, imRecords, recNode, recLevel, recDigit, recNeighbor, sameEntry, recOrdered, recAllowed, sameNeighbor, recOwn, recOwnerFirst, recOfOwn, ownHasRecord, ownHaveRecords, loadId, loadRecord, loaded}
+use Rattle.model.specs.Image.{imBase, imDigits, imDepth, imNodes, imId, imRecords, recNode, recLevel, recDigit, recNeighbor, sameEntry, recOrdered, recAllowed, sameNeighbor, recOwn, recOwnerFirst, recOfOwn, ownHasRecord, ownHaveRecords, loadId, loadRecord, loadedIds, loadedTables}
 use Rattle.model.proofs.Bools.{back-false, or-right, and-left, and-right, and-intro, or-intro-right, not-both}
 use Rattle.model.proofs.Loops.{all-at, any-at, any-false, any-found, count-some, each-leads}
 use Rattle.model.proofs.Ids.{InRange, valid-digit}
@@ -476,21 +476,21 @@ module _ (im s : List ℕ) (R : GoodImage im) (W : Words im s) where
         ∙ first
         ∙ ex
 
--- ---- the whole
+-- ---- the settings, ids and records: the whole of a version 1 image
 
 module _ (s t im : List ℕ) (long : Long s t) (R : GoodImage im) where
   s₂ : List ℕ
-  s₂ = loaded s t im .state
+  s₂ = loadedIds s im
 
   t₂ : List ℕ
-  t₂ = loaded s t im .tables
+  t₂ = loadedTables t im
 
   W : Words im s₂
-  unfolding s₂ loaded
+  unfolding s₂ loadedIds
   W = words-loaded im s R (long .state)
 
   L : Loaded im s₂ (imRecords im) t₂
-  unfolding s₂ t₂ loaded
+  unfolding t₂ loadedTables
   L = tables-loaded im s₂ R W t (long .tables)
 
   back : (x : ℕ) → IsNode s₂ x → x ≤ imNodes im
@@ -501,13 +501,13 @@ module _ (s t im : List ℕ) (long : Long s t) (R : GoodImage im) where
       W .zero (8 * x + k) (omega (arith, n .low)) (omega (arith, n .high, few im s₂ R W)) (λ y m. omega arith)
 
   -- nothing is counted yet
-  pub loaded-fresh : (x : ℕ) → IsNode (loaded s t im .state) x → Fresh (loaded s t im .state) x
+  pub ids-fresh : (x : ℕ) → IsNode (loadedIds s im) x → Fresh (loadedIds s im) x
   unfolding s₂
-  loaded-fresh x n = (zero-at x n 6 (omega arith) (omega arith), zero-at x n 7 (omega arith) (omega arith))
+  ids-fresh x n = (zero-at x n 6 (omega arith) (omega arith), zero-at x n 7 (omega arith) (omega arith))
 
-  pub loaded-ok : Sound (loaded s t im .state) (loaded s t im .tables)
+  pub ids-ok : Sound (loadedIds s im) (loadedTables t im)
   unfolding s₂ t₂
-  loaded-ok = record {
+  ids-ok = record {
     long = record { state = W .long; tables = L .long };
     settings = range im s₂ R W;
     some = omega (arith, W .settings .count, R .some);
@@ -533,7 +533,7 @@ module _ (s t im : List ℕ) (long : Long s t) (R : GoodImage im) where
       notified = zero-at x n 5 (omega arith) (omega arith);
     });
     counts = λ x n.
-        fresh-counts s₂ x (nodeOf s₂ x) (zero-at x n 1 (omega arith) (omega arith)) (loaded-fresh x n .0) (loaded-fresh x n .1);
+        fresh-counts s₂ x (nodeOf s₂ x) (zero-at x n 1 (omega arith) (omega arith)) (ids-fresh x n .0) (ids-fresh x n .1);
     head = λ p l h. W .zero p l (omega (arith, h)) (λ x n. omega (arith, h, n .low));
     rest = λ p l h. W .zero p (omega (arith, l)) h (λ x n. omega (arith, l, n .high));
     tables-rest = L .rest;

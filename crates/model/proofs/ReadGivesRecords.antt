@@ -14,7 +14,7 @@ use borrow.Author.Tests.{leb-true}
 use Rattle.model.specs.Loops.{countBelow, joinBelow, eachBelow}
 use Rattle.model.specs.Memory.{tablesLength, zeroed, tableStart, tableOf, withTable}
 use Rattle.model.specs.Tables.{slotPlace, slotAt, entrySize, append}
-use Rattle.model.specs.Image.{imDepth, imNodes, imRecords, recNode, recLevel, recDigit, recNeighbor, sameEntry, risesFrom, loadRecord}
+use Rattle.model.specs.Image.{imDepth, imNodes, imRecords, recNode, recLevel, recDigit, recNeighbor, sameEntry, risesFrom, loadRecord, loadedTables}
 use Rattle.model.proofs.Loops.{each-leads, count-same, join-same}
 use Rattle.model.proofs.Memory.{zeroed-length, zeroed-within, table-at, table-set}
 use Rattle.model.proofs.Tables.{size-is}
@@ -303,7 +303,8 @@ module _ (im : List ℕ) (R : GoodImage im) where
 
   -- the records of the tables are those of the image
   pub records-back : (t : List ℕ) → tablesLength ≤ length t
-      → joinBelow (512 * imNodes im) (placeRecord (eachBelow (imRecords im) (loadRecord im) (zeroed tablesLength t))) ≡ joinBelow (imRecords im) (recordBytes im)
+      → joinBelow (512 * imNodes im) (placeRecord (loadedTables t im)) ≡ joinBelow (imRecords im) (recordBytes im)
+  unfolding loadedTables
   records-back t long =
       let L : ReadUpTo (imRecords im) (eachBelow (imRecords im) (loadRecord im) (zeroed tablesLength t)) = streamed t long in
       let t₂ : List ℕ = eachBelow (imRecords im) (loadRecord im) (zeroed tablesLength t) in

@@ -5,6 +5,7 @@ use mathlib.Core.Path.{_≡_, refl, sym, ap, ap₂, subst, _∙_}
 use mathlib.Core.Logic.{_≢_}
 use mathlib.Core.Bool.{Bool, true, false, cond, not, _&&_}
 use mathlib.Core.List.{List, [], _∷_, _++_}
+use native.Mathlib.Decide.{ℕ-discrete}
 use native.Mathlib.Omega.{arith}
 use lib.Dec.{eqb, ltb}
 use borrow.Author.Tests.{eq-eqb, ne-eqb, ltb-true, lt-ltb, le-ltb, not-true, not-false}
@@ -132,6 +133,14 @@ sentences-later (c ∷ cs) later g r x e z q =
     let p = one-passed (c .0) (c .1) cs (ltb-true 0 (c .1) (and-left _ _ g)) (sym e ∙ z) in
     sentence-goes (c .0) (c .1) (cs ++ later) x (c .0) refl (p .0)
     (sentences-later cs later (and-right (ltb (c .1) 256) _ (and-right (ltb 0 (c .1)) _ g)) 0 x (sym (p .1)) refl q)
+
+-- where the whole list refuses nothing, neither do the first sentences
+pub first-free : (cs later : List Sentence) → firstTrue (cs ++ later) ≡ 0 → firstTrue cs ≡ 0
+first-free cs later z = go (ℕ-discrete (firstTrue cs) 0)
+  where
+    go : Dec (firstTrue cs ≡ 0) → firstTrue cs ≡ 0
+    go (yes e) = e
+    go (no nz) = sentences-refused cs later (firstTrue cs) refl nz ∙ z
 
 -- ---- the sentence that refused
 

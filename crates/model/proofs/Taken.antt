@@ -2,8 +2,8 @@
 use Prim.Native.Nat.{ℕ, _+_, _-_, _≤_, _<_}
 use mathlib.Core.Path.{_≡_, refl, sym, ap, ap₂, subst, _∙_}
 use mathlib.Core.Logic.{_≢_}
-use mathlib.Core.Bool.{true, false, not, _&&_, _||_}
-use mathlib.Core.List.{List, [], _++_}
+use mathlib.Core.Bool.{Bool, true, false, not, _&&_, _||_}
+use mathlib.Core.List.{List, [], _∷_, _++_}
 use native.Mathlib.Omega.{arith}
 use lib.Dec.{ltb, leb}
 use lib.ListN.{length}
@@ -12,11 +12,11 @@ use Rattle.model.specs.Ids.{validId}
 use Rattle.model.specs.Memory.{Memory, stateLength, tablesLength, nodeCount, idOf, isInSystem, isAttached}
 use Rattle.model.specs.Nodes.{isNode}
 use Rattle.model.specs.Sound.{sound}
-use Rattle.model.specs.Image.{imNodes, imBase, imDigits, imDepth, imRecords, imId, imIdValid, imIdDiffers, imIdNew, imIsNode, recNode, recNeighbor, recNodesGood, recOrdered, recAllowed, recOwnerFirst, ownHaveRecords, ownPresent, recordsOwned, imageOf}
+use Rattle.model.specs.Image.{imNodes, imBase, imDigits, imDepth, imRecords, imId, imIdValid, imIdDiffers, imIdNew, imIsNode, recNode, recNeighbor, recNodesGood, recOrdered, recAllowed, recOwnerFirst, ownHaveRecords, ownPresent, recordsOwned, isVersion, hasJoins, imVersion, joinsListed, held, imageOf}
 use Rattle.model.specs.Lookup.{endFailed}
-use Rattle.model.specs.Refusals.{Sentence, firstTrue, memoryShort, unsound, hasId, idTaken, areNodes, someNotInSystem, stateSentences, foundRefusal, readRefusal, stateRefusal, beginRefusal, withdrawRefusal, deliverRefusal, lookupRefusal, verdictRefusal, writeRefusal}
+use Rattle.model.specs.Refusals.{Sentence, firstTrue, memoryShort, frameSentences, recordSentences, joinsWrong, unsound, hasId, idTaken, areNodes, someNotInSystem, stateSentences, foundRefusal, readRefusal, stateRefusal, beginRefusal, withdrawRefusal, deliverRefusal, lookupRefusal, verdictRefusal, writeRefusal}
 use Rattle.model.proofs.Bools.{and-left, and-right, and-intro, or-none-left, or-none-right}
-use Rattle.model.proofs.Refusals.{numbered, testOf, passed, skipped, free, sentence-none}
+use Rattle.model.proofs.Refusals.{numbered, testOf, passed, skipped, free, first-free, sentence-none}
 use Rattle.model.proofs.Counts.{counts-ok}
 use Rattle.model.proofs.Loops.{all-at}
 use Rattle.model.proofs.Nodes.{nodes-at, nodes-of, no-node-at, no-node-of}
@@ -117,21 +117,34 @@ module _ (m : Memory) where
       let p = passed _ refl e in
       (sound-past m (p 1) (p 2), all-in-system (p 15))
 
-  pub write-taken : (out : List ℕ) → writeRefusal m out ≡ 0
-      → Sound s t × ((x : ℕ) → IsNode s x → isInSystem s x ≡ true) × (length (imageOf s t) ≤ length out)
+  -- what a writing that is not refused has: of version 1 every node is in system
+  pub record CanWrite (v : ℕ) (out : List ℕ) : Type 0 where
+    pub sound : Sound s t
+    pub version : isVersion v ≡ true
+    pub in-system : hasJoins v ≡ false → (x : ℕ) → IsNode s x → isInSystem s x ≡ true
+    pub fits : length (imageOf v s t) ≤ length out
+
+  pub write-taken : (v : ℕ) (out : List ℕ) → writeRefusal m v out ≡ 0 → CanWrite v out
   unfolding writeRefusal numbered testOf
-  write-taken out e =
+  write-taken v out e =
       let p = passed _ refl e in
-      (sound-past m (p 1) (p 2), all-in-system (p 15), ltb-false (length out) (length (imageOf s t)) (p 16))
+      record {
+        sound = sound-past m (p 1) (p 2);
+        version = not-false _ (p 4);
+        in-system = λ plain. all-in-system (sym (ap (λ (b : Bool). not b && someNotInSystem s) plain) ∙ p 15);
+        fits = ltb-false (length out) (length (imageOf v s t)) (p 16);
+      }
 
 -- ---- reading
 
 im-node : (im : List ℕ) (x : ℕ) → imIsNode im x ≡ true → (1 ≤ x) × (x ≤ imNodes im)
 im-node im x e = (leb-true 1 x (and-left _ _ e), leb-true x (imNodes im) (and-right (leb 1 x) _ e))
 
-pub read-taken : (m : Memory) (im : List ℕ) → readRefusal m im ≡ 0 → Long (m .state) (m .tables) × GoodImage im
-unfolding readRefusal numbered testOf
-read-taken m im e =
+-- what 1 and 3 to 18 leave
+pub tables-taken : (m : Memory) (im : List ℕ) → firstTrue ((memoryShort m, 1) ∷ (frameSentences im ++ recordSentences im)) ≡ 0
+    → Long (m .state) (m .tables) × GoodImage im
+unfolding numbered testOf
+tables-taken m im e =
     let p = passed _ refl e in
     let counts = counts-ok im (p 6) in
     let own : (ownPresent im && recordsOwned im) ≡ true = not-false _ (p 18) in
@@ -157,6 +170,19 @@ read-taken m im e =
         let w : y - 1 + 1 ≡ y = omega arith in
         subst (λ (z : ℕ). imId im z ≢ imId im x) w
         (eqb-false _ _ (not-true _ (all-at (x - 1) (imIdDiffers im x) e (y - 1) (omega arith))))
+
+pub read-taken : (m : Memory) (im : List ℕ) → readRefusal m im ≡ 0 → Long (m .state) (m .tables) × GoodImage im
+unfolding readRefusal
+read-taken m im e = tables-taken m im (first-free ((memoryShort m, 1) ∷ (frameSentences im ++ recordSentences im)) ((joinsWrong im, 24) ∷ []) e)
+
+-- of an image of version 2 the joins are listed, and the state that it gives is sound
+pub read-joins : (m : Memory) (im : List ℕ) → readRefusal m im ≡ 0 → hasJoins (imVersion im) ≡ true
+    → (joinsListed im ≡ true) × (sound (held im .state) (held im .tables) ≡ true)
+unfolding readRefusal numbered testOf
+read-joins m im e v =
+    let p = passed _ refl e in
+    let w = not-false _ (sym (ap (λ (b : Bool). b && not (joinsListed im && sound (held im .state) (held im .tables))) v) ∙ p 24) in
+    (and-left _ _ w, and-right (joinsListed im) _ w)
 
 -- ---- what a sound state does not refuse
 

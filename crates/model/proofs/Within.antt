@@ -22,16 +22,16 @@ module _ (n : ℕ) where
     front : length (take n l) ≡ n
     front = length-take-le n l fits
 
-    parted : g l ≡ g (take n l) ++ drop n l
-    parted = ap g (sym (take-append-drop n l)) ∙ w .apart (take n l) (drop n l) front
+    pub within-parted : g l ≡ g (take n l) ++ drop n l
+    within-parted = ap g (sym (take-append-drop n l)) ∙ w .apart (take n l) (drop n l) front
 
     -- past the first n places everything is as it was
     pub within-past : drop n (g l) ≡ drop n l
-    within-past = ap (drop n) parted ∙ drop-at (g (take n l)) (drop n l) n (w .long (take n l) front)
+    within-past = ap (drop n) within-parted ∙ drop-at (g (take n l)) (drop n l) n (w .long (take n l) front)
 
     -- the first n places depend on no others
     pub within-front : take n (g l) ≡ g (take n l)
-    within-front = ap (take n) parted ∙ take-at (g (take n l)) (drop n l) n (w .long (take n l) front)
+    within-front = ap (take n) within-parted ∙ take-at (g (take n l)) (drop n l) n (w .long (take n l) front)
 
   -- so where those are the same before, they are the same after
   pub within-same : (g : List ℕ → List ℕ) → Within n g → (l l′ : List ℕ) → n ≤ length l → n ≤ length l′ → take n l′ ≡ take n l

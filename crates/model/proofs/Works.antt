@@ -1,17 +1,20 @@
 -- What a call that is taken does to the memory lies within the fixed lengths. Assumes nothing.
 use Prim.Native.Nat.{ℕ, _+_, _*_, _≤_}
-use mathlib.Core.Path.{_≡_, _∙_}
+use mathlib.Core.Path.{_≡_, refl, _∙_}
+use mathlib.Core.Bool.{Bool, true, false, cond}
 use mathlib.Core.List.{List}
 use native.Mathlib.Omega.{arith}
 use lib.ListN.{length, set}
 use Rattle.model.specs.Memory.{Node, stateLength, tablesLength, zeroed, withNode, withTable}
 use Rattle.model.specs.Tables.{append, ownTable}
 use Rattle.model.specs.Join.{Delivery, founded, delivery}
-use Rattle.model.specs.Image.{imBase, imDigits, imDepth, imNodes, imId, imRecords, recNode, recLevel, recDigit, recNeighbor, loadId, loadRecord, loaded}
+use Rattle.model.specs.Image.{hasJoins, imVersion, imBase, imDigits, imDepth, imNodes, imId, imRecords, recNode, recLevel, recDigit, recNeighbor}
+use Rattle.model.specs.Image.{joinsListed, loadId, loadedIds, loadedJoins, loadRecord, loadedTables, loadedState, loaded}
 use Rattle.model.proofs.Tables.{append-length}
 use Rattle.model.proofs.OwnTable.{own-long}
 use Rattle.model.proofs.Sound.{Sound}
 use Rattle.model.proofs.LoadingIsSound.{GoodImage}
+use Rattle.model.proofs.JoinsLoaded.{within-joins}
 use Rattle.model.proofs.Sender.{CanDeliver}
 use Rattle.model.proofs.Within.{Within, within-then, within-each, within-set, within-zeroed, then-set, within-node, within-table}
 use Rattle.model.proofs.TablesOnlyGrow.{tables-long}
@@ -34,18 +37,33 @@ found-works s t b d K id h = record {
   tables = within-then tablesLength _ _ (within-zeroed tablesLength) (within-table 1 (omega arith) (omega arith) (λ T. ownTable d id 1) (λ T e. own-long d id 1 h));
 }
 
-pub read-works : (s t im : List ℕ) → GoodImage im → Works (λ s. loaded s t im .state) (λ t. loaded s t im .tables)
-unfolding loaded loadRecord
-read-works s t im R = record {
-  state = within-then stateLength _ _ (zeroed-settings (imBase im) (imDigits im) (imDepth im) (imNodes im))
-      (within-each stateLength (imNodes im) (loadId im) (λ k l. within-set stateLength (8 * (k + 1)) (imId im (k + 1)) (omega (arith, R .few))));
-  tables = within-then tablesLength _ _ (within-zeroed tablesLength)
+-- the words of an image, and of version 2 its joins
+module _ (im : List ℕ) (R : GoodImage im) where
+  ids-within : Within stateLength (λ s. loadedIds s im)
+  unfolding loadedIds
+  ids-within =
+      within-then stateLength _ _ (zeroed-settings (imBase im) (imDigits im) (imDepth im) (imNodes im))
+      (within-each stateLength (imNodes im) (loadId im) (λ k l. within-set stateLength (8 * (k + 1)) (imId im (k + 1)) (omega (arith, R .few))))
+
+  words-within : (b : Bool) → (b ≡ true → joinsListed im ≡ true)
+      → Within stateLength (λ s. cond b (loadedJoins im (loadedIds s im)) (loadedIds s im))
+  words-within true listed = within-then stateLength _ _ ids-within (within-joins im (listed refl) (R .few))
+  words-within false listed = ids-within
+
+  tables-within : Within tablesLength (λ t. loadedTables t im)
+  unfolding loadedTables loadRecord
+  tables-within =
+      within-then tablesLength _ _ (within-zeroed tablesLength)
       (within-each tablesLength (imRecords im) (loadRecord im) (λ r l.
       let n = R .owners r l in
       within-table (recNode im r) (n .0) (omega (arith, n .1, R .few))
       (λ T. append (imDepth im) T (recLevel im r) (recDigit im r) (recNeighbor im r))
-      (λ T e. append-length (imDepth im) T (recLevel im r) (recDigit im r) (recNeighbor im r) ∙ e)));
-}
+      (λ T e. append-length (imDepth im) T (recLevel im r) (recDigit im r) (recNeighbor im r) ∙ e)))
+
+  pub read-works : (s t : List ℕ) → (hasJoins (imVersion im) ≡ true → joinsListed im ≡ true)
+      → Works (λ s. loaded s t im .state) (λ t. loaded s t im .tables)
+  unfolding loaded loadedState
+  read-works s t listed = record { state = words-within (hasJoins (imVersion im)) listed; tables = tables-within }
 
 -- ---- beginning and withdrawing: a record and a table for node x, and the number of nodes
 
