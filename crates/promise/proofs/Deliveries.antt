@@ -1,18 +1,15 @@
 -- How many deliveries of a node are taken since the latest beginning of its number, in any list of calls. Assumes nothing.
 use Prim.Native.Nat.{ℕ, _+_, _≤_}
-use mathlib.Core.Path.{_≡_, refl, sym, ap, _∙_}
-use mathlib.Core.Bool.{Bool, true, false, cond, _&&_, _||_}
-use mathlib.Core.List.{List, [], _∷_}
-use native.Mathlib.Nat.{le-trans}
+use mathlib.Core.Path.{_≡_, refl, ap, _∙_}
+use mathlib.Core.Bool.{Bool, true, false, cond, _||_}
+use mathlib.Core.List.{List}
 use native.Mathlib.Omega.{arith}
 use lib.Dec.{eqb}
-use lib.ListN.{getD}
 use Rattle.model.specs.Memory.{Memory, Node, digits, nodeOf, statusOf, requestsOf, noticesOf, inSystem, copying, waiting, notifying}
-use Rattle.model.specs.Nodes.{isNode}
 use Rattle.model.specs.Join.{Delivery, notifyingNode, kindAttached, kindNotified, delivery}
-use Rattle.model.specs.Run.{Call, found, read, begin, withdraw, deliver, lookup, survey, verdict, write, trace, sound, play, Event, history, isTaken, goesOn, keepsAsking, tallied, tally, tallyFrom}
+use Rattle.model.specs.Run.{Call, play, history, goesOn, keepsAsking}
 use Rattle.model.proofs.Memory.{same-status, same-requests}
-use Rattle.model.proofs.Status.{IsNode, is-node, is-node-of}
+use Rattle.model.proofs.Status.{IsNode}
 use Rattle.model.proofs.Sound.{Sound}
 use Rattle.model.proofs.Sender.{CanDeliver}
 use Rattle.model.proofs.Settling.{Settling, settles, stays}
@@ -20,7 +17,7 @@ use Rattle.model.proofs.DeliveryDid.{Asking, copies-on, starts-waiting, waits-o
 use Rattle.model.proofs.RequestBound.{requests-most, notices-most, none-answered}
 use Rattle.model.proofs.DeliveryCounts.{delivery-adds}
 use Rattle.promise.specs.OneJoin.{deliveriesOf}
-use Rattle.promise.proofs.RunCounts.{Count, Kept, Counted, few}
+use Rattle.promise.proofs.RunCounts.{Count, Kept, few-sent}
 
 -- ---- as a count: one more than the deliveries of a node that began, by its record
 
@@ -106,58 +103,6 @@ delivered-most s t S x n = go (isAsking (statusOf s x)) refl
 
 -- ---- the deliveries of a history are fewer
 
-abbrev every : ℕ → Bool
-every kind = true
-
-tally-less : (x a b : ℕ) → a ≤ b → (e : Event) → tally 0 every x e a ≤ tally 1 every x e b
-unfolding tally
-tally-less x a b l e = either (isTaken (e .answer)) (by-call (e .call))
-  where
-    either : (taken : Bool) {a′ b′ : ℕ} → a′ ≤ b′ → cond taken a′ a ≤ cond taken b′ b
-    either true h = h
-    either false h = l
-
-    by-call : (c : Call) → tallied 0 every x c (e .answer) a ≤ tallied 1 every x c (e .answer) b
-    by-call (found base digits depth id) = l
-    by-call (read im) = l
-    by-call (begin id gateway) = new (eqb (getD (e .answer) 1 0) x)
-      where
-        new : (is : Bool) → cond is 0 a ≤ cond is 1 b
-        new true = omega arith
-        new false = l
-    by-call (withdraw y) = l
-    by-call (deliver y z) = own (eqb y x)
-      where
-        own : (is : Bool) → cond (is && true) (a + 1) a ≤ cond (is && true) (b + 1) b
-        own true = omega arith
-        own false = l
-    by-call (lookup u z failed) = l
-    by-call (survey failed) = l
-    by-call verdict = l
-    by-call (write out) = l
-    by-call (trace file) = l
-    by-call sound = l
-
-tally-fewer : (x a b : ℕ) → a ≤ b → (es : List Event) → tallyFrom 0 every x a es ≤ tallyFrom 1 every x b es
-unfolding tallyFrom
-tally-fewer x a b l [] = l
-tally-fewer x a b l (e ∷ es) = tally-fewer x (tally 0 every x e a) (tally 1 every x e b) (tally-less x a b l e) es
-
 pub deliveries-few : (m : Memory) (cs : List Call) → Sound (m .state) (m .tables) → goesOn m cs ≡ true → (x : ℕ)
     → deliveriesOf x (history m cs) ≤ digits (play m cs .state) + 64
-deliveries-few m cs S g x =
-    le-trans (tally-fewer x 0 (count x) (omega arith) (history m cs)) (few deliveryCount deliveries-kept 64 delivered-most count m cs counted S g most x)
-  where
-    -- what the records have at the start, and nothing for a number that no node has
-    count : ℕ → ℕ
-    count x = cond (isNode (m .state) x) (delivered (nodeOf (m .state) x)) 0
-
-    counted : Counted deliveryCount deliveries-kept count m
-    counted x n = sym (ap (λ (b : Bool). cond b (delivered (nodeOf (m .state) x)) 0) (is-node-of (m .state) x n))
-
-    most : (x : ℕ) → count x ≤ digits (m .state) + 64
-    most x = go (isNode (m .state) x) refl
-      where
-        go : (b : Bool) → isNode (m .state) x ≡ b → cond b (delivered (nodeOf (m .state) x)) 0 ≤ digits (m .state) + 64
-        go true e = delivered-most (m .state) (m .tables) S x (is-node (m .state) x e)
-        go false e = omega arith
+deliveries-few = few-sent deliveryCount deliveries-kept 64 delivered-most 0 (omega arith)

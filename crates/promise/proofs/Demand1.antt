@@ -22,6 +22,7 @@ use Rattle.model.proofs.OwnTable.{own-long}
 use Rattle.model.proofs.Calls.{either-end, taken-zero}
 use Rattle.model.proofs.Within.{within-past, within-same}
 use Rattle.model.proofs.Works.{Works, found-works, read-works, node-works, deliver-works}
+use Rattle.model.proofs.ReadingIsSound.{read-listed}
 use Rattle.model.proofs.Alike.{Alike, LongAlike, digits-same, count-same}
 use Rattle.model.proofs.AlikeDelivery.{delivery-same}
 use Rattle.model.proofs.AlikeLooking as looking
@@ -43,7 +44,7 @@ number m (deliver x y) = deliverRefusal m x y
 number m (lookup u z failed) = lookupRefusal m u z failed
 number m (survey failed) = stateRefusal m
 number m verdict = verdictRefusal m
-number m (write out) = writeRefusal m out
+number m (write v out) = writeRefusal m v out
 number m (trace file) = traceRefusal m file
 number m sound = stateRefusal m
 
@@ -57,7 +58,7 @@ others m (deliver x y) n = replicate 3 0
 others m (lookup u z failed) n = replicate 3 0
 others m (survey failed) n = replicate 9 0
 others m verdict n = replicate 4 0
-others m (write out) n = replicate 1 0
+others m (write v out) n = replicate 1 0
 others m (trace file) n = tracePlace m file n
 others m sound n = []
 
@@ -79,8 +80,8 @@ work m (deliver x y) =
 work m (lookup u z failed) = record { memory = m; out = []; fields = lookupFields (routing.lookup (m .state) (m .tables) failed u z) }
 work m (survey failed) = record { memory = m; out = []; fields = surveyCounts (m .state) (m .tables) failed }
 work m verdict = record { memory = m; out = []; fields = verdictFields (consistency.verdict (m .state) (m .tables)) }
-work m (write out) =
-    let im = imageOf (m .state) (m .tables) in
+work m (write v out) =
+    let im = imageOf v (m .state) (m .tables) in
     record { memory = m; out = im ++ drop (length im) out; fields = length im ∷ [] }
 work m (trace file) = record { memory = m; out = []; fields = 0 ∷ 0 ∷ [] }
 work m sound = record { memory = m; out = []; fields = [] }
@@ -98,7 +99,7 @@ step-is m (deliver x y) = refl
 step-is m (lookup u z failed) = refl
 step-is m (survey failed) = refl
 step-is m verdict = refl
-step-is m (write out) = refl
+step-is m (write v out) = refl
 step-is m (trace file) = refl
 step-is m sound = refl
 
@@ -136,7 +137,7 @@ others-carried m (deliver x y) n k = zeros 3 k
 others-carried m (lookup u z failed) n k = zeros 3 k
 others-carried m (survey failed) n k = zeros 9 k
 others-carried m verdict n k = zeros 4 k
-others-carried m (write out) n k = zeros 1 k
+others-carried m (write v out) n k = zeros 1 k
 others-carried m (trace file) n k = refl
 others-carried m sound n k = refl
 
@@ -185,13 +186,13 @@ withdraws m x z =
     node-works (n - 1) n noNode (replicate 512 0) (S .some) (S .few) (length-replicate {A = ℕ} 512 0)
 
 work-past : (m : Memory) (c : Call) → number m c ≡ 0 → past (work m c .memory) ≡ past m
-unfolding founded loaded begun withdrawn delivered
+unfolding founded begun withdrawn delivered
 work-past m (found b d K id) z =
     let k = found-taken m b d K id z in
     works-past m _ _ (found-works (m .state) (m .tables) b d K id (k .range .digits-most)) (k .long)
 work-past m (read im) z =
     let k = read-taken m im z in
-    works-past m _ _ (read-works (m .state) (m .tables) im (k .1)) (k .0)
+    works-past m _ _ (read-works im (k .1) (m .state) (m .tables) (read-listed m im z)) (k .0)
 work-past m (begin id gateway) z = works-past m _ _ (begins m id gateway z) (begin-taken m id gateway z .0 .long)
 work-past m (withdraw x) z = works-past m _ _ (withdraws m x z) (withdraw-taken m x z .0 .long)
 work-past m (deliver x y) z =
@@ -200,7 +201,7 @@ work-past m (deliver x y) z =
 work-past m (lookup u v failed) z = refl
 work-past m (survey failed) z = refl
 work-past m verdict z = refl
-work-past m (write out) z = refl
+work-past m (write v out) z = refl
 work-past m (trace file) z = refl
 work-past m sound z = refl
 
@@ -241,7 +242,7 @@ module _ (m m′ : Memory) (e : fixed m′ ≡ fixed m) where
   number-same (lookup u z failed) = alike.lookup-same m m′ a u z failed failed (λ x n. refl)
   number-same (survey failed) = alike.state-same m m′ a
   number-same verdict = alike.verdict-same m m′ a
-  number-same (write out) = alike.write-same m m′ a out
+  number-same (write v out) = alike.write-same m m′ a v out
   number-same (trace file) = alike.trace-same m m′ a file
   number-same sound = alike.state-same m m′ a
 
@@ -255,7 +256,7 @@ module _ (m m′ : Memory) (e : fixed m′ ≡ fixed m) where
   others-same (lookup u z failed) = refl
   others-same (survey failed) = refl
   others-same verdict = refl
-  others-same (write out) = refl
+  others-same (write v out) = refl
   others-same (trace file) = alike.traced-same m m′ a file
   others-same sound = refl
 
@@ -281,7 +282,7 @@ module _ (m m′ : Memory) (e : fixed m′ ≡ fixed m) where
       record { fields = refl; out = refl; memory = works-front _ _ (found-works s t b d K id (k .range .digits-most)) (k .long) }
   work-same (read im) z =
       let k = read-taken m im z in
-      record { fields = refl; out = refl; memory = works-front _ _ (read-works s t im (k .1)) (k .0) }
+      record { fields = refl; out = refl; memory = works-front _ _ (read-works im (k .1) s t (read-listed m im z)) (k .0) }
   work-same (begin id gateway) z =
       let k = begin-taken m id gateway z in
       let n = count-same s s′ (a .state) in
@@ -327,9 +328,9 @@ module _ (m m′ : Memory) (e : fixed m′ ≡ fixed m) where
   work-same verdict z =
       let k = verdict-taken m z in
       looks _ _ (ap verdictFields (looking.verdict-same s t s′ t′ (both (k .0 .long)) (k .0)))
-  work-same (write out) z =
-      let k = write-taken m out z in
-      let i = image-same s t s′ t′ (both (k .0 .long)) (k .0) in
+  work-same (write v out) z =
+      let S = write-taken m v out z .sound in
+      let i = image-same s t s′ t′ (both (S .long)) S v in
       record {
         fields = ap (λ (im : List ℕ). length im ∷ []) i;
         out = ap (λ (im : List ℕ). im ++ drop (length im) out) i;

@@ -5,23 +5,29 @@ use mathlib.Core.Logic.{inl, inr, ⊎-elim}
 use mathlib.Core.Bool.{Bool, true, false, cond}
 use mathlib.Core.List.{List, [], _∷_, _++_}
 use native.Mathlib.Omega.{arith}
+use lib.Dec.{ltb}
 use lib.ListN.{length, getD, take, drop}
 use lib.Seq.{length-take-le, take-at}
+use borrow.Author.Tests.{le-ltb}
 use Rattle.model.specs.Memory.{Memory, stateLength, tablesLength, isInSystem}
 use Rattle.model.specs.Consistency.{Verdict, firstShort, consistent}
-use Rattle.model.specs.Image.{imageOf, loaded, withoutCounts}
-use Rattle.model.specs.Refusals.{memoryShort, readRefusal, verdictRefusal, writeRefusal}
+use Rattle.model.specs.Image.{hasJoins, imageOf, imVersion, loaded, withoutCounts, kept}
+use Rattle.model.specs.Refusals.{memoryShort, stateRefusal, readRefusal, verdictRefusal, writeRefusal}
 use Rattle.model.specs.Calls.{Outcome, taken, verdictFields, readCall, verdictCall, writeCall}
 use Rattle.model.specs.Run.{isTaken}
 use Rattle.model.proofs.Bools.{true-or-false}
 use Rattle.model.proofs.Status.{IsNode, is-node, is-node-of}
 use Rattle.model.proofs.Sound.{Sound}
-use Rattle.model.proofs.Taken.{long-of, verdict-taken, write-taken}
+use Rattle.model.proofs.Refusals as refusals
+use Rattle.model.proofs.Taken.{long-of, state-taken, verdict-taken, write-taken, state-free}
 use Rattle.model.proofs.Calls.{taken-is, taken-zero}
 use Rattle.model.proofs.Consistency.{NotWhole, entry-fewer, fewer-entry, consistent-is, is-consistent, verdict-is, first-not-whole, first-node-least, first-level-least, first-digit-least}
-use Rattle.model.proofs.Sections.{image-most}
+use Rattle.model.proofs.JoinSections.{image-most, image-most-1}
 use Rattle.model.proofs.WithoutCounts.{without-length}
-use Rattle.model.proofs.RoundTrip.{onto, write-then-read, read-then-write}
+use Rattle.model.proofs.WrittenRead.{onto}
+use Rattle.model.proofs.ReadWritten as images
+use Rattle.model.proofs.ReadingIsSound.{read-sound}
+use Rattle.model.proofs.RoundTrip.{write-then-read, read-then-write}
 use Rattle.promise.specs.Fixed.{fixed}
 use Rattle.promise.specs.Demand2.{Short, Before, FirstShort, VerdictIs, Bytes, lengthWritten, written, ReadThenWritten, WrittenThenRead, Demand2}
 
@@ -124,55 +130,99 @@ unfolding readCall taken
 read-back m im out byte e room =
     let z = taken-zero m (readRefusal m im) [] _ _ e in
     let g : Memory = loaded (m .state) (m .tables) im in
-    let w : writeCall (readCall m im .memory) out ≡ left (loaded (m .state) (m .tables) im) im out =
-    ap (λ (o : Outcome). writeCall (o .memory) out) (taken-is (readRefusal m im) _ _ z) ∙ read-then-write m im out byte z room in
+    let w : writeCall (readCall m im .memory) (imVersion im) out ≡ left (loaded (m .state) (m .tables) im) im out =
+    ap (λ (o : Outcome). writeCall (o .memory) (imVersion im) out) (taken-is (readRefusal m im) _ _ z) ∙ read-then-write m im out byte z room in
     record { taken = ap (λ (o : Outcome). isTaken (o .answer)) w; bytes = in-front _ g im out w }
+
+-- an image that reading takes is no longer than a written one
+short-read : (m : Memory) (im : List ℕ) → Bytes im → isTaken (readCall m im .answer) ≡ true → length im ≤ 25226
+unfolding readCall
+short-read m im byte e =
+    let z = taken-zero m (readRefusal m im) [] _ _ e in
+    let g : Memory = loaded (m .state) (m .tables) im in
+    subst (λ (im : List ℕ). length im ≤ 25226) (images.read-written m im byte z) (image-most (imVersion im) (g .state) (g .tables) (read-sound m im z))
 
 -- the places of the fixed lengths
 fixed-part : (n : ℕ) (xs ys : List ℕ) → n ≤ length xs → take n (take n xs ++ drop n ys) ≡ take n xs
 fixed-part n xs ys l = take-at (take n xs) (drop n ys) n (length-take-le n xs l)
 
-module _ (m : Memory) (out : List ℕ) (e : isTaken (writeCall m out .answer) ≡ true) where
+-- what an image keeps of a state is as long
+kept-length : (v : ℕ) (s : List ℕ) → length (kept v s) ≡ length s
+kept-length v s = go (hasJoins v)
+  where
+    go : (b : Bool) → length (cond b s (withoutCounts s)) ≡ length s
+    go true = refl
+    go false = without-length s
+
+module _ (m : Memory) (v : ℕ) (out : List ℕ) where
   abbrev image : List ℕ
-  image = imageOf (m .state) (m .tables)
+  image = imageOf v (m .state) (m .tables)
 
-  can-write : writeRefusal m out ≡ 0
-  unfolding writeCall
-  can-write = taken-zero m (writeRefusal m out) out _ _ e
+  module _ (z : writeRefusal m v out ≡ 0) where
+    wrote : writeCall m v out ≡ left m image out
+    unfolding writeCall
+    wrote = taken-is _ _ _ z
 
-  sound-written : Sound (m .state) (m .tables)
-  sound-written = write-taken m out can-write .0
+    pub can-take : isTaken (writeCall m v out .answer) ≡ true
+    unfolding taken
+    can-take = ap (λ (o : Outcome). isTaken (o .answer)) wrote
 
-  wrote : writeCall m out ≡ left m image out
-  unfolding writeCall
-  wrote = taken-is _ _ _ can-write
+  module _ (e : isTaken (writeCall m v out .answer) ≡ true) where
+    can-write : writeRefusal m v out ≡ 0
+    unfolding writeCall
+    can-write = taken-zero m (writeRefusal m v out) out _ _ e
 
-  -- a state that is written, then read
-  written-back : (m′ : Memory) → memoryShort m′ ≡ false → WrittenThenRead m m′ out
-  unfolding onto taken
-  written-back m′ f =
-      let u : Memory = record { state = withoutCounts (m .state); tables = m .tables } in
-      let w : readCall m′ (written m out) ≡ taken (onto u m′) [] (0 ∷ []) =
-      ap (readCall m′) (in-front _ m image out wrote) ∙ write-then-read m m′ out can-write (long-of m′ f) in
-      let long = sound-written .long in
-      record {
-        taken = ap (λ (o : Outcome). isTaken (o .answer)) w;
-        state =
-            ap (λ (o : Outcome). fixed (o .memory)) w
-            ∙ ap₂ (λ (s t : List ℕ). record { state = s; tables = t }) (fixed-part stateLength (u .state) (m′ .state) (omega (arith, without-length (m .state), long .state)))
-            (fixed-part tablesLength (m .tables) (m′ .tables) (long .tables));
-      }
+    pub sound-written : Sound (m .state) (m .tables)
+    sound-written = write-taken m v out can-write .sound
 
-  length-written : lengthWritten m out ≡ length image
-  unfolding taken
-  length-written = ap (λ (o : Outcome). getD (o .answer) 1 0) wrote
+    -- the bytes that it wrote
+    pub written-is : written m v out ≡ image
+    written-is = in-front _ m image out (wrote can-write)
+
+    -- a state that is written, then read
+    pub read-written : (m′ : Memory) → memoryShort m′ ≡ false
+        → readCall m′ (written m v out) ≡ taken (onto (record { state = kept v (m .state); tables = m .tables }) m′) [] (0 ∷ [])
+    read-written m′ f = ap (readCall m′) written-is ∙ write-then-read m m′ v out can-write (long-of m′ f)
+
+    written-back : (m′ : Memory) → memoryShort m′ ≡ false → WrittenThenRead m m′ v out
+    unfolding onto taken
+    written-back m′ f =
+        let u : Memory = record { state = kept v (m .state); tables = m .tables } in
+        let long = sound-written .long in
+        record {
+          taken = ap (λ (o : Outcome). isTaken (o .answer)) (read-written m′ f);
+          state =
+              ap (λ (o : Outcome). fixed (o .memory)) (read-written m′ f)
+              ∙ ap₂ (λ (s t : List ℕ). record { state = s; tables = t })
+              (fixed-part stateLength (u .state) (m′ .state) (omega (arith, kept-length v (m .state), long .state)))
+              (fixed-part tablesLength (m .tables) (m′ .tables) (long .tables));
+        }
+
+    length-written : lengthWritten m v out ≡ length image
+    unfolding taken
+    length-written = ap (λ (o : Outcome). getD (o .answer) 1 0) (wrote can-write)
+
+-- a sound state, written as version 2
+saved : (m : Memory) (out : List ℕ) → stateRefusal m ≡ 0 → 25226 ≤ length out → isTaken (writeCall m 2 out .answer) ≡ true
+unfolding writeRefusal
+saved m out z room =
+    let S = state-taken m z in
+    let im : List ℕ = imageOf 2 (m .state) (m .tables) in
+    let fits : ltb (length out) (length (imageOf 2 (m .state) (m .tables))) ≡ false =
+    le-ltb (length out) (length (imageOf 2 (m .state) (m .tables))) (omega (arith, image-most 2 (m .state) (m .tables) S)) in
+    can-take m 2 out (state-free m _ S (refusals.free _ 4 _ refl (refusals.free _ 15 _ refl (refusals.free _ 16 [] fits (sym refusals.sentence-none)))))
 
 pub demand2 : Demand2
 demand2 = record {
   verdicts = verdicts;
   read-back = read-back;
-  written-back = λ m m′ out e. written-back m out e m′;
+  written-back = λ m m′ v out e. written-back m v out e m′;
   short-image =
+      λ m v out e.
+      omega (arith, length-written m v out e, image-most v (m .state) (m .tables) (sound-written m v out e));
+  short-plain =
       λ m out e.
-      omega (arith, length-written m out e, image-most (m .state) (m .tables) (sound-written m out e));
+      omega (arith, length-written m 1 out e, image-most-1 (m .state) (m .tables) (sound-written m 1 out e));
+  short-read = short-read;
+  saved = saved;
 }

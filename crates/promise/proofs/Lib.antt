@@ -7,6 +7,7 @@ pub mod Steps
 pub mod Run
 pub mod RunCounts
 pub mod Promise
+pub mod Resumed
 -- ---- the total of a survey; what reading says of records; withdrawals; failed nodes
 pub mod Survey
 pub mod Records

@@ -18,16 +18,16 @@ use Rattle.model.proofs.NodeCounts.{Fresh}
 use Rattle.model.proofs.RequestBound.{requests-most}
 use Rattle.model.proofs.Sound.{Sound}
 use Rattle.model.proofs.FoundingIsSound.{founded-fresh, founded-ok}
-use Rattle.model.proofs.LoadingIsSound.{loaded-fresh, loaded-ok}
+use Rattle.model.proofs.ReadingIsSound.{read-sound, read-fresh}
 use Rattle.model.proofs.Lookup.{hops-bound}
 use Rattle.model.proofs.HopsUnchanged.{still-node, same-lookup, same-hops}
 use Rattle.model.proofs.TablesOnlyGrow.{Onward}
-use Rattle.model.proofs.Taken.{found-taken, read-taken, lookup-free}
-use Rattle.promise.specs.Promise.{alreadyMatched, Passes, NodeIn, Demand3}
+use Rattle.model.proofs.Taken.{found-taken, lookup-free}
+use Rattle.promise.specs.Promise.{alreadyMatched, Passes, NodeIn, restores, Demand3}
 use Rattle.model.proofs.Calls.{taken-is, taken-zero}
 use Rattle.promise.proofs.Steps.{Idle, looks, quiet}
 use Rattle.promise.proofs.Run.{run-goes}
-use Rattle.promise.proofs.RunCounts.{Count, Kept, requestCount, noticeCount, requests-kept, notices-kept, run-counted, few}
+use Rattle.promise.proofs.RunCounts.{Count, Kept, requestCount, noticeCount, requests-kept, notices-kept, run-counted, few-sent}
 use Rattle.promise.proofs.Demand2.{settled, says-yes}
 
 -- ---- the start
@@ -38,10 +38,10 @@ SoundAfter o = Sound (o .memory .state) (o .memory .tables)
 abbrev FreshAfter : Outcome → Type 0
 FreshAfter o = (x : ℕ) → IsNode (o .memory .state) x → Fresh (o .memory .state) x
 
--- a taken founding or reading leaves a sound state in which nothing is counted, and counts nothing itself
+-- a taken founding or reading leaves a sound state, in which nothing is counted but where version 2 is read, and counts nothing itself
 pub record Started (m : Memory) (c : Call) : Type 0 where
   pub sound : Sound (after m c .state) (after m c .tables)
-  pub fresh : (x : ℕ) → IsNode (after m c .state) x → Fresh (after m c .state) x
+  pub fresh : restores c ≡ false → (x : ℕ) → IsNode (after m c .state) x → Fresh (after m c .state) x
   pub idle : Idle m c
 
 module _ (m : Memory) where
@@ -54,17 +54,15 @@ module _ (m : Memory) where
       let w = sym (taken-is (foundRefusal m b d K id) (refused m [] 0) _ z) in
       record {
         sound = subst SoundAfter w S;
-        fresh = subst FreshAfter w (founded-fresh (m .state) (m .tables) b d K id (k .long) (k .range) (k .valid));
+        fresh = λ plain. subst FreshAfter w (founded-fresh (m .state) (m .tables) b d K id (k .long) (k .range) (k .valid));
         idle = looks (λ p q x a n. refl);
       }
   started (read im) e =
       let z = taken-zero m (readRefusal m im) [] _ _ e in
-      let k = read-taken m im z in
-      let S = loaded-ok (m .state) (m .tables) im (k .0) (k .1) in
       let w = sym (taken-is (readRefusal m im) _ _ z) in
       record {
-        sound = subst SoundAfter w S;
-        fresh = subst FreshAfter w (loaded-fresh (m .state) (m .tables) im (k .0) (k .1));
+        sound = subst SoundAfter w (read-sound m im z);
+        fresh = λ plain. subst FreshAfter w (read-fresh m im z plain);
         idle = looks (λ p q x a n. refl);
       }
   started (begin id g) e = absurd (false≢true e)
@@ -73,7 +71,7 @@ module _ (m : Memory) where
   started (lookup u z failed) e = absurd (false≢true e)
   started (survey failed) e = absurd (false≢true e)
   started verdict e = absurd (false≢true e)
-  started (write out) e = absurd (false≢true e)
+  started (write v out) e = absurd (false≢true e)
   started (trace file) e = absurd (false≢true e)
   started sound e = absurd (false≢true e)
 
@@ -81,7 +79,7 @@ module _ (m : Memory) where
 
 module _ (m : Memory) (c : Call) (start : starts m c ≡ true) (k : Count) (K : Kept k) where
   -- the start counts nothing itself, so what the run counts is what its other calls do
-  run-tally : (x n : ℕ) (cs : List Call)
+  pub run-tally : (x n : ℕ) (cs : List Call)
       → tallyFrom (k .first) (k .counts) x n (history (after m c) cs) ≡ tallyFrom (k .first) (k .counts) x n (history m (c ∷ cs))
   unfolding history tallyFrom
   run-tally x n cs =
@@ -122,13 +120,12 @@ on-late m (c ∷ early) late e = on-late (after m c) early late (and-right (not 
 
 -- ---- the three parts, of a list of calls from a sound state
 
--- at the start nothing was sent
 requests-bound : (m : Memory) (c : Call) → starts m c ≡ true → (cs : List Call) → goesOn (after m c) cs ≡ true → (x : ℕ)
     → sent x (history m (c ∷ cs)) ≤ digits (play (after m c) cs .state) + 1
 requests-bound m c start cs on x =
     omega (
       arith,
-      few requestCount requests-kept 1 requests-most (λ (x : ℕ). 0) (after m c) cs (λ x n. started m c start .fresh x n .0) (started m c start .sound) on (λ x. omega arith) x,
+      few-sent requestCount requests-kept 1 requests-most 1 (omega arith) (after m c) cs (started m c start .sound) on x,
       run-tally m c start requestCount requests-kept x 0 cs,
     )
 
@@ -186,7 +183,7 @@ promise m c cs run =
           λ x a.
           let n = is-node (M .state) x a in
           (counted m c start requestCount requests-kept cs on x n, counted m c start noticeCount notices-kept cs on x n);
-      fresh = λ x a. started m c start .fresh x (is-node (after m c .state) x a);
+      fresh = λ plain x a. started m c start .fresh plain x (is-node (after m c .state) x a);
       lookups = λ u z failed a b left. lookup-bound M (G .sound) u z failed (is-node (M .state) u a) (is-node (M .state) z b) left;
       unchanged =
           λ early late e.

@@ -10,7 +10,7 @@ use borrow.Author.Tests.{not-true, not-false}
 use Rattle.model.specs.Loops.{allBelow, firstBelow}
 use Rattle.model.specs.Memory.{Memory}
 use Rattle.model.specs.Image.{imRecords, recOrdered, recAllowed, recOwnerFirst, recordsOrdered, recordsAllowed, ownPresent, recordsOwned}
-use Rattle.model.specs.Refusals.{Sentence, firstTrue, memoryShort, frameSentences, readRefusal, firstFailing, recordPlace}
+use Rattle.model.specs.Refusals.{Sentence, firstTrue, memoryShort, frameSentences, readRefusal, firstFailing, recordPlace, joinsWrong}
 use Rattle.model.specs.Calls.{Outcome, refusedAt, taken, readCall}
 use Rattle.model.proofs.Bools.{and-left, and-right}
 use Rattle.model.proofs.Loops.{first-fails, first-before, first-holds}
@@ -88,23 +88,24 @@ as-one (c ∷ cs) three one a b e =
     go true f = same
     go false f = f
 
--- the three sentences and the one
-three-as-one : (a b p o : Bool)
-    → asOne (firstTrue ((not a, 10) ∷ (not b, 17) ∷ (not (p && o), 18) ∷ [])) ≡ firstTrue ((not (a && (b && (o && p))), 10) ∷ [])
+-- the three sentences and the one, with another behind them
+three-as-one : (a b p o j : Bool)
+    → asOne (firstTrue ((not a, 10) ∷ (not b, 17) ∷ (not (p && o), 18) ∷ (j, 24) ∷ [])) ≡ firstTrue ((not (a && (b && (o && p))), 10) ∷ (j, 24) ∷ [])
 unfolding firstTrue
-three-as-one true true true true = refl
-three-as-one true true true false = refl
-three-as-one true true false true = refl
-three-as-one true true false false = refl
-three-as-one true false p o = refl
-three-as-one false b p o = refl
+three-as-one true true true true true = refl
+three-as-one true true true true false = refl
+three-as-one true true true false j = refl
+three-as-one true true false true j = refl
+three-as-one true true false false j = refl
+three-as-one true false p o j = refl
+three-as-one false b p o j = refl
 
 together : (m : Memory) (im : List ℕ) → asOne (refusalOf m im) ≡ refusalAsOne m im
 unfolding readRefusal refusalAsOne lacks
 together m im =
     ap asOne (refusal-is m im)
     ∙ as-one ((memoryShort m, 1) ∷ frameSentences im) _ _ refl refl
-    (three-as-one (recordsOrdered im) (recordsAllowed im) (ownPresent im) (recordsOwned im))
+    (three-as-one (recordsOrdered im) (recordsAllowed im) (ownPresent im) (recordsOwned im) (joinsWrong im))
 
 -- ---- the theorem
 

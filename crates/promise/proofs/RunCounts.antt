@@ -3,19 +3,21 @@ use Prim.Native.Nat.{ℕ, _+_, _*_, _≤_}
 use mathlib.Core.Path.{_≡_, refl, sym, ap, subst, _∙_}
 use mathlib.Core.Logic.{_≢_, _⊎_, inl, inr}
 use mathlib.Core.Bool.{Bool, true, false, cond, not, _&&_}
-use mathlib.Core.List.{List, [], _∷_}
+use mathlib.Core.List.{List, [], _∷_, _++_}
+use native.Mathlib.Nat.{le-trans}
 use native.Mathlib.Decide.{ℕ-discrete}
 use native.Mathlib.Omega.{arith}
 use lib.Dec.{eqb}
-use lib.ListN.{length}
+use lib.ListN.{length, getD}
 use borrow.Author.Tests.{eq-eqb, ne-eqb, not-true}
 use Rattle.model.specs.Memory.{Memory, Node, digits, nodeCount, nodeOf, withNode, copying}
+use Rattle.model.specs.Nodes.{isNode}
 use Rattle.model.specs.Join.{Delivery, newNode, joiningNode, begun, withdrawn, delivery, delivered}
 use Rattle.model.specs.Refusals.{beginRefusal, withdrawRefusal, deliverRefusal}
-use Rattle.model.specs.Run.{Call, begin, withdraw, deliver, step, after, play, history, isTaken, starts, goesOn, keepsAsking, answersNotice, tallied, tally, tallyFrom}
+use Rattle.model.specs.Run.{Call, found, read, begin, withdraw, deliver, lookup, survey, verdict, write, trace, sound, Event, step, after, play, history, isTaken, starts, goesOn, keepsAsking, answersNotice, tallied, tally, tallyFrom}
 use Rattle.model.proofs.Bools.{and-left, and-right}
 use Rattle.model.proofs.Memory.{node-stored}
-use Rattle.model.proofs.Status.{IsNode, node-among}
+use Rattle.model.proofs.Status.{IsNode, is-node, is-node-of, node-among}
 use Rattle.model.proofs.Sound.{Sound, node-fits}
 use Rattle.model.proofs.Sender.{CanDeliver}
 use Rattle.model.proofs.BeginningKeepsSound.{CanBegin, begun-count, begun-kept, begun-new}
@@ -218,6 +220,49 @@ module _ (k : Count) (K : Kept k) where
       run-counted (next m c count) (after m c) cs (step-counted count m c H (not-true (starts m c) (and-left (not (starts m c)) _ g)))
       (and-right (not (starts m c)) _ g)
 
+-- ---- a history counts no less from a higher start, and one behind another as both together
+
+module _ (first first′ : ℕ) (counts : ℕ → Bool) (x : ℕ) (less : first ≤ first′) where
+  tally-less : (a b : ℕ) → a ≤ b → (e : Event) → tally first counts x e a ≤ tally first′ counts x e b
+  unfolding tally
+  tally-less a b l e = either (isTaken (e .answer)) (by-call (e .call))
+    where
+      either : (taken : Bool) {a′ b′ : ℕ} → a′ ≤ b′ → cond taken a′ a ≤ cond taken b′ b
+      either true h = h
+      either false h = l
+
+      by-call : (c : Call) → tallied first counts x c (e .answer) a ≤ tallied first′ counts x c (e .answer) b
+      by-call (found base digits depth id) = l
+      by-call (read im) = l
+      by-call (begin id gateway) = new (eqb (getD (e .answer) 1 0) x)
+        where
+          new : (is : Bool) → cond is first a ≤ cond is first′ b
+          new true = less
+          new false = l
+      by-call (withdraw y) = l
+      by-call (deliver y z) = own (eqb y x && counts (getD (e .answer) 1 0))
+        where
+          own : (is : Bool) → cond is (a + 1) a ≤ cond is (b + 1) b
+          own true = omega arith
+          own false = l
+      by-call (lookup u z failed) = l
+      by-call (survey failed) = l
+      by-call verdict = l
+      by-call (write v out) = l
+      by-call (trace file) = l
+      by-call sound = l
+
+  tally-fewer : (a b : ℕ) → a ≤ b → (es : List Event) → tallyFrom first counts x a es ≤ tallyFrom first′ counts x b es
+  unfolding tallyFrom
+  tally-fewer a b l [] = l
+  tally-fewer a b l (e ∷ es) = tally-fewer (tally first counts x e a) (tally first′ counts x e b) (tally-less a b l e) es
+
+pub tally-append : (first : ℕ) (counts : ℕ → Bool) (x n : ℕ) (es es′ : List Event)
+    → tallyFrom first counts x n (es ++ es′) ≡ tallyFrom first counts x (tallyFrom first counts x n es) es′
+unfolding tallyFrom
+tally-append first counts x n [] es′ = refl
+tally-append first counts x n (e ∷ es) es′ = tally-append first counts x (tally first counts x e n) es es′
+
 -- ---- a count that in a sound state is at most d and so many more is so of every number, whether a node has it or not
 
 module _ (k : Count) (K : Kept k) (more : ℕ) (most : (s t : List ℕ) → Sound s t → (x : ℕ) → IsNode s x → k .of (nodeOf s x) ≤ digits s + more) where
@@ -238,3 +283,23 @@ module _ (k : Count) (K : Kept k) (more : ℕ) (most : (s t : List ℕ) → Soun
       bound : (x : ℕ) → (next k K m c count x ≡ count x) ⊎ IsNode (after m c .state) x → next k K m c count x ≤ digits (after m c .state) + more
       bound x (inl e) = omega (arith, e, f x, one .onward .digits)
       bound x (inr n) = omega (arith, step-counted k K count m c H on x n, most (after m c .state) (after m c .tables) (one .sound) x n)
+
+  -- so is what a history counts on top of nothing, whatever the records had at the start
+  pub few-sent : (first : ℕ) → first ≤ k .first → (m : Memory) (cs : List Call) → Sound (m .state) (m .tables) → goesOn m cs ≡ true → (x : ℕ)
+      → tallyFrom first (k .counts) x 0 (history m cs) ≤ digits (play m cs .state) + more
+  few-sent first l m cs S g x =
+      le-trans (tally-fewer first (k .first) (k .counts) x l 0 (count x) (omega arith) (history m cs)) (few count m cs counted S g bound x)
+    where
+      -- what the records have at the start, and nothing for a number that no node has
+      count : ℕ → ℕ
+      count x = cond (isNode (m .state) x) (k .of (nodeOf (m .state) x)) 0
+
+      counted : Counted k K count m
+      counted x n = sym (ap (λ (b : Bool). cond b (k .of (nodeOf (m .state) x)) 0) (is-node-of (m .state) x n))
+
+      bound : (x : ℕ) → count x ≤ digits (m .state) + more
+      bound x = go (isNode (m .state) x) refl
+        where
+          go : (b : Bool) → isNode (m .state) x ≡ b → cond b (k .of (nodeOf (m .state) x)) 0 ≤ digits (m .state) + more
+          go true e = most (m .state) (m .tables) S x (is-node (m .state) x e)
+          go false e = omega arith

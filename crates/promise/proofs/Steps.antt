@@ -70,6 +70,6 @@ module _ (m : Memory) where
   effect (lookup u z failed) f = still (looks-on m _ [] _ [] _) (looks (λ p q x a n. refl))
   effect (survey failed) f = still (looks-on m _ [] _ [] _) (looks (λ p q x a n. refl))
   effect verdict f = still (looks-on m _ [] _ [] _) (looks (λ p q x a n. refl))
-  effect (write out) f = still (looks-on m _ out _ _ _) (looks (λ p q x a n. refl))
+  effect (write v out) f = still (looks-on m _ out _ _ _) (looks (λ p q x a n. refl))
   effect (trace file) f = still (looks-on m _ [] _ [] _) (looks (λ p q x a n. refl))
   effect sound f = still (looks-on m _ [] _ [] _) (looks (λ p q x a n. refl))

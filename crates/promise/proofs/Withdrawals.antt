@@ -140,7 +140,7 @@ module _ (m : Memory) where
   own-more m′ (lookup u z failed) h e q = same (looks-on m′ _ [] _ [] _) h
   own-more m′ (survey failed) h e q = same (looks-on m′ _ [] _ [] _) h
   own-more m′ verdict h e q = same (looks-on m′ _ [] _ [] _) h
-  own-more m′ (write out) h e q = same (looks-on m′ _ out _ _ _) h
+  own-more m′ (write v out) h e q = same (looks-on m′ _ out _ _ _) h
   own-more m′ (trace file) h e q = same (looks-on m′ _ [] _ [] _) h
   own-more m′ sound h e q = same (looks-on m′ _ [] _ [] _) h
 

@@ -20,7 +20,7 @@ outputOf (deliver x y) = []
 outputOf (lookup u z failed) = []
 outputOf (survey failed) = []
 outputOf verdict = []
-outputOf (write out) = out
+outputOf (write version out) = out
 outputOf (trace file) = []
 outputOf sound = []
 
@@ -34,7 +34,7 @@ carried m (deliver x y) number = []
 carried m (lookup u z failed) number = []
 carried m (survey failed) number = []
 carried m verdict number = []
-carried m (write out) number = []
+carried m (write version out) number = []
 carried m (trace file) number = tracePlace m file number
 carried m sound number = []
 

@@ -1,5 +1,5 @@
 -- Demand 2, of the calls: the verdict is K-consistency (document 01, "Lookup and verdict", and report TR-07-31, Definition 3.3), and an image
--- holds a network whole (document 01, "The image") but for the counts (document 02, ticket 3).
+-- holds a network whole (document 01, "The image"), of version 1 but for the counts (document 02, tickets 3 and 9).
 use Prim.Native.Nat.{ℕ, _≤_, _<_, min}
 use mathlib.Core.Path.{_≡_}
 use mathlib.Core.Bool.{true, false}
@@ -9,8 +9,8 @@ use lib.ListN.{length, getD, take}
 use Rattle.model.specs.Memory.{Memory, base, digits, depth}
 use Rattle.model.specs.Nodes.{isNode}
 use Rattle.model.specs.Consistency.{howMany, neighbors, KConsistent}
-use Rattle.model.specs.Image.{withoutCounts}
-use Rattle.model.specs.Refusals.{memoryShort}
+use Rattle.model.specs.Image.{imVersion, kept}
+use Rattle.model.specs.Refusals.{memoryShort, stateRefusal}
 use Rattle.model.specs.Calls.{readCall, verdictCall, writeCall}
 use Rattle.model.specs.Run.{isTaken}
 use Rattle.promise.specs.Fixed.{fixed}
@@ -51,28 +51,34 @@ abbrev pub Bytes : List ℕ → Type 0
 Bytes im = (a : ℕ) → getD im a 0 < 256
 
 -- what a writing answers as the length, and the bytes that it wrote
-abbrev pub lengthWritten : Memory → List ℕ → ℕ
-lengthWritten m out = getD (writeCall m out .answer) 1 0
+abbrev pub lengthWritten : Memory → ℕ → List ℕ → ℕ
+lengthWritten m version out = getD (writeCall m version out .answer) 1 0
 
-abbrev pub written : Memory → List ℕ → List ℕ
-written m out = take (lengthWritten m out) (writeCall m out .out)
+abbrev pub written : Memory → ℕ → List ℕ → List ℕ
+written m version out = take (lengthWritten m version out) (writeCall m version out .out)
 
--- an image that reading takes, written back into memory that has room, has the same bytes
+-- an image that reading takes, written back in its own version into memory that has room, has the same bytes
 pub record ReadThenWritten (m : Memory) (im out : List ℕ) : Type 0 where
-  pub taken : isTaken (writeCall (readCall m im .memory) out .answer) ≡ true
-  pub bytes : written (readCall m im .memory) out ≡ im
+  pub taken : isTaken (writeCall (readCall m im .memory) (imVersion im) out .answer) ≡ true
+  pub bytes : written (readCall m im .memory) (imVersion im) out ≡ im
 
--- a written state, read into any memory that is long enough, is the same state in every word and byte of the fixed lengths but for the counts, which
--- are zero: an image of version 1 has none
-pub record WrittenThenRead (m m′ : Memory) (out : List ℕ) : Type 0 where
-  pub taken : isTaken (readCall m′ (written m out) .answer) ≡ true
-  pub state : fixed (readCall m′ (written m out) .memory) ≡ fixed (record { state = withoutCounts (m .state); tables = m .tables })
+-- a written state, read into any memory that is long enough, is the same state in every word and byte of the fixed lengths; of version 1, which has no
+-- counts, but for those, which are zero (`kept`)
+pub record WrittenThenRead (m m′ : Memory) (version : ℕ) (out : List ℕ) : Type 0 where
+  pub taken : isTaken (readCall m′ (written m version out) .answer) ≡ true
+  pub state : fixed (readCall m′ (written m version out) .memory) ≡ fixed (record { state = kept version (m .state); tables = m .tables })
 
 pub record Demand2 : Type 0 where
   pub verdicts : (m : Memory) → isTaken (verdictCall m .answer) ≡ true → VerdictIs m
   pub read-back : (m : Memory) (im out : List ℕ) → Bytes im → isTaken (readCall m im .answer) ≡ true → length im ≤ length out
       → ReadThenWritten m im out
-  pub written-back : (m m′ : Memory) (out : List ℕ) → isTaken (writeCall m out .answer) ≡ true → memoryShort m′ ≡ false
-      → WrittenThenRead m m′ out
-  -- OVERLAY_MOST_WRITTEN_BYTES of the header
-  pub short-image : (m : Memory) (out : List ℕ) → isTaken (writeCall m out .answer) ≡ true → lengthWritten m out ≤ 23816
+  pub written-back : (m m′ : Memory) (version : ℕ) (out : List ℕ) → isTaken (writeCall m version out .answer) ≡ true → memoryShort m′ ≡ false
+      → WrittenThenRead m m′ version out
+  -- OVERLAY_MOST_WRITTEN_BYTES of the header; an image of version 1 is shorter
+  pub short-image : (m : Memory) (version : ℕ) (out : List ℕ) → isTaken (writeCall m version out .answer) ≡ true
+      → lengthWritten m version out ≤ 25226
+  pub short-plain : (m : Memory) (out : List ℕ) → isTaken (writeCall m 1 out .answer) ≡ true → lengthWritten m 1 out ≤ 23816
+  -- and so has every image that reading takes
+  pub short-read : (m : Memory) (im : List ℕ) → Bytes im → isTaken (readCall m im .answer) ≡ true → length im ≤ 25226
+  -- every sound state, whatever joins are under way, can be written as version 2
+  pub saved : (m : Memory) (out : List ℕ) → stateRefusal m ≡ 0 → 25226 ≤ length out → isTaken (writeCall m 2 out .answer) ≡ true

@@ -4,6 +4,7 @@ pub mod Fixed
 pub mod Demand1
 pub mod Demand2
 pub mod Promise
+pub mod Resumed
 pub mod Survey
 pub mod Records
 pub mod Withdrawals

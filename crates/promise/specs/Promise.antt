@@ -2,14 +2,15 @@
 -- then any calls, taken or refused, of which none starts a new run. The list is any list, so what holds at its end holds at every point of a run.
 use Prim.Native.Nat.{ℕ, _+_, _-_, _≤_}
 use mathlib.Core.Path.{_≡_}
-use mathlib.Core.Bool.{true, false}
+use mathlib.Core.Bool.{Bool, true, false}
 use mathlib.Core.List.{List, _∷_, _++_}
 use lib.ListN.{getD}
 use Rattle.model.specs.Memory.{Memory, digits, requestsOf, noticesOf}
 use Rattle.model.specs.Nodes.{isNode, suffixOf}
 use Rattle.model.specs.Lookup.{veryHops, endFailed}
+use Rattle.model.specs.Image.{hasJoins, imVersion}
 use Rattle.model.specs.Calls.{lookupCall, verdictCall}
-use Rattle.model.specs.Run.{Call, after, play, history, sent, sentFrom, answeredFrom, isTaken, isRun}
+use Rattle.model.specs.Run.{Call, found, read, begin, withdraw, deliver, lookup, survey, verdict, write, trace, sound, after, play, history, sent, sentFrom, answeredFrom, isTaken, isRun}
 
 -- the digits already matched: the common suffix of u and z, where the lookup starts
 abbrev pub alreadyMatched : Memory → ℕ → ℕ → ℕ
@@ -24,6 +25,20 @@ pub record Passes (m : Memory) : Type 0 where
 abbrev pub NodeIn : Memory → ℕ → Type 0
 NodeIn m u = isNode (m .state) u ≡ true
 
+-- a reading of an image of version 2 (document 02, ticket 9)
+abbrev pub restores : Call → Bool
+restores (found b d K id) = false
+restores (read im) = hasJoins (imVersion im)
+restores (begin id gateway) = false
+restores (withdraw x) = false
+restores (deliver x y) = false
+restores (lookup u z failed) = false
+restores (survey failed) = false
+restores verdict = false
+restores (write version out) = false
+restores (trace file) = false
+restores sound = false
+
 -- what holds of a run that started with memory m and call c, and went on with the calls cs
 pub record Promise (m : Memory) (c : Call) (cs : List Call) : Type 0 where
   -- (a) no node, withdrawn or not, has sent more than d + 1 copy and wait requests since the latest beginning of its number, counted from the history
@@ -33,8 +48,8 @@ pub record Promise (m : Memory) (c : Call) (cs : List Call) : Type 0 where
   pub counted : (x : ℕ) → NodeIn (play m (c ∷ cs)) x
       → (requestsOf (play m (c ∷ cs) .state) x ≡ sentFrom (requestsOf (after m c .state) x) x (history m (c ∷ cs)))
       × (noticesOf (play m (c ∷ cs) .state) x ≡ answeredFrom (noticesOf (after m c .state) x) x (history m (c ∷ cs)))
-  -- and at the start they are zero
-  pub fresh : (x : ℕ) → NodeIn (after m c) x → (requestsOf (after m c .state) x ≡ 0) × (noticesOf (after m c .state) x ≡ 0)
+  -- and at the start they are zero, but for a reading of version 2, which restores them
+  pub fresh : restores c ≡ false → (x : ℕ) → NodeIn (after m c) x → (requestsOf (after m c .state) x ≡ 0) × (noticesOf (after m c .state) x ≡ 0)
   -- (b) a lookup from any node to any node, whatever others have failed, is not refused and takes at most d hops less the digits already matched
   pub lookups : (u z failed : ℕ) → NodeIn (play m (c ∷ cs)) u → NodeIn (play m (c ∷ cs)) z → endFailed failed u z ≡ false
       → (isTaken (lookupCall (play m (c ∷ cs)) u z failed .answer) ≡ true)

@@ -9,7 +9,7 @@ use lib.Dec.{eqb}
 use lib.ListN.{getD}
 use Rattle.model.specs.Memory.{Memory}
 use Rattle.model.specs.Image.{imRecords, recOrdered, recAllowed, recOwnerFirst, recordsOrdered, recordsAllowed, ownPresent, recordsOwned}
-use Rattle.model.specs.Refusals.{firstTrue, memoryShort, frameSentences}
+use Rattle.model.specs.Refusals.{firstTrue, memoryShort, frameSentences, joinsWrong}
 use Rattle.model.specs.Calls.{readCall}
 
 -- what a reading answers
@@ -37,13 +37,13 @@ pub record Places (m : Memory) (im : List ℕ) : Type 0 where
   -- no other number, and no reading that is taken, gives a place
   pub others : refusalOf m im ≢ 10 → refusalOf m im ≢ 17 → refusalOf m im ≢ 18 → placeOf m im ≡ 0
 
--- ---- one number for all three: the sentences of document 01, without document 02
+-- ---- one number for all three, as document 01 has it; 24 of version 2 stands behind it
 
 abbrev pub recordsGood : List ℕ → Bool
 recordsGood im = recordsOrdered im && (recordsAllowed im && (recordsOwned im && ownPresent im))
 
 unfoldable pub refusalAsOne : Memory → List ℕ → ℕ
-refusalAsOne m im = firstTrue ((memoryShort m, 1) ∷ (frameSentences im ++ ((not (recordsGood im), 10) ∷ [])))
+refusalAsOne m im = firstTrue ((memoryShort m, 1) ∷ (frameSentences im ++ ((not (recordsGood im), 10) ∷ (joinsWrong im, 24) ∷ [])))
 
 -- the number with 17 and 18 called 10
 abbrev pub asOne : ℕ → ℕ

@@ -23,7 +23,7 @@ isOwn x (deliver y z) answer = eqb y x && not (eqb (getD answer 1 0) kindAttache
 isOwn x (lookup u z failed) answer = true
 isOwn x (survey failed) answer = true
 isOwn x verdict answer = true
-isOwn x (write out) answer = true
+isOwn x (write version out) answer = true
 isOwn x (trace file) answer = true
 isOwn x sound answer = true
 
