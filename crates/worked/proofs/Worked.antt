@@ -9,7 +9,7 @@ use Rattle.model.specs.Join.{founded}
 use Rattle.model.specs.Lookup.{hopEntry, frontmost, nextHop, veryHopsWithin, lastOf, answerOf, lookup}
 use Rattle.model.specs.Survey.{arrivesIn, isLost, isPair, countPairs, surveyCounts}
 use Rattle.model.specs.Consistency.{howMany, entryWhole, levelWhole, nodeWhole, consistent, firstShort, verdict}
-use Rattle.model.specs.Image.{imId, lengthRight, sameEntry, risesFrom, recOrdered, recAllowed, recOwnerFirst, ownHasRecord, ownHaveRecords, loadRecord, loaded}
+use Rattle.model.specs.Image.{imId, lengthRight, sameEntry, risesFrom, recOrdered, recAllowed, recOwnerFirst, ownHasRecord, ownHaveRecords, imLength, loadedIds, loadRecord, loadedTables, loadedState, loaded}
 use Rattle.model.specs.Traces.{pathStart, traceCountsWrong, placeNamed, among, mayGo, stepAllowed, inPath, firstFault}
 use Rattle.model.specs.Refusals.{firstTrue, foundRefusal, readRefusal, recordPlace, stateRefusal, lookupRefusal, verdictRefusal, traceRefusal, tracePlace}
 use Rattle.model.specs.Calls.{refusedAt, taken, unlessRefused, foundCall, readCall, lookupCall, surveyCall, verdictCall, traceCall}
@@ -17,7 +17,7 @@ use Rattle.worked.specs.Examples.{dirty, founding, reading, verdictOn, l
 
 -- what the examples compute with
 unfoldable pub computing : Unit {0}
-unfolding allBelow anyBelow countBelow sumBelow firstBelow eachBelow joinBelow settingsInRange digitOf validId commonSuffix lowDigits withNode hasNode setSize tableOf withTable qualified entrySize entry append ownTable hasNewId slotSound entrySound levelSound inSystemSound joiningSound copyingSound waitingSound pendingSound notifiedSound notifyingSound statusSound requestLimit noticesSound countsSound allZero stateRestZero tablesRestZero tableSound unusedZero sound founded hopEntry frontmost nextHop veryHopsWithin lastOf answerOf lookup arrivesIn isLost isPair countPairs surveyCounts howMany entryWhole levelWhole nodeWhole consistent firstShort verdict imId lengthRight sameEntry risesFrom recOrdered recAllowed recOwnerFirst ownHasRecord ownHaveRecords loadRecord loaded pathStart traceCountsWrong placeNamed among mayGo stepAllowed inPath firstFault firstTrue foundRefusal readRefusal recordPlace stateRefusal lookupRefusal verdictRefusal traceRefusal tracePlace refusedAt taken unlessRefused foundCall readCall lookupCall surveyCall verdictCall traceCall dirty founding reading verdictOn lookupOn surveyOn traceOn headOfE1 rec E1 E1Short three deep
+unfolding allBelow anyBelow countBelow sumBelow firstBelow eachBelow joinBelow settingsInRange digitOf validId commonSuffix lowDigits withNode hasNode setSize tableOf withTable qualified entrySize entry append ownTable hasNewId slotSound entrySound levelSound inSystemSound joiningSound copyingSound waitingSound pendingSound notifiedSound notifyingSound statusSound requestLimit noticesSound countsSound allZero stateRestZero tablesRestZero tableSound unusedZero sound founded hopEntry frontmost nextHop veryHopsWithin lastOf answerOf lookup arrivesIn isLost isPair countPairs surveyCounts howMany entryWhole levelWhole nodeWhole consistent firstShort verdict imId lengthRight sameEntry risesFrom recOrdered recAllowed recOwnerFirst ownHasRecord ownHaveRecords imLength loadedIds loadRecord loadedTables loadedState loaded pathStart traceCountsWrong placeNamed among mayGo stepAllowed inPath firstFault firstTrue foundRefusal readRefusal recordPlace stateRefusal lookupRefusal verdictRefusal traceRefusal tracePlace refusedAt taken unlessRefused foundCall readCall lookupCall surveyCall verdictCall traceCall dirty founding reading verdictOn lookupOn surveyOn traceOn headOfE1 rec E1 E1Short three deep
 computing = tt
 
 pub worked : Worked
