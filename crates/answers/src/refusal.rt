@@ -13,7 +13,7 @@ impl Refusal {
     // the image is shorter than its settings, which take 5 bytes, or does not begin with their count, 4
     pub const NOT_AN_IMAGE: u64 = 3;
 
-    // the image is of another version than 1
+    // the image, or the one to be written, is of another version than 1 and 2
     pub const IMAGE_VERSION: u64 = 4;
 
     // the base is not from 2 to 16, the digits not from 1 to 8, or the depth not from 1 to 4
@@ -72,4 +72,7 @@ impl Refusal {
 
     // a path of the trace goes on past its destination, or to no node of the entry that the lookup rule names
     pub const STEP_NOT_ALLOWED: u64 = 23;
+
+    // the joins or the counts of an image of version 2 are listed wrong, or the state that it gives is not sound
+    pub const UNSOUND_IMAGE: u64 = 24;
 }
