@@ -1,17 +1,14 @@
 -- What is known of the parts of an image. im is the image, h its head as the code holds it.
 use Prim.Native.Nat.{ℕ, _+_, _*_, _≤_, _<_}
 use mathlib.Core.Path.{_≡_}
+use mathlib.Core.Bool.{true}
 use mathlib.Core.List.{List}
 use lib.ListN.{length}
-use Rattle.model.specs.Image.{byteAt, imBase, imDigits, imDepth, imNodes, imRecords}
+use Rattle.model.specs.Image.{byteAt, hasJoins, imVersion, imBase, imDigits, imDepth, imNodes, imRecords, recordsEnd, joinsEnd, imCounts}
 use Rattle.model.specs.Image.{recNode, recLevel, recDigit, recNeighbor}
 use Rattle.model.proofs.RecordRules.{entryKey}
 use Rattle.image_fields.specs.declared.header.Header.{Header}
 use Rattle.image_fields.specs.declared.record.Record.{Record}
-
--- four bytes, low byte first
-unfoldable pub fourAt : List ℕ → ℕ → ℕ
-fourAt im a = byteAt im a + 256 * byteAt im (a + 1) + 65536 * (byteAt im (a + 2) + 256 * byteAt im (a + 3))
 
 -- after 3 to 6: the settings are in range and the length is what the counts give
 pub record CountsRight (im : List ℕ) : Type 0 where
@@ -21,7 +18,8 @@ pub record CountsRight (im : List ℕ) : Type 0 where
   pub depth : imDepth im ≤ 4
   pub some : 1 ≤ imNodes im
   pub few : imNodes im ≤ 64
-  pub whole : length im ≡ 8 + 4 * imNodes im + 4 * imRecords im
+  pub whole : recordsEnd im ≤ length im
+  pub rest : hasJoins (imVersion im) ≡ true → length im ≡ joinsEnd im + 1 + 2 * imCounts im
   pub short : length im ≤ 65535
 
 -- and the code holds the settings and the counts

@@ -1,12 +1,13 @@
 // The head of an image: the settings after their count, 4, the number of nodes in byte 5, and behind the ids, of four bytes each, the number of
-// records in two bytes, the low one first.
+// records in two bytes, the low one first. Version 2 has two more counts behind the records, a byte each, of the joins under way and of the counts.
 ghost use mathlib.Core.Path.{_≡_};
-ghost use mathlib.Core.Bool.{not};
+ghost use mathlib.Core.Bool.{true, not, _&&_};
 ghost use Prim.Native.Nat.{_+_, _*_, _≤_, _<_};
+ghost use lib.Dec.{leb};
 ghost use lib.ListN.{length};
-ghost use Rattle.model.specs.Image.{byteAt, imNodes, imRecords, lengthRight};
+ghost use Rattle.model.specs.Image.{byteAt, fourAt, eightAt, hasJoins, imVersion, imNodes, imRecords, recordsEnd, lengthRight};
 ghost use Rattle.model.specs.Refusals.{noSettings, countsWrong};
-ghost use Rattle.image_fields.specs.Parts.{fourAt, CountsRight, Headed};
+ghost use Rattle.image_fields.specs.Parts.{CountsRight, Headed};
 
 // No image is longer.
 const LONGEST: usize = 65535;
@@ -28,7 +29,7 @@ pub fn byte(image: &[u8], a: usize) -> usize
     image[a] as usize
 }
 
-// The four bytes from a on, low byte first.
+// The number that the four bytes from a on make, the low byte first.
 pub fn four(image: &[u8], a: usize) -> u32
     requires { ⌜ a + 4 ≤ length (now image) ⌝ }
     ensures { λ r. ⌜ r ≡ fourAt (now (image .entry)) a ⌝ }
@@ -36,6 +37,22 @@ pub fn four(image: &[u8], a: usize) -> u32
     let low = byte(image, a) + 256 * byte(image, a + 1);
     let high = byte(image, a + 2) + 256 * byte(image, a + 3);
     (low + 65536 * high) as u32
+}
+
+// The same of eight bytes.
+pub fn eight(image: &[u8], a: usize) -> u64
+    requires { ⌜ a + 8 ≤ length (now image) ⌝ }
+    ensures { λ r. ⌜ r ≡ eightAt (now (image .entry)) a ⌝ }
+{
+    four(image, a) as u64 + 4294967296 * four(image, a + 4) as u64
+}
+
+// The image is of version 2, which has the joins under way and the counts.
+pub fn has_joins(image: &[u8]) -> bool
+    requires { ⌜ 1 < length (now image) ⌝ }
+    ensures { λ r. ⌜ r ≡ hasJoins (imVersion (now (image .entry))) ⌝ }
+{
+    image[1] == 2
 }
 
 // 3: the image is shorter than its settings, which take 5 bytes, or does not begin with their count.
@@ -59,6 +76,27 @@ fn record_count(image: &[u8], nodes: usize) -> usize
     byte(image, at) + 256 * byte(image, at + 1)
 }
 
+// An image of version 2 whose records end at `end` is not as long as its counts say, or longer than any may be: the number of joins stands behind the
+// records, and the number of counts behind the joins.
+fn joins_length_wrong(image: &[u8], end: usize) -> bool
+    requires { ⌜ hasJoins (imVersion (now image)) ≡ true ⌝ }
+    requires { ⌜ end ≡ recordsEnd (now image) ⌝ }
+    requires { ⌜ end ≤ 8 + 4 * 64 + 4 * 65535 ⌝ }
+    ensures { λ r. ⌜ r ≡ not (lengthRight (now (image .entry))) ⌝ }
+{
+    if image.len() <= end {
+        return true;
+    }
+    let counts = end + 1 + 20 * byte(image, end);
+    if image.len() <= counts {
+        return true;
+    }
+    if image.len() != counts + 1 + 2 * byte(image, counts) {
+        return true;
+    }
+    LONGEST < image.len()
+}
+
 // The image is not as long as its counts say, or longer than any may be.
 fn length_wrong(image: &[u8], nodes: usize) -> bool
     requires { ⌜ nodes ≤ 64 ⌝ }
@@ -69,8 +107,11 @@ fn length_wrong(image: &[u8], nodes: usize) -> bool
     if image.len() < start {
         return true;
     }
-    let records = record_count(image, nodes);
-    if image.len() != start + 4 * records {
+    let end = start + 4 * record_count(image, nodes);
+    if has_joins(image) {
+        return joins_length_wrong(image, end);
+    }
+    if image.len() != end {
         return true;
     }
     LONGEST < image.len()
@@ -107,4 +148,14 @@ pub fn load(image: &[u8]) -> Header
         nodes,
         records,
     }
+}
+
+// x is the number of a node.
+pub fn is_node(h: Header, x: usize) -> bool
+    ensures { λ r. ⌜ r ≡ (leb 1 x && leb x (h .nodes)) ⌝ }
+{
+    if x < 1 {
+        return false;
+    }
+    x <= h.nodes
 }

@@ -1,13 +1,13 @@
 // A record of an image: the node whose table it is of, the level, the digit, and the neighbour in the slot.
 ghost use mathlib.Core.Path.{_≡_};
-ghost use mathlib.Core.Bool.{_&&_};
 ghost use Prim.Native.Nat.{_<_};
-ghost use lib.Dec.{eqb, leb};
+ghost use lib.Dec.{eqb};
 ghost use Rattle.model.specs.Ids.{digitOf};
 ghost use Rattle.model.specs.Image.{imRecords, imId, recNodesGood};
 ghost use Rattle.image_fields.specs.Parts.{CountsRight, Headed, ImageNode, RecordOf, Small, keyOf};
 use crate::header::Header;
 use crate::header::byte;
+use crate::header::is_node;
 use crate::ids::id;
 use ident::digit;
 
@@ -32,16 +32,6 @@ pub fn load(image: &[u8], h: Header, r: usize) -> Record
         digit: byte(image, at + 2),
         neighbor: byte(image, at + 3),
     }
-}
-
-// x is the number of a node.
-fn is_node(h: Header, x: usize) -> bool
-    ensures { λ r. ⌜ r ≡ (leb 1 x && leb x (h .nodes)) ⌝ }
-{
-    if x < 1 {
-        return false;
-    }
-    x <= h.nodes
 }
 
 // Not 9, of record r: both its numbers are nodes'.

@@ -6,20 +6,20 @@ use mathlib.Core.List.{List, []}
 use native.Mathlib.Omega.{arith}
 use lib.Dec.{ltb}
 use lib.ListN.{length, drop}
-use borrow.Author.Tests.{eq-eqb, ne-eqb, ltb-false, not-true, not-false}
+use borrow.Author.Tests.{ltb-false, not-true, not-false}
 use Rattle.model.specs.Loops.{allBelow, node}
 use Rattle.model.specs.Ids.{settingsInRange}
-use Rattle.model.specs.Image.{byteAt, imBase, imDigits, imDepth, imRecords, recOrdered, recAllowed, recOwnerFirst, recordsOrdered, recordsAllowed, ownPresent, recordsOwned}
-use Rattle.model.specs.Refusals.{firstTrue, noSettings, otherVersion, countsWrong, frameSentences, recordSentences, imageRefusal, firstFailing, recordPlace}
+use Rattle.model.specs.Image.{byteAt, imVersion, imBase, imDigits, imDepth, imRecords, recOrdered, recAllowed, recOwnerFirst, recordsOrdered, recordsAllowed, ownPresent, recordsOwned}
+use Rattle.model.specs.Refusals.{firstTrue, noSettings, otherVersion, countsWrong, frameSentences, recordSentences, firstFailing, recordPlace}
 use Rattle.model.proofs.Bools.{or-none-left}
 use Rattle.model.proofs.Ids.{settings-range}
-use Rattle.model.proofs.Counts.{counts-ok}
+use Rattle.model.proofs.Counts.{length-joins, length-least, counts-ok}
 use Rattle.model.proofs.Refusals.{sentence-leaves, sentence-goes, sentence-not-leaves, sentence-not-goes, sentence-none, left-leaves, right-leaves, both-go, numbered, testOf, passed, lacks, lacking, sentences-refused, sentences-later}
 use Rattle.model.proofs.Places.{place-none}
 use Rattle.answers.specs.declared.ReadAnswer.{ReadAnswer}
 use Rattle.image_fields.specs.Parts.{CountsRight, Headed}
 use Rattle.image_fields.specs.declared.header.Header.{Header}
-use Rattle.image_judging.specs.Judged.{RecordsNamed, namesRefusal, earlyRefusal, recordsRefusal, answer, answerOf}
+use Rattle.image_judging.specs.Judged.{RecordsNamed, namesRefusal, earlyRefusal, recordsRefusal, tablesRefusal, answer, answerOf}
 use Rattle.image_judging.specs.Marks.{levelsMarked}
 use Rattle.image_judging.specs.Walked.{Through, Walked}
 use Rattle.image_judging.specs.declared.walk.Faults.{Faults}
@@ -39,7 +39,8 @@ counted-of im bytes s e =
       depth = range .depth-most;
       some = counts .some;
       few = counts .few;
-      whole = counts .size;
+      whole = omega (arith, counts .size, length-least im);
+      rest = λ v. counts .size ∙ length-joins im v;
       short = counts .short;
     }
 
@@ -59,16 +60,16 @@ module _ (im : List ℕ) (a : Bool) (ea : a ≡ noSettings im) where
     unfolding earlyRefusal
     past-3 x q = sentence-goes (noSettings im) 3 _ x a ea ga q
 
-    pub says-4 : (byteAt im 1 ≡ 1 → ⊥) → 4 ≡ earlyRefusal im
-    says-4 v = past-3 4 (sentence-leaves (otherVersion im) 4 _ true (sym (ap not (ne-eqb (byteAt im 1) 1 v))) refl)
+    pub says-4 : (o : Bool) → o ≡ otherVersion (imVersion im) → o ≡ true → 4 ≡ earlyRefusal im
+    says-4 o eo g = past-3 4 (sentence-leaves (otherVersion (imVersion im)) 4 _ o eo g)
 
-    module _ (v : byteAt im 1 ≡ 1) (x y z : ℕ) (ex : x ≡ imBase im) (ey : y ≡ imDigits im) (ez : z ≡ imDepth im)
+    module _ (o : Bool) (eo : o ≡ otherVersion (imVersion im)) (go : o ≡ false) (x y z : ℕ) (ex : x ≡ imBase im) (ey : y ≡ imDigits im) (ez : z ≡ imDepth im)
         (b : Bool) (eb : b ≡ settingsInRange x y z) where
       settings : b ≡ settingsInRange (imBase im) (imDigits im) (imDepth im)
       settings = eb ∙ rw (ex, ey, ez)
 
       past-4 : (r : ℕ) → r ≡ firstTrue (drop 2 (frameSentences im)) → r ≡ earlyRefusal im
-      past-4 r q = past-3 r (sentence-goes (otherVersion im) 4 _ r false (sym (ap not (eq-eqb (byteAt im 1) 1 v))) refl q)
+      past-4 r q = past-3 r (sentence-goes (otherVersion (imVersion im)) 4 _ r o eo go q)
 
       pub says-5 : not b ≡ true → 5 ≡ earlyRefusal im
       says-5 g = past-4 5 (sentence-not-leaves _ 5 _ b settings g)
@@ -89,8 +90,8 @@ module _ (im : List ℕ) (a : Bool) (ea : a ≡ noSettings im) where
 
 -- ---- 10, 17 and 18, after 3 to 9
 
-pub early-is : (im : List ℕ) (r : ℕ) → r ≡ earlyRefusal im → (r ≡ 0 → ⊥) → answer r 0 ≡ answerOf im (imageRefusal im)
-unfolding earlyRefusal imageRefusal answerOf lacks
+pub early-is : (im : List ℕ) (r : ℕ) → r ≡ earlyRefusal im → (r ≡ 0 → ⊥) → answer r 0 ≡ answerOf im (tablesRefusal im)
+unfolding earlyRefusal tablesRefusal answerOf lacks
 early-is im r e nz =
     let none : recordPlace im r ≡ 0 =
     place-none im r (λ q. lacking 10 (frameSentences im) (omega arith) refl (sym e ∙ q))
@@ -100,8 +101,8 @@ early-is im r e nz =
     ∙ ap (answerOf im) (sentences-refused (frameSentences im) (recordSentences im) r e nz)
 
 pub late-is : (im : List ℕ) (r : ℕ) → r ≡ earlyRefusal im → r ≡ 0 → (a : ReadAnswer) → a ≡ answerOf im (recordsRefusal im)
-    → a ≡ answerOf im (imageRefusal im)
-unfolding earlyRefusal imageRefusal recordsRefusal numbered
+    → a ≡ answerOf im (tablesRefusal im)
+unfolding earlyRefusal tablesRefusal recordsRefusal numbered
 late-is im r e z a q =
     q ∙ ap (answerOf im) (sentences-later (frameSentences im) (recordSentences im) refl r _ e z refl)
 

@@ -2,7 +2,7 @@
 use Prim.Native.Nat.{ℕ}
 use mathlib.Core.Path.{_≡_}
 use mathlib.Core.Bool.{true}
-use mathlib.Core.List.{List}
+use mathlib.Core.List.{List, _++_}
 use lib.ListN.{drop}
 use Rattle.model.specs.Loops.{allBelow}
 use Rattle.model.specs.Image.{imRecords, recNodesGood}
@@ -24,6 +24,11 @@ earlyRefusal im = firstTrue (frameSentences im)
 -- 10, 17 and 18, where nothing before them refuses
 unfoldable pub recordsRefusal : List ℕ → ℕ
 recordsRefusal im = firstTrue (recordSentences im)
+
+-- 3 to 10, 17 and 18: what refuses the settings, the ids and the tables of an image of either version. 24 is judged elsewhere, because it asks for the
+-- state that the image gives
+unfoldable pub tablesRefusal : List ℕ → ℕ
+tablesRefusal im = firstTrue (frameSentences im ++ recordSentences im)
 
 abbrev pub answer : ℕ → ℕ → ReadAnswer
 answer number place = record { refusal = number; place = place }

@@ -12,8 +12,8 @@ no-settings-requires c κs = search needs
 returns : tie.Need-returns
 returns c = search says-3
 
-shared-slice-read-if2 : tie.Need-shared-slice-read-if2
-shared-slice-read-if2 c = search (needs, reaches)
+other-version-requires : tie.Need-other-version-requires
+other-version-requires c κs = search (needs, reaches)
 
 returns-2 : tie.Need-returns-2
 returns-2 c = search says-4
@@ -43,8 +43,8 @@ names-refusal-requires : tie.Need-names-refusal-requires
 names-refusal-requires c κs =
     let n = c .before .before .before .before .before .before .before in
     let s = n .before .before .before .before .before in
-    counted (now (s .args .image)) _ (n .before .before .before .no-settings .ensures) (n .before .before .if1 .left) (n .if2 .left)
-    _ _ _ (c .before .before .before .before .before .before .byte .ensures .0) (c .before .before .before .before .before .byte2 .ensures .0) (c .before .before .before .before .byte3 .ensures .0)
+    counted (now (s .args .image)) _ (n .before .before .before .no-settings .ensures) (n .before .before .if1 .left)
+    _ (n .before .other-version .ensures) (n .if2 .left) _ _ _ (c .before .before .before .before .before .before .byte .ensures .0) (c .before .before .before .before .before .byte2 .ensures .0) (c .before .before .before .before .byte3 .ensures .0)
     _ (c .before .before .before .settings-in-range .ensures) (c .before .before .if3 .left) _ (c .before .counts-wrong .ensures) (c .if4 .left)
     (λ a. omega (arith, n .before .before .before .before .shared-slice-known .given a))
 
@@ -57,7 +57,7 @@ early-refusal-spec =
     (tie.spec
     no-settings-requires
     returns
-    shared-slice-read-if2
+    other-version-requires
     returns-2
     byte-requires
     byte-requires-2

@@ -1,6 +1,5 @@
 -- `four`: its four bytes, low first. Assumes nothing.
 use native.Mathlib.Omega.{arith}
-use Rattle.image_fields.specs.Parts.{fourAt}
 use borrow.Author.Needs.{needs}
 use Rattle.image_fields.proofs.header.four.Statement.{statement}
 use Rattle.image_fields.proofs.header.four.Tie as tie
@@ -48,7 +47,6 @@ cast-result : tie.Need-cast-result
 cast-result c = search needs
 
 returns : tie.Need-returns
-unfolding fourAt
 returns c = omega arith
 
 pub four-spec : {M : Type 1} → statement M

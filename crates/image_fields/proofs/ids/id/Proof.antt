@@ -1,6 +1,5 @@
 -- `id`: four bytes, low first. Assumes nothing.
 use Rattle.model.specs.Image.{imId}
-use Rattle.image_fields.specs.Parts.{fourAt}
 use native.Mathlib.Omega.{arith}
 use borrow.Author.Needs.{needs}
 use Rattle.image_fields.proofs.ids.id.Statement.{statement}
@@ -16,7 +15,7 @@ four-requires : tie.Need-four-requires
 four-requires c κs = search needs
 
 returns : tie.Need-returns
-unfolding imId fourAt
+unfolding imId
 returns c = omega (arith, c .four .ensures)
 
 pub id-spec : {M : Type 1} → statement M

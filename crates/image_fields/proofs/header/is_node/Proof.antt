@@ -1,8 +1,8 @@
 -- `is_node`: its two tests. Assumes nothing.
 use mathlib.Core.Path.{refl}
 use Rattle.model.proofs.Early.{le-leaves, le-goes}
-use Rattle.image_fields.proofs.record.is_node.Statement.{statement}
-use Rattle.image_fields.proofs.record.is_node.Tie as tie
+use Rattle.image_fields.proofs.header.is_node.Statement.{statement}
+use Rattle.image_fields.proofs.header.is_node.Tie as tie
 
 returns : tie.Need-returns
 returns c = le-leaves _ _ _ (c .if1 .taken)
