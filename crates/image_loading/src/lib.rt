@@ -1,12 +1,13 @@
-// Loading an image that was judged and taken: the state that it gives, in every word and byte of the fixed lengths.
+// Loading an image of which nothing but 24 may still refuse the state: the state that it gives, in every word and byte of the fixed lengths.
 ghost use mathlib.Core.Path.{_≡_};
+ghost use mathlib.Core.Bool.{true};
 ghost use Prim.Native.Nat.{_≤_};
 ghost use lib.ListN.{length};
 ghost use Rattle.model.specs.Loops.{eachBelow};
 ghost use Rattle.model.specs.Memory.{tableOf, withTable, stateLength};
 ghost use Rattle.model.specs.Tables as book;
 ghost use Rattle.model.specs.Join.{withSettings};
-ghost use Rattle.model.specs.Image.{imNodes, imRecords, loadId, loadRecord, loaded};
+ghost use Rattle.model.specs.Image.{hasJoins, imVersion, imNodes, imRecords, joinsListed, loadId, loadedIds, loadRecord, loaded, loadedState};
 ghost use Rattle.image_fields.specs.Parts.{Headed};
 ghost use Rattle.state.specs.Lent.{memory};
 ghost use Rattle.image_loading.specs.Loads.{Loads, Fills, Appends};
@@ -68,14 +69,36 @@ fn load_records(tables: &mut [u8], image: &[u8], h: Header)
     }
 }
 
+// The settings and the ids, on cleared words.
+fn load_nodes(state: &mut [u64], image: &[u8], h: Header)
+    requires { ⌜ stateLength ≤ length (now state) ⌝ }
+    requires { ⌜ Headed (now image) h ⌝ }
+    ensures { λ r. ⌜ now (state .exit) ≡ loadedIds (now (state .entry)) (now (image .entry)) ⌝ }
+{
+    state::clear::clear(state);
+    load_settings(state, h);
+    load_ids(state, image, h);
+}
+
+// Every word: of version 2 the joins and counts too.
+fn load_words(state: &mut [u64], image: &[u8], h: Header)
+    requires { ⌜ stateLength ≤ length (now state) ⌝ }
+    requires { ⌜ Headed (now image) h ⌝ }
+    requires { ⌜ (hasJoins (imVersion (now image)) ≡ true → joinsListed (now image) ≡ true) ⌝ }
+    ensures { λ r. ⌜ now (state .exit) ≡ loadedState (now (state .entry)) (now (image .entry)) ⌝ }
+{
+    load_nodes(state, image, h);
+    if header::has_joins(image) {
+        image_joins::load(state, image, h);
+    }
+}
+
 pub fn load(state: &mut [u64], tables: &mut [u8], image: &[u8])
     requires { ⌜ Loads (now state) (now tables) (now image) ⌝ }
     ensures { λ u. ⌜ memory (now (state .exit)) (now (tables .exit)) ≡ loaded (now (state .entry)) (now (tables .entry)) (now (image .entry)) ⌝ }
 {
     let h = header::load(image);
-    state::clear::clear(state);
-    load_settings(state, h);
-    load_ids(state, image, h);
+    load_words(state, image, h);
     tables::clear::clear(tables);
     load_records(tables, image, h);
 }

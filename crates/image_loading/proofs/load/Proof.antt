@@ -1,26 +1,20 @@
 -- `load`: the stores on cleared memory are those of `loaded`. Assumes nothing.
-use Rattle.image_loading.proofs.Steps.{fills, loaded-is}
 use borrow.Author.Needs.{needs}
+use Rattle.image_loading.proofs.Steps.{loaded-is}
 use Rattle.image_loading.proofs.load.Statement.{statement}
 use Rattle.image_loading.proofs.load.Tie as tie
 
 load-requires : tie.Need-load-requires
 load-requires c κs = search needs
 
+load-words-requires : tie.Need-load-words-requires
+load-words-requires c κs = search needs
+
 clear-requires : tie.Need-clear-requires
 clear-requires c κs = search needs
 
-load-settings-requires : tie.Need-load-settings-requires
-load-settings-requires c κs = search needs
-
-load-ids-requires : tie.Need-load-ids-requires
-load-ids-requires c κs = search needs
-
-clear-requires-2 : tie.Need-clear-requires-2
-clear-requires-2 c κs = search needs
-
 load-records-requires : tie.Need-load-records-requires
-load-records-requires c κs = search (needs, fills)
+load-records-requires c κs = search needs
 
 same-length : tie.Need-same-length
 same-length c = search needs
@@ -36,10 +30,8 @@ load-spec =
     tie.close
     (tie.spec
     load-requires
+    load-words-requires
     clear-requires
-    load-settings-requires
-    load-ids-requires
-    clear-requires-2
     load-records-requires
     same-length
     same-length-2

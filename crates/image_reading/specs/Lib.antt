@@ -1,0 +1,2 @@
+-- What the contracts of reading an image cite.
+pub mod Reads
