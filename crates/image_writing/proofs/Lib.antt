@@ -1,2 +1,3 @@
--- Laws of the whole image.
+-- Laws of the whole image, and of the count of the joins under way.
 pub mod ImageLaws
+pub mod CountLaws

@@ -1,14 +1,18 @@
-// How many bytes the records take: four for each filled slot.
+// How many bytes the records take, four for each filled slot, and the sections behind them.
 ghost use mathlib.Core.Path.{_≡_};
-ghost use mathlib.Core.Bool.{cond};
+ghost use mathlib.Core.Bool.{cond, not};
 ghost use Prim.Native.Nat.{_≤_, _<_};
 ghost use lib.Dec.{eqb};
 ghost use lib.ListN.{length};
-ghost use Rattle.model.specs.Image.{allRecords};
+ghost use Rattle.model.specs.Memory.{stateLength, nodeCount, inSystem};
+ghost use Rattle.model.specs.Nodes.{countNodes};
+ghost use Rattle.model.specs.Image.{allRecords, underWay, restBytes};
 ghost use Rattle.model.proofs.Sound.{Sound};
 ghost use Rattle.tables.specs.Places.{Entry};
 ghost use Rattle.image_writing_parts.specs.Records.{entryOf, recordsOfLevel, tableRecords, Shape};
+use state::record;
 use state::settings;
+use state::status::Status;
 use tables::entry;
 use tables::part;
 
@@ -77,4 +81,39 @@ pub fn records(state: &[u64], tables: &[u8]) -> usize
         k += 1;
     }
     total
+}
+
+// One for a node that is not in system.
+fn one(status: u64) -> usize
+    ensures { λ r. ⌜ (r ≡ cond (not (eqb status inSystem)) 1 0) × (r ≤ 1) ⌝ }
+{
+    if status == Status::IN_SYSTEM { 0 } else { 1 }
+}
+
+// How many joins are under way.
+pub fn joins(state: &[u64]) -> usize
+    requires { ⌜ stateLength ≤ length (now state) ⌝ }
+    requires { ⌜ nodeCount (now state) ≤ 64 ⌝ }
+    ensures { λ r. ⌜ (r ≡ countNodes (now (state .entry)) (underWay (now (state .entry)))) × (r ≤ 64) ⌝ }
+{
+    let n = settings::load(state).nodes;
+    let mut count = 0;
+    let mut k = 0;
+    while k < n {
+        count += one(record::status(state, k + 1));
+        k += 1;
+    }
+    count
+}
+
+// The joins under way and the counts, where the version has them: a count for each section, 20 bytes a join, and 2 a node.
+pub fn rest(state: &[u64], version: u64) -> usize
+    requires { ⌜ stateLength ≤ length (now state) ⌝ }
+    requires { ⌜ nodeCount (now state) ≤ 64 ⌝ }
+    ensures { λ r. ⌜ (r ≡ length (restBytes version (now (state .entry)))) × (r ≤ 1410) ⌝ }
+{
+    if !crate::has_joins(version) {
+        return 0;
+    }
+    2 + 20 * joins(state) + 2 * settings::load(state).nodes
 }

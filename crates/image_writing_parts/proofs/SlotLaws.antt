@@ -6,7 +6,6 @@ use mathlib.Core.List.{List, [], _∷_}
 use native.Mathlib.Nat.{le-step, lt-suc-self}
 use native.Mathlib.Omega.{arith}
 use lib.ListN.{length}
-use borrow.Author.Tests.{eq-eqb, ne-eqb}
 use Rattle.model.specs.Loops.{allBelow, joinBelow, node}
 use Rattle.model.specs.Tables.{slotAt, slotIs}
 use Rattle.model.specs.Memory.{base, digits, depth, nodeCount, tableOf}
@@ -14,26 +13,23 @@ use Rattle.model.specs.Image.{slotRecord, entryRecords, levelRecords, nodeRecor
 use Rattle.model.proofs.Loops.{all-at}
 use Rattle.putting.specs.Put.{Put}
 use Rattle.image_writing_parts.specs.Records.{slotOf, entryOf, recordsOfLevel, tableRecords}
-use Rattle.putting.proofs.Putting.{put-none, pieces-none, pieces-room, pieces-goes, pieces-ends}
+use Rattle.putting.proofs.Putting.{put-none, pieces-room, pieces-goes}
+use Rattle.image_writing_parts.proofs.Unless.{unless-none, unless-room, unless-some}
 use Rattle.image_writing_parts.proofs.Measuring.{records-length, total-goes, total-ends}
 
-module _ (x i j u : ℕ) where
-  none : u ≡ 0 → slotOf x i j u ≡ []
+-- the record of a slot that holds u
+module _ (x i j u : ℕ) (o : List ℕ) (a : ℕ) where
+  pub slot-none : a + length (slotOf x i j u) ≤ length o → u ≡ 0 → Put o a (slotOf x i j u) o a
   unfolding slotOf
-  none e = ap (λ (b : Bool). cond b [] (x ∷ i ∷ j ∷ u ∷ [])) (eq-eqb u 0 e)
+  slot-none = unless-none u (x ∷ i ∷ j ∷ u ∷ []) o a
 
-  some : (u ≡ 0 → ⊥) → slotOf x i j u ≡ x ∷ i ∷ j ∷ u ∷ []
+  pub slot-room : a + length (slotOf x i j u) ≤ length o → (u ≡ 0 → ⊥) → a + 4 ≤ length o
   unfolding slotOf
-  some h = ap (λ (b : Bool). cond b [] (x ∷ i ∷ j ∷ u ∷ [])) (ne-eqb u 0 h)
+  slot-room = unless-room u (x ∷ i ∷ j ∷ u ∷ []) o a
 
-  pub slot-none : (o : List ℕ) (a : ℕ) → a + length (slotOf x i j u) ≤ length o → u ≡ 0 → Put o a (slotOf x i j u) o a
-  slot-none o a f e = subst (λ (bs : List ℕ). Put o a bs o a) (sym (none e)) (put-none o a (omega arith))
-
-  pub slot-room : (o : List ℕ) (a : ℕ) → a + length (slotOf x i j u) ≤ length o → (u ≡ 0 → ⊥) → a + 4 ≤ length o
-  slot-room o a f h = omega (arith, ap length (some h))
-
-  pub slot-some : (o : List ℕ) (a : ℕ) (p : List ℕ) (e : ℕ) → (u ≡ 0 → ⊥) → Put o a (x ∷ i ∷ j ∷ u ∷ []) p e → Put o a (slotOf x i j u) p e
-  slot-some o a p e h P = subst (λ (bs : List ℕ). Put o a bs p e) (sym (some h)) P
+  pub slot-some : (p : List ℕ) (e : ℕ) → (u ≡ 0 → ⊥) → Put o a (x ∷ i ∷ j ∷ u ∷ []) p e → Put o a (slotOf x i j u) p e
+  unfolding slotOf
+  slot-some = unless-some u (x ∷ i ∷ j ∷ u ∷ []) o a
 
 -- the record of the next slot of an entry fits
 pub entry-room : (T : List ℕ) (K x i j k : ℕ) (o : List ℕ) (a : ℕ) (p : List ℕ) (e : ℕ) → a + length (entryOf K T x i j) ≤ length o → k < K
@@ -76,15 +72,6 @@ module _ (s t : List ℕ) (d b K : ℕ) (ed : d ≡ digits s) (eb : b ≡ base s
         → Put o a (joinBelow (k + 1) (node (nodeRecords s t))) q g
     nodes-goes T k p e q g w P Q =
         pieces-goes (node (nodeRecords s t)) o a k p e q g P (subst (λ (bs : List ℕ). Put p e bs q g) (node-is T (k + 1) w) Q)
-
-module _ (s t o : List ℕ) (a : ℕ) where
-  pub nodes-none : a + length (allRecords s t) ≤ length o → Put o a (joinBelow 0 (node (nodeRecords s t))) o a
-  nodes-none f = pieces-none (node (nodeRecords s t)) o a (omega arith)
-
-  pub nodes-ends : (n k : ℕ) (p : List ℕ) (e : ℕ) → Put o a (joinBelow k (node (nodeRecords s t))) p e → n ≡ nodeCount s → k ≤ n → n ≤ k
-      → Put o a (allRecords s t) p e
-  unfolding allRecords
-  nodes-ends n k p e P en l g = pieces-ends (node (nodeRecords s t)) o a (nodeCount s) k p e P (omega arith) (omega arith)
 
 -- their length
 module _ (s t : List ℕ) where

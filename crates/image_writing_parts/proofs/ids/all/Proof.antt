@@ -7,7 +7,9 @@ use borrow.Author.Needs.{needs}
 use Rattle.model.specs.Loops.{joinBelow, node}
 use Rattle.model.specs.Image.{idBytes}
 use Rattle.putting.specs.Put.{Put}
-use Rattle.image_writing_parts.proofs.IdLaws.{ids-none, ids-room, ids-goes, ids-ends}
+use Rattle.putting.proofs.Putting.{pieces-none}
+use Rattle.image_writing_parts.proofs.NodeLaws.{next-fits, all-put}
+use Rattle.image_writing_parts.proofs.IdLaws.{ids-goes}
 use Rattle.image_writing_parts.proofs.ids.all.Statement.{statement}
 use Rattle.image_writing_parts.proofs.ids.all.Tie as tie
 
@@ -21,7 +23,7 @@ load-requires : tie.Need-load-requires Inv-loop μ-loop
 load-requires c κs = search needs
 
 loop-holds : tie.Need-loop-holds Inv-loop μ-loop
-loop-holds c = (omega arith, refl, search ids-none)
+loop-holds c = (omega arith, refl, pieces-none _ _ _ (omega arith))
 
 add-id : tie.Need-add-id Inv-loop μ-loop
 add-id c = omega arith
@@ -29,8 +31,8 @@ add-id c = omega arith
 id-requires : tie.Need-id-requires Inv-loop μ-loop
 id-requires c κs = search needs
 
-id-requires-2 : tie.Need-id-requires-2 Inv-loop μ-loop
-id-requires-2 c κs = search ids-room
+four-requires : tie.Need-four-requires Inv-loop μ-loop
+four-requires c κs = search (next-fits idBytes)
 
 add-k : tie.Need-add-k Inv-loop μ-loop
 add-k c = omega arith
@@ -45,7 +47,7 @@ same-length : tie.Need-same-length Inv-loop μ-loop
 same-length c = omega arith
 
 returns : tie.Need-returns Inv-loop μ-loop
-returns c = search ids-ends
+returns c = search all-put
 
 pub all-spec : {M : Type 1} → statement M
 all-spec =
@@ -57,7 +59,7 @@ all-spec =
     loop-holds
     add-id
     id-requires
-    id-requires-2
+    four-requires
     add-k
     loop-less
     loop-again

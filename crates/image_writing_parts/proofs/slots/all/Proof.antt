@@ -5,9 +5,11 @@ use native.Mathlib.Omega.{arith}
 use lib.ListN.{length}
 use borrow.Author.Needs.{needs}
 use Rattle.model.specs.Loops.{joinBelow, node}
-use Rattle.model.specs.Image.{nodeRecords}
+use Rattle.model.specs.Image.{nodeRecords, allRecords}
 use Rattle.putting.specs.Put.{Put}
-use Rattle.image_writing_parts.proofs.SlotLaws.{nodes-none, nodes-room, nodes-goes, nodes-ends}
+use Rattle.putting.proofs.Putting.{pieces-none}
+use Rattle.image_writing_parts.proofs.NodeLaws.{all-put}
+use Rattle.image_writing_parts.proofs.SlotLaws.{nodes-room, nodes-goes}
 use Rattle.image_writing_parts.proofs.slots.all.Statement.{statement}
 use Rattle.image_writing_parts.proofs.slots.all.Tie as tie
 
@@ -21,7 +23,7 @@ load-requires : tie.Need-load-requires Inv-loop μ-loop
 load-requires c κs = search needs
 
 loop-holds : tie.Need-loop-holds Inv-loop μ-loop
-loop-holds c = (omega arith, refl, search nodes-none)
+loop-holds c = (omega arith, refl, pieces-none _ _ _ (omega arith))
 
 add-x : tie.Need-add-x Inv-loop μ-loop
 add-x c = omega arith
@@ -45,7 +47,8 @@ same-length : tie.Need-same-length Inv-loop μ-loop
 same-length c = omega arith
 
 returns : tie.Need-returns Inv-loop μ-loop
-returns c = search nodes-ends
+unfolding allRecords
+returns c = search all-put
 
 pub all-spec : {M : Type 1} → statement M
 all-spec =

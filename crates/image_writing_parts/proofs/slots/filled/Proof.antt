@@ -5,9 +5,9 @@ use native.Mathlib.Omega.{arith}
 use lib.ListN.{length}
 use Rattle.model.specs.Loops.{joinBelow}
 use Rattle.model.specs.Image.{slotRecord}
-use Rattle.image_writing_parts.specs.Records.{slotOf, entryOf}
 use Rattle.putting.specs.Put.{Put}
 use Rattle.putting.proofs.Putting.{pieces-none, pieces-goes, pieces-ends}
+use Rattle.image_writing_parts.specs.Records.{slotOf, entryOf}
 use Rattle.image_writing_parts.proofs.SlotLaws.{entry-room, entry-skipped}
 use Rattle.image_writing_parts.proofs.slots.filled.Statement.{statement}
 use Rattle.image_writing_parts.proofs.slots.filled.Tie as tie

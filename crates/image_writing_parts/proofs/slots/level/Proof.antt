@@ -5,9 +5,9 @@ use native.Mathlib.Omega.{arith}
 use lib.ListN.{length}
 use borrow.Author.Needs.{needs}
 use Rattle.model.specs.Loops.{joinBelow}
-use Rattle.image_writing_parts.specs.Records.{entryOf, recordsOfLevel}
 use Rattle.putting.specs.Put.{Put}
 use Rattle.putting.proofs.Putting.{pieces-none, pieces-goes, pieces-ends}
+use Rattle.image_writing_parts.specs.Records.{entryOf, recordsOfLevel}
 use Rattle.image_writing_parts.proofs.SlotLaws.{level-room}
 use Rattle.image_writing_parts.proofs.slots.level.Statement.{statement}
 use Rattle.image_writing_parts.proofs.slots.level.Tie as tie

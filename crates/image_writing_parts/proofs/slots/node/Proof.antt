@@ -5,9 +5,9 @@ use native.Mathlib.Omega.{arith}
 use lib.ListN.{length}
 use borrow.Author.Needs.{needs}
 use Rattle.model.specs.Loops.{joinBelow}
-use Rattle.image_writing_parts.specs.Records.{recordsOfLevel, tableRecords}
 use Rattle.putting.specs.Put.{Put}
 use Rattle.putting.proofs.Putting.{pieces-none, pieces-goes, pieces-ends}
+use Rattle.image_writing_parts.specs.Records.{recordsOfLevel, tableRecords}
 use Rattle.image_writing_parts.proofs.SlotLaws.{table-room}
 use Rattle.image_writing_parts.proofs.slots.node.Statement.{statement}
 use Rattle.image_writing_parts.proofs.slots.node.Tie as tie
