@@ -1,21 +1,26 @@
 -- What the work of each call asks, where nothing refused it, and the fields that it answers. Assumes nothing.
 use Prim.Native.Nat.{ℕ, _≤_, _<_}
 use mathlib.Core.Path.{_≡_, refl, sym, ap, _∙_}
-use mathlib.Core.List.{List, [], _∷_}
+use mathlib.Core.Logic.{_⊎_, inl, inr}
+use mathlib.Core.Bool.{Bool, true, false, cond}
+use mathlib.Core.List.{List, [], _∷_, _++_}
+use native.Mathlib.Omega.{arith}
+use lib.Dec.{eqb}
 use lib.ListN.{length}
-use borrow.Author.Tests.{not-false}
+use borrow.Author.Tests.{eqb-true, not-false}
 use Rattle.model.specs.Memory.{Memory, stateLength, tablesLength}
 use Rattle.model.specs.Lookup.{Lookup}
 use Rattle.model.specs.Consistency.{Verdict}
 use Rattle.model.specs.Calls.{Outcome, refusedAt, refused, taken, lookupFields, verdictFields, readCall, traceCall, soundCall}
-use Rattle.model.specs.Image.{byteAt, imageOf, loaded}
-use Rattle.model.specs.Refusals.{foundRefusal, readRefusal, recordPlace, beginRefusal, withdrawRefusal, deliverRefusal, lookupRefusal, verdictRefusal, writeRefusal, stateRefusal, traceRefusal}
+use Rattle.model.specs.Image.{imageOf, byteAt, loaded}
+use Rattle.model.specs.Refusals.{Sentence, firstTrue, memoryShort, frameSentences, recordSentences, joinsWrong, foundRefusal, readRefusal, recordPlace, beginRefusal, withdrawRefusal, deliverRefusal, lookupRefusal, verdictRefusal, writeRefusal, stateRefusal, traceRefusal}
+use Rattle.model.proofs.Bools.{or-cases}
 use Rattle.model.proofs.Calls.{either-end, refused-end, taken-end, work-left}
-use Rattle.model.proofs.Refusals.{numbered, testOf, passed}
+use Rattle.model.proofs.Refusals.{numbered, testOf, passed, sentences-refused, sentences-later}
 use Rattle.model.proofs.Sound.{Sound}
 use Rattle.model.proofs.Status.{IsNode}
 use Rattle.model.proofs.Sender.{CanDeliver}
-use Rattle.model.proofs.Taken.{state-taken, found-taken, read-taken, begin-taken, withdraw-taken, deliver-taken, lookup-taken, verdict-taken, write-taken}
+use Rattle.model.proofs.Taken.{state-taken, found-taken, tables-taken, begin-taken, withdraw-taken, deliver-taken, lookup-taken, verdict-taken, write-taken}
 use Rattle.model.proofs.Traces.{trace-place-two, trace-is}
 use Rattle.answers.specs.declared.ReadAnswer.{ReadAnswer}
 use Rattle.answers.specs.declared.TraceAnswer.{TraceAnswer}
@@ -24,7 +29,8 @@ use Rattle.traces.specs.Judged as traced
 use Rattle.image_judging.specs.Judged.{answerOf}
 use Rattle.image_judging.proofs.Sentences.{counted-of}
 use Rattle.join.specs.Begins.{Begins}
-use Rattle.image_loading.specs.Loads.{Loads}
+use Rattle.image_reading.specs.Reads.{Reads}
+use Rattle.refusals.specs.Refused.{readTablesRefusal}
 use Rattle.engine.specs.Outcomes.{leaves}
 
 -- the fields of an answer, by what they are of
@@ -55,28 +61,52 @@ trace-done s t trace a e =
     ∙ ap (λ (place : List ℕ). leaves (memory s t) (number ∷ place)) (sym (trace-place-two (memory s t) trace number))
     ∙ sym (trace-is (memory s t) trace)
 
--- reading: a is the answer that the code found
-module _ (m : Memory) (im : List ℕ) (a : ReadAnswer) (e : a ≡ answerOf im (readRefusal m im)) where
-  number : a .refusal ≡ readRefusal m im
+-- reading: a is the answer that the code found of 1 and 3 to 18
+module _ (m : Memory) (im : List ℕ) (a : ReadAnswer) (e : a ≡ answerOf im (readTablesRefusal m im)) where
+  number : a .refusal ≡ readTablesRefusal m im
   unfolding answerOf
   number = ap (λ (a : ReadAnswer). a .refusal) e
 
+  abbrev sentences : List Sentence
+  sentences = (memoryShort m, 1) ∷ (frameSentences im ++ recordSentences im)
+
   pub read-refused : (a .refusal ≡ 0 → ⊥) → leaves m (a .refusal ∷ a .place ∷ []) ≡ readCall m im
-  unfolding readCall answerOf
+  unfolding readCall readRefusal readTablesRefusal answerOf
   read-refused nz =
+      let same : readTablesRefusal m im ≡ readRefusal m im = sentences-refused sentences ((joinsWrong im, 24) ∷ []) (readTablesRefusal m im) refl (λ z. nz (number ∙ z)) in
       ap (λ (a : ReadAnswer). leaves m (a .refusal ∷ a .place ∷ [])) e
-      ∙ refused-end m [] (recordPlace im (readRefusal m im) ∷ []) (readRefusal m im) (readRefusal m im) _ refl (λ z. nz (number ∙ z))
+      ∙ ap (λ (n : ℕ). leaves m (n ∷ recordPlace im n ∷ [])) same
+      ∙ refused-end m [] (recordPlace im (readRefusal m im) ∷ []) (readRefusal m im) (readRefusal m im) _ refl (λ z. nz (number ∙ same ∙ z))
 
-  pub read-done : (m₁ : Memory) → a .refusal ≡ 0 → m₁ ≡ loaded (m .state) (m .tables) im → leaves m₁ (0 ∷ 0 ∷ []) ≡ readCall m im
-  unfolding readCall
-  read-done m₁ z q = taken-end (readRefusal m im) (a .refusal) _ _ _ number z (work-left m₁ _ [] [] (0 ∷ []) (0 ∷ []) q refl refl)
+  module _ (z : a .refusal ≡ 0) where
+    -- then 24 alone decides
+    last : (b : Bool) → joinsWrong im ≡ b → cond b 24 0 ≡ readRefusal m im
+    unfolding readRefusal readTablesRefusal numbered firstTrue
+    last b w =
+        sentences-later sentences ((joinsWrong im, 24) ∷ []) refl (a .refusal) (cond b 24 0) number z (ap (λ (b : Bool). cond b 24 0) (sym w))
 
-  pub loads : ((a : ℕ) → byteAt im a < 256) → a .refusal ≡ 0 → Loads (m .state) (m .tables) im
-  unfolding readRefusal numbered testOf
-  loads bytes z =
-      let k = read-taken m im (sym number ∙ z) in
-      let p = passed _ refl (sym number ∙ z) in
-      record { state = k .0 .state; tables = k .0 .tables; counts = counted-of im bytes (not-false _ (p 5)) (p 6); good = k .1 }
+    -- r is what the code found of it, and m₁ the memory that it left
+    pub read-done : (m₁ : Memory) (r : ℕ)
+        → (m₁ ≡ cond (joinsWrong im) m (loaded (m .state) (m .tables) im)) × (r ≡ cond (joinsWrong im) 24 0)
+        → leaves m₁ (r ∷ 0 ∷ []) ≡ readCall m im
+    unfolding readCall recordPlace
+    read-done m₁ r (p, q) = go (joinsWrong im) refl p q
+      where
+        go : (b : Bool) → joinsWrong im ≡ b → m₁ ≡ cond b m (loaded (m .state) (m .tables) im) → r ≡ cond b 24 0 → leaves m₁ (r ∷ 0 ∷ []) ≡ readCall m im
+        go true w p q =
+            cc (p, q)
+            ∙ ap (λ (n : ℕ). leaves m (24 ∷ recordPlace im n ∷ [])) (last true w)
+            ∙ refused-end m [] (recordPlace im (readRefusal m im) ∷ []) (readRefusal m im) 24 _ (last true w) (omega arith)
+        go false w p q =
+            ap (λ (r : ℕ). leaves m₁ (r ∷ 0 ∷ [])) q
+            ∙ taken-end (readRefusal m im) 0 _ _ _ (last false w) refl (work-left m₁ _ [] [] (0 ∷ []) (0 ∷ []) p refl refl)
+
+    pub reads : ((a : ℕ) → byteAt im a < 256) → Reads (m .state) (m .tables) im
+    unfolding readTablesRefusal numbered testOf
+    reads bytes =
+        let k = tables-taken m im (sym number ∙ z) in
+        let p = passed _ refl (sym number ∙ z) in
+        record { state = k .0 .state; tables = k .0 .tables; counts = counted-of im bytes (not-false _ (p 5)) (p 6); good = k .1 }
 
 -- r is the refusal that the code found
 module _ (m : Memory) (r : ℕ) where
@@ -111,8 +141,9 @@ module _ (m : Memory) (r : ℕ) where
   pub judges : r ≡ verdictRefusal m → r ≡ 0 → Sound s t
   judges e z = verdict-taken m (sym e ∙ z) .0
 
-  pub write-sound : (out : List ℕ) → r ≡ writeRefusal m out → r ≡ 0 → Sound s t
-  write-sound out e z = write-taken m out (sym e ∙ z) .0
-
-  pub write-fits : (out : List ℕ) → r ≡ writeRefusal m out → r ≡ 0 → length (imageOf s t) ≤ length out
-  write-fits out e z = write-taken m out (sym e ∙ z) .2
+  pub writes-image : (v : ℕ) (out : List ℕ) → r ≡ writeRefusal m v out → r ≡ 0 → Sound s t × (v < 256) × (length (imageOf v s t) ≤ length out)
+  writes-image v out e z = let k = write-taken m v out (sym e ∙ z) in (k .sound, version-byte (or-cases (eqb v 1) (eqb v 2) (k .version)), k .fits)
+    where
+      version-byte : (eqb v 1 ≡ true) ⊎ (eqb v 2 ≡ true) → v < 256
+      version-byte (inl q) = omega (arith, eqb-true v 1 q)
+      version-byte (inr q) = omega (arith, eqb-true v 2 q)

@@ -6,8 +6,8 @@ ghost use Rattle.state.specs.Lent.{memory};
 ghost use Rattle.engine.specs.Outcomes.{leaves};
 use answers::ReadAnswer;
 
-// Makes the network of the image in the lent memory, whatever it held, every node in system. The whole image is judged before one byte
-// is written. Answers the refusal, 1, 3, 4, 5, 6, 7, 8, 9, 10, 17 or 18, or 0; and with 10, 17 and 18 the place of the record.
+// Makes the network of the image in the lent memory, whatever it held; of version 1 every node is in system. The whole image is judged before one byte
+// is written. Answers the refusal, 1, 3, 4, 5, 6, 7, 8, 9, 10, 17, 18 or 24, or 0; and with 10, 17 and 18 the place of the record.
 pub fn read(state: &mut [u64], tables: &mut [u8], image: &[u8]) -> ReadAnswer
     ensures { λ r. ⌜ leaves (memory (now (state .exit)) (now (tables .exit))) (r .refusal ∷ r .place ∷ []) ≡ readCall (memory (now (state .entry)) (now (tables .entry))) (now (image .entry)) ⌝ }
 {
@@ -15,9 +15,6 @@ pub fn read(state: &mut [u64], tables: &mut [u8], image: &[u8]) -> ReadAnswer
     if r.refusal != 0 {
         return r;
     }
-    image_loading::load(state, tables, image);
-    ReadAnswer {
-        refusal: 0,
-        place: 0,
-    }
+    let refusal = image_reading::read(state, tables, image);
+    ReadAnswer { refusal, place: 0 }
 }

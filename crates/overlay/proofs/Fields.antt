@@ -17,7 +17,7 @@ use Rattle.packing.specs.declared.delivered.Numbers.{Numbers}
 use Rattle.packing.specs.Numbers.{listed}
 use Rattle.packing.specs.Packed.{packed, Fit}
 use Rattle.overlay.specs.Packed.{packing, gives}
-use Rattle.model.proofs.RoundTrip.{low-byte}
+use Rattle.model.proofs.BytesFrom.{low-byte}
 use Rattle.model.proofs.Fields.{Below, Bytes, below-at, begin-bytes, deliver-bytes, lookup-bytes, verdict-bytes, trace-bytes}
 
 -- ---- shift and mask give a field back

@@ -10,7 +10,7 @@ use Rattle.model.specs.Refusals.{readRefusal, writeRefusal}
 use Rattle.model.specs.Calls.{Outcome, refusedAt, refused, taken, readCall, writeCall}
 use Rattle.model.proofs.Refusals.{numbered, sentences-below}
 use Rattle.model.proofs.Calls.{either-end}
-use Rattle.model.proofs.Sections.{image-short}
+use Rattle.model.proofs.JoinSections.{image-most}
 use Rattle.model.proofs.Taken.{write-taken}
 use Rattle.model.proofs.Places.{place-few}
 use Rattle.engine.specs.Outcomes.{leaves, writes}
@@ -49,21 +49,22 @@ module _ (o : Outcome) (short : Short (o .answer)) (m : Memory) (after : List �
 
 -- ---- writing
 
-pub write-short : (m : Memory) (out : List ℕ) → Short (writeCall m out .answer)
+pub write-short : (m : Memory) (v : ℕ) (out : List ℕ) → Short (writeCall m v out .answer)
 unfolding Short writeRefusal writeCall refusedAt taken numbered
-write-short m out =
-    either-end (λ (o : Outcome). Short (o .answer)) (writeRefusal m out) (refused m out 1) _
-    (λ nz. (sentences-below _ refl, omega arith)) (λ z. (omega arith, image-short (m .state) (m .tables) (write-taken m out z .0)))
+write-short m v out =
+    either-end (λ (o : Outcome). Short (o .answer)) (writeRefusal m v out) (refused m out 1) _
+    (λ nz. (sentences-below _ refl, omega arith))
+    (λ z. let h = image-most v (m .state) (m .tables) (write-taken m v out z .sound) in (omega arith, omega arith))
 
-module _ (m : Memory) (out after : List ℕ) (r n : ℕ) (e : writes m after (r ∷ n ∷ []) ≡ writeCall m out) where
+module _ (m : Memory) (v : ℕ) (out after : List ℕ) (r n : ℕ) (e : writes m after (r ∷ n ∷ []) ≡ writeCall m v out) where
   pub written-refusal : r < 256
-  written-refusal = fits-byte (writeCall m out) (write-short m out) m after r n e
+  written-refusal = fits-byte (writeCall m v out) (write-short m v out) m after r n e
 
   pub written-length : n < 4294967296
-  written-length = fits-wide (writeCall m out) (write-short m out) m after r n e
+  written-length = fits-wide (writeCall m v out) (write-short m v out) m after r n e
 
-  pub write-packs : (p : ℕ) → p ≡ packed (r ∷ n ∷ []) → fills m after p ≡ packing (writeCall m out)
-  write-packs = packs (writeCall m out) (write-short m out) m after r n e
+  pub write-packs : (p : ℕ) → p ≡ packed (r ∷ n ∷ []) → fills m after p ≡ packing (writeCall m v out)
+  write-packs = packs (writeCall m v out) (write-short m v out) m after r n e
 
 pub ruleset written-fits = (written-refusal, written-length)
 

@@ -26,7 +26,7 @@ pub extern "C" fn overlay_found(
     engine::founding::found(state, tables, base, digits, depth, id)
 }
 
-// Reading an image into the memory, every node in system. Answers with 10, 17 and 18 the place of the record.
+// Reading an image into the memory; of version 1 every node is in system. Answers with 10, 17 and 18 the place of the record.
 #[no_mangle]
 pub extern "C" fn overlay_read(state: &mut [u64], tables: &mut [u8], image: &[u8]) -> u64
     ensures { λ r. ⌜ gives (memory (now (state .exit)) (now (tables .exit))) r ≡ packing (readCall (memory (now (state .entry)) (now (tables .entry))) (now (image .entry))) ⌝ }
@@ -116,12 +116,12 @@ pub extern "C" fn overlay_verdict(state: &[u64], tables: &[u8]) -> u64
     )
 }
 
-// Writing the image to out. Answers its length, in bits 8 to 39.
+// Writing the image of this version to out. Answers its length, in bits 8 to 39.
 #[no_mangle]
-pub extern "C" fn overlay_write(state: &[u64], tables: &[u8], out: &mut [u8]) -> u64
-    ensures { λ r. ⌜ fills (memory (now (state .entry)) (now (tables .entry))) (now (out .exit)) r ≡ packing (writeCall (memory (now (state .entry)) (now (tables .entry))) (now (out .entry))) ⌝ }
+pub extern "C" fn overlay_write(state: &[u64], tables: &[u8], version: u64, out: &mut [u8]) -> u64
+    ensures { λ r. ⌜ fills (memory (now (state .entry)) (now (tables .entry))) (now (out .exit)) r ≡ packing (writeCall (memory (now (state .entry)) (now (tables .entry))) version (now (out .entry))) ⌝ }
 {
-    let written = engine::writing::write(state, tables, out);
+    let written = engine::writing::write(state, tables, version, out);
     pack_wide(written.refusal, written.bytes)
 }
 

@@ -1,5 +1,6 @@
 -- The laws by which the refusals meet the book.
 pub mod ReadLaws
+pub mod WriteLaws
 pub mod TraceLaws
 pub mod State
 pub mod DeliverLaws

@@ -3,7 +3,7 @@ use native.Mathlib.Omega.{arith}
 use denote.Ref.{now}
 use borrow.Author.Needs.{needs}
 use Rattle.state.specs.Lent.{memory}
-use Rattle.engine.proofs.Laws.{read-refused, read-done, loads}
+use Rattle.engine.proofs.Laws.{read-refused, read-done, reads}
 use Rattle.engine.proofs.reading.read.Statement.{statement}
 use Rattle.engine.proofs.reading.read.Tie as tie
 
@@ -19,11 +19,11 @@ same-length-2 c = search needs
 returns : tie.Need-returns
 returns c = search read-refused
 
-load-requires : tie.Need-load-requires
-load-requires c κs =
+read-requires : tie.Need-read-requires
+read-requires c κs =
     let a = c .before .before .before .before .before .before .before .before .before .before .args in
-    loads (memory (now (a .state)) (now (a .tables))) (now (a .image)) _ (c .before .before .before .before .refusal .ensures)
-    (λ a. omega (arith, c .before .before .before .before .before .before .before .shared-slice-known .given a)) (c .before .before .if1 .left)
+    reads (memory (now (a .state)) (now (a .tables))) (now (a .image)) _ (c .before .before .before .before .refusal .ensures) (c .before .before .if1 .left)
+    (λ a. omega (arith, c .before .before .before .before .before .before .before .shared-slice-known .given a))
 
 same-length-3 : tie.Need-same-length-3
 same-length-3 c = search needs
@@ -42,7 +42,7 @@ read-spec =
     same-length
     same-length-2
     returns
-    load-requires
+    read-requires
     same-length-3
     same-length-4
     returns-2)

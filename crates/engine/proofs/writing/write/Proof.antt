@@ -2,7 +2,7 @@
 use borrow.Author.Needs.{needs}
 use Rattle.model.specs.Calls.{unlessRefused, writeCall}
 use Rattle.model.proofs.Calls.{refused-end, taken-end, work-left}
-use Rattle.engine.proofs.Laws.{write-sound, write-fits, one-field}
+use Rattle.engine.proofs.Laws.{writes-image, one-field}
 use Rattle.engine.proofs.writing.write.Statement.{statement}
 use Rattle.engine.proofs.writing.write.Tie as tie
 
@@ -18,9 +18,8 @@ returns c = search refused-end
 
 write-requires : tie.Need-write-requires
 write-requires c κs =
-    let e = c .before .before .refusal .ensures in
-    let z = c .before .if1 .left in
-    (write-sound _ _ _ e z, write-fits _ _ _ e z)
+    let w = writes-image _ _ _ _ (c .before .before .refusal .ensures) (c .before .if1 .left) in
+    (w .0, (w .1, w .2))
 
 same-length-2 : tie.Need-same-length-2
 same-length-2 c = search needs

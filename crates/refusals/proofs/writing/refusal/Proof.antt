@@ -3,6 +3,7 @@ use borrow.Author.Needs.{needs}
 use Rattle.model.specs.Refusals.{writeRefusal}
 use Rattle.model.proofs.Refusals.{sentences, comparisons}
 use Rattle.refusals.proofs.State.{state-sound, counted, state-refused, state-later}
+use Rattle.refusals.proofs.WriteLaws.{held-goes}
 use Rattle.refusals.proofs.writing.refusal.Statement.{statement}
 use Rattle.refusals.proofs.writing.refusal.Tie as tie
 
@@ -13,23 +14,30 @@ returns : tie.Need-returns
 unfolding writeRefusal
 returns c = search state-refused
 
-all-in-system-requires : tie.Need-all-in-system-requires
-all-in-system-requires c κs = counted _ _ (c .before .state-refusal .ensures) (c .if1 .left)
+is-version-requires : tie.Need-is-version-requires
+is-version-requires c κs = search needs
 
 returns-2 : tie.Need-returns-2
 unfolding writeRefusal
 returns-2 c = search (state-later, sentences, comparisons)
 
-image-length-requires : tie.Need-image-length-requires
-image-length-requires c κs = state-sound _ _ (c .before .before .before .state-refusal .ensures) (c .before .before .if1 .left)
+can-hold-requires : tie.Need-can-hold-requires
+can-hold-requires c κs = counted _ _ (c .before .before .before .state-refusal .ensures) (c .before .before .if1 .left)
 
 returns-3 : tie.Need-returns-3
 unfolding writeRefusal
 returns-3 c = search (state-later, sentences, comparisons)
 
+image-length-requires : tie.Need-image-length-requires
+image-length-requires c κs = state-sound _ _ (c .before .before .before .before .before .state-refusal .ensures) (c .before .before .before .before .if1 .left)
+
 returns-4 : tie.Need-returns-4
 unfolding writeRefusal
-returns-4 c = search (state-later, sentences, comparisons)
+returns-4 c = search (state-later, sentences, comparisons, held-goes)
+
+returns-5 : tie.Need-returns-5
+unfolding writeRefusal
+returns-5 c = search (state-later, sentences, comparisons, held-goes)
 
 pub refusal-spec : {M : Type 1} → statement M
 refusal-spec =
@@ -37,8 +45,10 @@ refusal-spec =
     (tie.spec
     state-refusal-requires
     returns
-    all-in-system-requires
+    is-version-requires
     returns-2
-    image-length-requires
+    can-hold-requires
     returns-3
-    returns-4)
+    image-length-requires
+    returns-4
+    returns-5)
