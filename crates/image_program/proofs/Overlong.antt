@@ -12,9 +12,9 @@ use lib.ListN.{length, take}
 use lib.Seq.{getD-take, length-take-le}
 use borrow.Author.Tests.{le-ltb, lt-leb}
 use Rattle.model.specs.Ids.{settingsInRange}
-use Rattle.model.specs.Image.{byteAt, imNodes, imRecords, lengthRight}
+use Rattle.model.specs.Image.{byteAt, imNodes, imLength, lengthRight}
 use Rattle.model.specs.Memory.{Memory}
-use Rattle.model.specs.Refusals.{Sentence, firstTrue, memoryShort, countsWrong, imageRefusal, readRefusal, recordPlace}
+use Rattle.model.specs.Refusals.{Sentence, firstTrue, memoryShort, otherVersion, countsWrong, imageRefusal, readRefusal, recordPlace}
 use Rattle.model.specs.Calls.{refusedAt, readCall}
 use Rattle.model.proofs.Bools.{or-intro-right, not-both}
 use Rattle.model.proofs.Refusals.{numbered, testOf, passed, lacks, lacking}
@@ -24,7 +24,7 @@ use Rattle.model.proofs.Calls.{refused-is}
 -- 3, 4, 5 and then 6, which such an image always meets
 abbrev earlySentences : ℕ → ℕ → ℕ → ℕ → ℕ → List Sentence
 earlySentences first version b d K =
-    (not (eqb first 4), 3) ∷ (not (eqb version 1), 4) ∷ (not (settingsInRange b d K), 5) ∷ (true, 6) ∷ []
+    (not (eqb first 4), 3) ∷ (otherVersion version, 4) ∷ (not (settingsInRange b d K), 5) ∷ (true, 6) ∷ []
 
 abbrev early : ℕ → ℕ → ℕ → ℕ → ℕ → ℕ
 early first version b d K = firstTrue (earlySentences first version b d K)
@@ -38,7 +38,7 @@ module _ (im : List ℕ) (long : 65536 ≤ length im) where
   wrong =
       or-intro-right (ltb (length im) 6) _
       (or-intro-right (eqb (imNodes im) 0) _
-      (or-intro-right (ltb 64 (imNodes im)) _ (ap not (go (leb (8 + 4 * imNodes im) (length im)) (eqb (length im) (8 + 4 * imNodes im + 4 * imRecords im))))))
+      (or-intro-right (ltb 64 (imNodes im)) _ (ap not (go (leb (8 + 4 * imNodes im) (length im)) (eqb (length im) (imLength im))))))
     where
       go : (a b : Bool) → (a && (b && leb (length im) 65535)) ≡ false
       go true true = lt-leb (length im) 65535 (omega arith)

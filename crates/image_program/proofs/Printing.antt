@@ -10,8 +10,7 @@ use Rattle.model.specs.Memory.{Memory}
 use Rattle.model.specs.Refusals.{readRefusal}
 use Rattle.model.specs.Calls.{Outcome, taken, readCall}
 use Rattle.model.proofs.Sound.{Sound}
-use Rattle.model.proofs.LoadingIsSound.{loaded-ok}
-use Rattle.model.proofs.Taken.{read-taken}
+use Rattle.model.proofs.ReadingIsSound as reading
 use Rattle.model.proofs.Calls.{taken-is, taken-zero}
 use Rattle.putting.specs.Put.{Put}
 use Rattle.putting.proofs.Putting.{put-then}
@@ -52,9 +51,8 @@ module _ (m : Memory) (im : List ℕ) (m₁ : Memory) (r place : ℕ) (e : recor
   unfolding readCall taken
   read-sound z =
       let free : readRefusal m im ≡ 0 = taken-zero m (readRefusal m im) [] _ _ (eq-eqb _ 0 (number ∙ z)) in
-      let k = read-taken m im free in
       subst (λ (m : Memory). Sound (m .state) (m .tables)) (ap (λ (o : Outcome). o .memory) (sym (taken-is _ _ _ free)) ∙ sym memory-read)
-      (loaded-ok (m .state) (m .tables) im (k .0) (k .1))
+      (reading.read-sound m im free)
 
   module _ (refusal : List ℕ → List ℕ) (text : Memory → List ℕ) (o p : List ℕ) (end : ℕ) where
     pub image-refused : (r ≡ 0 → ⊥) → Put o 0 (refusal (r ∷ place ∷ [])) p end → Put o 0 (imageText refusal text m im) p end

@@ -26,7 +26,7 @@ unfolding Reached play
 turn Nothing m m₁ e = none m m₁ e
 turn Unknown m m₁ e = none m m₁ e
 turn (Call c) m m₁ e = (called [] [] c ∷ [], refl, e)
-turn Save m m₁ (out, e) = (book.write out ∷ [], (out, refl), e)
+turn (Save version) m m₁ (out, e) = (book.write version out ∷ [], (out, refl), e)
 turn Load m m₁ (inl e) = ([], inl refl, e)
 turn Load m m₁ (inr (image, e)) = (book.read image ∷ [], inr (image, refl), e)
 turn Trace m m₁ (inl e) = ([], inl refl, e)

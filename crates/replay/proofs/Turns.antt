@@ -115,8 +115,8 @@ module _ (m : Memory) (number : ℕ) (command : Command) where
   pub unknown-leaves : command ≡ is.Unknown → m ≡ commandAfter m command
   unknown-leaves e = leaves is.Unknown e m refl
 
-  pub save-leaves : command ≡ is.Save → m ≡ commandAfter m command
-  save-leaves e = leaves is.Save e m refl
+  pub save-leaves : (v : ℕ) → command ≡ is.Save v → m ≡ commandAfter m command
+  save-leaves v e = leaves (is.Save v) e m refl
 
   pub load-leaves : command ≡ is.Load → m ≡ commandAfter m command
   load-leaves e = leaves is.Load e m refl
@@ -148,8 +148,8 @@ module _ (m : Memory) (number : ℕ) (command : Command) where
     pub nothing-says : command ≡ is.Nothing → Put o 0 (commandSaid m number command) o 0
     nothing-says e = says is.Nothing e o o 0 (put-none o 0 (omega arith))
 
-    pub save-says : command ≡ is.Save → Put o 0 (commandSaid m number command) o 0
-    save-says e = says is.Save e o o 0 (put-none o 0 (omega arith))
+    pub save-says : (v : ℕ) → command ≡ is.Save v → Put o 0 (commandSaid m number command) o 0
+    save-says v e = says (is.Save v) e o o 0 (put-none o 0 (omega arith))
 
     pub load-says : command ≡ is.Load → Put o 0 (commandSaid m number command) o 0
     load-says e = says is.Load e o o 0 (put-none o 0 (omega arith))
@@ -161,8 +161,8 @@ module _ (line : List ℕ) (m m₁ : Memory) (command : Command) (e : command �
   by-command : (c : Command) → command ≡ c → Turn c m m₁ → Turn (commandOf line) m m₁
   by-command c f turn = subst (λ (c : Command). Turn c m m₁) (sym f ∙ e) turn
 
-  pub line-save : command ≡ is.Save → Saved m m₁ → Turn (commandOf line) m m₁
-  line-save f h = by-command is.Save f h
+  pub line-save : (v : ℕ) → command ≡ is.Save v → Saved v m m₁ → Turn (commandOf line) m m₁
+  line-save v f h = by-command (is.Save v) f h
 
   pub line-load : command ≡ is.Load → Loaded m m₁ → Turn (commandOf line) m m₁
   line-load f h = by-command is.Load f h

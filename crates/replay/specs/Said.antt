@@ -38,7 +38,7 @@ abbrev pub commandSaid : Memory → ℕ → Command → List ℕ
 commandSaid m number Nothing = []
 commandSaid m number Unknown = unknownSaid number
 commandSaid m number (Call c) = said (digits (m .state)) [] c (padded (step m (called [] [] c) .answer))
-commandSaid m number Save = []
+commandSaid m number (Save version) = []
 commandSaid m number Load = []
 commandSaid m number Trace = []
 commandSaid m number Panel = panelSaid m
@@ -49,7 +49,7 @@ abbrev pub commandAfter : Memory → Command → Memory
 commandAfter m Nothing = m
 commandAfter m Unknown = m
 commandAfter m (Call c) = after m (called [] [] c)
-commandAfter m Save = m
+commandAfter m (Save version) = m
 commandAfter m Load = m
 commandAfter m Trace = m
 commandAfter m Panel = m

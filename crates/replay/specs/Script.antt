@@ -28,8 +28,8 @@ linesOf [] = []
 linesOf (b ∷ bs) = let more = linesOf bs in cond (eqb b 10) ([] ∷ more) (inFront b more)
 
 -- the image was written to some memory
-abbrev pub Saved : Memory → Memory → Type 0
-Saved m m₁ = (out : List ℕ) × (m₁ ≡ after m (book.write out))
+abbrev pub Saved : ℕ → Memory → Memory → Type 0
+Saved version m m₁ = (out : List ℕ) × (m₁ ≡ after m (book.write version out))
 
 -- a call was played, of the bytes of some file, or nothing was done
 abbrev pub FilePlayed : calls.Call → Memory → Memory → Type 0
@@ -48,7 +48,7 @@ abbrev pub Turn : Command → Memory → Memory → Type 0
 Turn Nothing m m₁ = m₁ ≡ m
 Turn Unknown m m₁ = m₁ ≡ m
 Turn (Call c) m m₁ = m₁ ≡ after m (called [] [] c)
-Turn Save m m₁ = Saved m m₁
+Turn (Save version) m m₁ = Saved version m m₁
 Turn Load m m₁ = Loaded m m₁
 Turn Trace m m₁ = Traced m m₁
 Turn Panel m m₁ = m₁ ≡ m
@@ -66,7 +66,7 @@ abbrev pub Calls : Command → List book.Call → Type 0
 Calls Nothing cs = cs ≡ []
 Calls Unknown cs = cs ≡ []
 Calls (Call c) cs = cs ≡ called [] [] c ∷ []
-Calls Save cs = (out : List ℕ) × (cs ≡ book.write out ∷ [])
+Calls (Save version) cs = (out : List ℕ) × (cs ≡ book.write version out ∷ [])
 Calls Load cs = (cs ≡ []) ⊎ ((image : List ℕ) × (cs ≡ book.read image ∷ []))
 Calls Trace cs = (cs ≡ []) ⊎ ((trace : List ℕ) × (cs ≡ book.trace trace ∷ []))
 Calls Panel cs = cs ≡ []

@@ -17,13 +17,14 @@ fn keep(path: &[u8], image: &[u8]) -> bool {
     is_written
 }
 
-pub fn save(state: &mut [u64], tables: &mut [u8], path: &[u8])
-    ensures { λ r. ⌜ Saved (memory (now (state .entry)) (now (tables .entry))) (memory (now (state .exit)) (now (tables .exit))) ⌝ }
+pub fn save(state: &mut [u64], tables: &mut [u8], path: &[u8], version: u64)
+    ensures { λ r. ⌜ Saved version (memory (now (state .entry)) (now (tables .entry))) (memory (now (state .exit)) (now (tables .exit))) ⌝ }
 {
     let none = [0u8; 0];
     let mut image = [0u8; 65536];
     let mut words = [0u8; 1024];
-    let r = played(state, tables, &none, &mut image, Call::Write, &mut words);
+    let call = Call::Write(version);
+    let r = played(state, tables, &none, &mut image, call, &mut words);
     let w = r.answer;
     if w.refusal == 0 {
         if !keep(path, part(&image, 0, w.fields[0] as usize)) {

@@ -113,7 +113,7 @@ pub fn command(
         Command::Nothing => return 0,
         Command::Unknown => return unknown(number, words),
         Command::Call(c) => return call(state, tables, c, words),
-        Command::Save => return 0,
+        Command::Save(_) => return 0,
         Command::Load => return 0,
         Command::Trace => return 0,
         Command::Panel => return panel(state, tables, words),

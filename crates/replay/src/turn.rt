@@ -29,7 +29,9 @@ pub fn line(state: &mut [u64], tables: &mut [u8], text: &[u8], number: u64)
         Command::Nothing => return plain(state, tables, command, number),
         Command::Unknown => return plain(state, tables, command, number),
         Command::Call(_) => return plain(state, tables, command, number),
-        Command::Save => return files::save(state, tables, words::word(text, 1)),
+        Command::Save(version) => {
+            return files::save(state, tables, words::word(text, 1), version);
+        }
         Command::Load => return files::load(state, tables, words::word(text, 1)),
         Command::Trace => return files::trace(state, tables, words::word(text, 1)),
         Command::Panel => return plain(state, tables, command, number),

@@ -17,7 +17,7 @@ called file out (Deliver x y) = book.deliver x y
 called file out (Lookup u z failed) = book.lookup u z failed
 called file out (Survey failed) = book.survey failed
 called file out Verdict = book.verdict
-called file out Write = book.write out
+called file out (Write version) = book.write version out
 called file out Trace = book.trace file
 called file out Sound = book.sound
 
@@ -31,6 +31,6 @@ outAfter m out (Deliver x y) = out
 outAfter m out (Lookup u z failed) = out
 outAfter m out (Survey failed) = out
 outAfter m out Verdict = out
-outAfter m out Write = writeCall m out .out
+outAfter m out (Write version) = writeCall m version out .out
 outAfter m out Trace = out
 outAfter m out Sound = out

@@ -92,11 +92,11 @@ fn read(state: &mut [u64], tables: &mut [u8], image: &[u8]) -> Words
     first_fields(r.refusal, r.place, 0, 0, 0)
 }
 
-fn write(state: &[u64], tables: &[u8], out: &mut [u8]) -> Words
-    ensures { λ r. ⌜ shown (memory (now (state .entry)) (now (tables .entry))) r ≡ playing (writeCall (memory (now (state .entry)) (now (tables .entry))) (now (out .entry))) ⌝ }
-    ensures { λ r. ⌜ now (out .exit) ≡ writeCall (memory (now (state .entry)) (now (tables .entry))) (now (out .entry)) .out ⌝ }
+fn write(state: &[u64], tables: &[u8], version: u64, out: &mut [u8]) -> Words
+    ensures { λ r. ⌜ shown (memory (now (state .entry)) (now (tables .entry))) r ≡ playing (writeCall (memory (now (state .entry)) (now (tables .entry))) version (now (out .entry))) ⌝ }
+    ensures { λ r. ⌜ now (out .exit) ≡ writeCall (memory (now (state .entry)) (now (tables .entry))) version (now (out .entry)) .out ⌝ }
 {
-    let r = writing::write(state, tables, out);
+    let r = writing::write(state, tables, version, out);
     first_fields(r.refusal, r.bytes, 0, 0, 0)
 }
 
@@ -129,7 +129,7 @@ pub fn play(state: &mut [u64], tables: &mut [u8], file: &[u8], out: &mut [u8], c
         Call::Lookup(from, to, failed) => return lookup(state, tables, from, to, failed),
         Call::Survey(failed) => return survey(state, tables, failed),
         Call::Verdict => return verdict(state, tables),
-        Call::Write => return write(state, tables, out),
+        Call::Write(version) => return write(state, tables, version, out),
         Call::Trace => return trace(state, tables, file),
         Call::Sound => return sound(state, tables),
     }

@@ -30,11 +30,11 @@ module _ (n : ℕ) (o : List ℕ) (a : ℕ) (f : a ≤ length o) where
   no-sentence-from-9 h₁ h₂ h₃ h₄ h₅ h₆ h₇ h₈ =
       rw (ne-eqb n 9 h₁, ne-eqb n 10 h₂, ne-eqb n 11 h₃, ne-eqb n 12 h₄, ne-eqb n 13 h₅, ne-eqb n 14 h₆, ne-eqb n 15 h₇, ne-eqb n 16 h₈) (put-none o a f)
 
-  pub no-sentence-from-17 : (first : ℕ) → (n ≡ 17 → ⊥) → (n ≡ 18 → ⊥) → (n ≡ 19 → ⊥) → (n ≡ 20 → ⊥) → (n ≡ 21 → ⊥) → (n ≡ 22 → ⊥) → (n ≡ 23 → ⊥)
+  pub no-sentence-from-17 : (first : ℕ) → (n ≡ 17 → ⊥) → (n ≡ 18 → ⊥) → (n ≡ 19 → ⊥) → (n ≡ 20 → ⊥) → (n ≡ 21 → ⊥) → (n ≡ 22 → ⊥) → (n ≡ 23 → ⊥) → (n ≡ 24 → ⊥)
       → Put o a (sentenceFrom17 n first) o a
   unfolding sentenceFrom17
-  no-sentence-from-17 first h₁ h₂ h₃ h₄ h₅ h₆ h₇ =
-      rw (ne-eqb n 17 h₁, ne-eqb n 18 h₂, ne-eqb n 19 h₃, ne-eqb n 20 h₄, ne-eqb n 21 h₅, ne-eqb n 22 h₆, ne-eqb n 23 h₇) (put-none o a f)
+  no-sentence-from-17 first h₁ h₂ h₃ h₄ h₅ h₆ h₇ h₈ =
+      rw (ne-eqb n 17 h₁, ne-eqb n 18 h₂, ne-eqb n 19 h₃, ne-eqb n 20 h₄, ne-eqb n 21 h₅, ne-eqb n 22 h₆, ne-eqb n 23 h₇, ne-eqb n 24 h₈) (put-none o a f)
 
   pub no-place : (first second : ℕ) → first ≡ 0 → Put o a (placeText n first second) o a
   unfolding placeText

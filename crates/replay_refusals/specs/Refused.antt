@@ -11,7 +11,7 @@ sentenceTo8 n =
     cond (eqb n 1) (ascii "the lent memory is too short")
     (cond (eqb n 2) (ascii "the state is not sound")
     (cond (eqb n 3) (ascii "the image has fewer than 5 bytes or does not begin with 4")
-    (cond (eqb n 4) (ascii "the image's version is not 1")
+    (cond (eqb n 4) (ascii "the version is neither 1 nor 2")
     (cond (eqb n 5) (ascii "a setting is out of range")
     (cond (eqb n 6) (ascii "the image's node count is wrong, or its length differs from its counts")
     (cond (eqb n 7) (ascii "an id has a digit not below the base, or a bit above its digits")
@@ -40,7 +40,8 @@ sentenceFrom17 n first =
     (cond (eqb n 20) (ascii "the node is settled or notifying")
     (cond (eqb n 21) (ascii "the start or the destination has failed")
     (cond (eqb n 22) (ascii "the trace is empty, a path's count is not 1 to 9, or the length does not fit")
-    (cond (eqb n 23) (ascii "the step goes to no node of the lookup's entry, or past the destination") []))))))
+    (cond (eqb n 23) (ascii "the step goes to no node of the lookup's entry, or past the destination")
+    (cond (eqb n 24) (ascii "the image's state is not sound") [])))))))
 
 -- a number that no sentence has is left without words
 unfoldable pub sentence : ℕ → ℕ → List ℕ

@@ -21,7 +21,7 @@ fn to_8(out: &mut [u8], at: usize, number: u64) -> usize
                 b"the image has fewer than 5 bytes or does not begin with 4",
             );
         }
-        Refusal::IMAGE_VERSION => return piece(out, at, b"the image's version is not 1"),
+        Refusal::IMAGE_VERSION => return piece(out, at, b"the version is neither 1 nor 2"),
         Refusal::BAD_SETTING => return piece(out, at, b"a setting is out of range"),
         Refusal::IMAGE_COUNTS => {
             return piece(
@@ -116,6 +116,7 @@ fn from_17(out: &mut [u8], at: usize, number: u64, first: u64) -> usize
                 b"the step goes to no node of the lookup's entry, or past the destination",
             );
         }
+        Refusal::UNSOUND_IMAGE => return piece(out, at, b"the image's state is not sound"),
         _ => return at,
     }
 }

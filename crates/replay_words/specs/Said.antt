@@ -68,7 +68,7 @@ takenText d file (Deliver x y) w = deliverText w
 takenText d file (Lookup u z failed) w = lookupText w
 takenText d file (Survey failed) w = surveySaid d (drop 1 w)
 takenText d file Verdict w = judgedText w
-takenText d file Write w = bytesText (ascii "save: ") (getD w 1 0)
+takenText d file (Write version) w = bytesText (ascii "save: ") (getD w 1 0)
 takenText d file Trace w = pathsText (pathCount file)
 takenText d file Sound w = ascii "sound: the state is sound\n"
 

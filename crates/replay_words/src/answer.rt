@@ -154,7 +154,7 @@ fn taken(out: &mut [u8], digits: usize, file: &[u8], call: Call, w: Words) -> us
         Call::Lookup(_, _, _) => return looked_up(out, w),
         Call::Survey(_) => return replay_survey::put(out, digits, w.fields),
         Call::Verdict => return judged(out, w),
-        Call::Write => return bytes(out, b"save: ", w.fields[0]),
+        Call::Write(_) => return bytes(out, b"save: ", w.fields[0]),
         Call::Trace => return traced(out, file),
         Call::Sound => return piece(out, 0, b"sound: the state is sound\n"),
     }

@@ -7,11 +7,11 @@ use Rattle.text.specs.Ascii.{ascii}
 use Rattle.script.specs.Words.{isBlank, isSolid, isHash, until, beforeComment, fromWord, toBlank, fromBlank, firstWord, behindWord, isEmpty, wordless, sameText, starts, afterWords, behind}
 use Rattle.script.specs.Numbers.{digit, areDigits, valueFrom, isNumber, valueOf, numberOf, hexadecimalOf}
 use Rattle.script.specs.Failed.{addNumber, addWords, failedIn, failedOf}
-use Rattle.script.specs.Commands.{endsWith, ofNode, ofFile, found, begin, deliver, lookup, survey, fileOrShown, commandOf}
+use Rattle.script.specs.Commands.{endsWith, ofNode, ofFile, found, begin, deliver, lookup, survey, save, fileOrShown, commandOf}
 use Rattle.script.specs.declared.command.Command.the-variants.{Nothing, Unknown, Call, Save, Trace, Panel, Table}
 
 unfoldable computing : Unit {0}
-unfolding isBlank isSolid isHash until beforeComment fromWord toBlank fromBlank firstWord behindWord isEmpty wordless sameText starts afterWords behind digit areDigits valueFrom isNumber valueOf numberOf hexadecimalOf hasNode addNode addNumber addWords failedIn failedOf endsWith ofNode ofFile found begin deliver lookup survey fileOrShown commandOf
+unfolding isBlank isSolid isHash until beforeComment fromWord toBlank fromBlank firstWord behindWord isEmpty wordless sameText starts afterWords behind digit areDigits valueFrom isNumber valueOf numberOf hexadecimalOf hasNode addNode addNumber addWords failedIn failedOf endsWith ofNode ofFile found begin deliver lookup survey save fileOrShown commandOf
 computing = tt
 
 pub founding : commandOf (ascii "found 16 8 4 0fFfffffF") ≡ Call (call.Found 16 8 4 4294967295)
@@ -78,9 +78,17 @@ pub number-of-65-bits : commandOf (ascii "table 18446744073709551616") ≡ Unkno
 unfolding computing
 number-of-65-bits = refl
 
-pub file : commandOf (ascii "save network") ≡ Save
+pub file : commandOf (ascii "save network") ≡ Save 1
 unfolding computing
 file = refl
+
+pub file-version : commandOf (ascii "save network 2") ≡ Save 2
+unfolding computing
+file-version = refl
+
+pub no-version : commandOf (ascii "save network two") ≡ Unknown
+unfolding computing
+no-version = refl
 
 pub tracing : commandOf (ascii "trace\tpaths # of a router") ≡ Trace
 unfolding computing

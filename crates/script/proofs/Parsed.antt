@@ -8,7 +8,7 @@ use Rattle.text.specs.Ascii.{ascii}
 use Rattle.script.specs.Words.{behind, word, ends, named}
 use Rattle.script.specs.Numbers.{decimalOf, hexadecimalOf}
 use Rattle.script.specs.Failed.{failedOf}
-use Rattle.script.specs.Commands.{endsWith, ofNode, ofFile, found, begin, withdraw, deliver, lookup, survey, table, fileOrShown, commandOf}
+use Rattle.script.specs.Commands.{endsWith, ofNode, ofFile, found, begin, withdraw, deliver, lookup, survey, table, save, fileOrShown, commandOf}
 use Rattle.script.specs.declared.numbers.Number.{Number}
 use Rattle.script.specs.declared.numbers.Number.the-variants as number
 use Rattle.script.specs.declared.numbers.Id.{Id}
@@ -35,6 +35,21 @@ module _ (line : List ℕ) (c : Command) (r : Bool) (e : r ≡ ends 1 line) wher
   pub file-named : (x : Command) → r ≡ false → x ≡ endsWith 2 line c → x ≡ ofFile line c
   unfolding ofFile
   file-named x h q = rw (sym e ∙ h) q
+
+-- the version that stands behind the file's name
+module _ (line : List ℕ) (r : Bool) (e : r ≡ ends 2 line) where
+  pub version-left : (x : Command) → r ≡ true → x ≡ ofFile line (Save 1) → x ≡ save line
+  unfolding save
+  version-left x h q = rw (sym e ∙ h) q
+
+  module _ (h : r ≡ false) (a : Number) (p : a ≡ decimalOf (word 2 line)) where
+    pub version-none : a ≡ number.Not → Unknown ≡ save line
+    unfolding save
+    version-none g = rw (sym e ∙ h, sym p ∙ g)
+
+    pub version-is : (n : ℕ) (x : Command) → a ≡ number.Is n → x ≡ endsWith 3 line (Save n) → x ≡ save line
+    unfolding save
+    version-is n x g q = rw (sym e ∙ h, sym p ∙ g) q
 
 -- ---- the arguments of a command
 
@@ -128,9 +143,9 @@ module _ (line text : List ℕ) (f : Number) (e : text ≡ behind 1 line) (p : f
 
 module _ (line : List ℕ) where
   module _ (a : Bool) (p : a ≡ named line (ascii "save")) where
-    pub save-is : (x : Command) → a ≡ true → x ≡ ofFile line Save → x ≡ fileOrShown line
+    pub save-named : (x : Command) → a ≡ true → x ≡ save line → x ≡ fileOrShown line
     unfolding fileOrShown
-    save-is x h e = rw (sym p ∙ h) e
+    save-named x h e = rw (sym p ∙ h) e
 
     module _ (q : a ≡ false) (b : Bool) (p₂ : b ≡ named line (ascii "load")) where
       pub load-is : (x : Command) → b ≡ true → x ≡ ofFile line Load → x ≡ fileOrShown line

@@ -69,10 +69,14 @@ table line = ofNode line Table
 unfoldable pub ofFile : List ℕ → Command → Command
 ofFile line c = cond (ends 1 line) Unknown (endsWith 2 line c)
 
+-- saving: word 1 names the file, and word 2, where there is one, the version; without it the version is 1
+unfoldable pub save : List ℕ → Command
+save line = cond (ends 2 line) (ofFile line (Save 1)) (withNumber 2 line (λ version. endsWith 3 line (Save version)))
+
 -- the commands that need a file, and those that show records
 unfoldable pub fileOrShown : List ℕ → Command
 fileOrShown line =
-    cond (named line (ascii "save")) (ofFile line Save)
+    cond (named line (ascii "save")) (save line)
     (cond (named line (ascii "load")) (ofFile line Load)
     (cond (named line (ascii "trace")) (ofFile line Trace)
     (cond (named line (ascii "panel")) (endsWith 1 line Panel)

@@ -1,6 +1,6 @@
 // A line of the script as a command.
 ghost use mathlib.Core.Path.{_≡_};
-ghost use Rattle.script.specs.Commands.{endsWith, ofFile, found, begin, withdraw, deliver, lookup, survey, table, fileOrShown, commandOf};
+ghost use Rattle.script.specs.Commands.{endsWith, ofFile, found, begin, withdraw, deliver, lookup, survey, table, save, fileOrShown, commandOf};
 use crate::failed::failed_of;
 use crate::numbers::Id;
 use crate::numbers::Number;
@@ -17,8 +17,8 @@ pub enum Command {
     // not understood
     Unknown,
     Call(Call),
-    // the file is the line's word 1
-    Save,
+    // the version; of this and the next two the file is the line's word 1
+    Save(u64),
     Load,
     Trace,
     Panel,
@@ -129,12 +129,25 @@ fn of_file(line: &[u8], command: Command) -> Command
     ends_with(line, 2, command)
 }
 
+// The version stands behind the file's name; where it does not, it is 1.
+fn save(line: &[u8]) -> Command
+    ensures { λ r. ⌜ r ≡ save (now (line .entry)) ⌝ }
+{
+    if ends(line, 2) {
+        return of_file(line, Command::Save(1));
+    }
+    let Number::Is(version) = decimal(line, 2) else {
+        return Command::Unknown;
+    };
+    ends_with(line, 3, Command::Save(version))
+}
+
 // The commands that need a file, and those that show records.
 fn file_or_shown(line: &[u8]) -> Command
     ensures { λ r. ⌜ r ≡ fileOrShown (now (line .entry)) ⌝ }
 {
     if named(line, b"save") {
-        return of_file(line, Command::Save);
+        return save(line);
     }
     if named(line, b"load") {
         return of_file(line, Command::Load);

@@ -107,11 +107,26 @@ returns-7 c =
     let P = c .before .before .piece6 .ensures in
     (by-number _ _ 23 (c .before .before .before .before .before .match .keys7) _ _ _ _ P, omega (arith, P .ends))
 
+slice-aggregate-piece-7 : tie.Need-slice-aggregate-piece-7
+slice-aggregate-piece-7 c = search needs
+
+piece-requires-7 : tie.Need-piece-requires-7
+piece-requires-7 c κs = search needs
+
+same-length-8 : tie.Need-same-length-8
+same-length-8 c = search needs
+
 returns-8 : tie.Need-returns-8
 unfolding sentenceFrom17
 returns-8 c =
+    let P = c .before .before .piece7 .ensures in
+    (by-number _ _ 24 (c .before .before .before .before .before .match .keys8) _ _ _ _ P, omega (arith, P .ends))
+
+returns-9 : tie.Need-returns-9
+unfolding sentenceFrom17
+returns-9 c =
     let n = c .match .rest in
-    (no-sentence-from-17 _ _ _ (omega arith) _ (n .0 .0 .0 .0 .0 .0 .1) (n .0 .0 .0 .0 .0 .1) (n .0 .0 .0 .0 .1) (n .0 .0 .0 .1) (n .0 .0 .1) (n .0 .1) (n .1), omega arith)
+    (no-sentence-from-17 _ _ _ (omega arith) _ (n .0 .0 .0 .0 .0 .0 .0 .1) (n .0 .0 .0 .0 .0 .0 .1) (n .0 .0 .0 .0 .0 .1) (n .0 .0 .0 .0 .1) (n .0 .0 .0 .1) (n .0 .0 .1) (n .0 .1) (n .1), omega arith)
 
 pub from-17-spec : {M : Type 1} → statement M
 from-17-spec =
@@ -144,4 +159,8 @@ from-17-spec =
     piece-requires-6
     same-length-7
     returns-7
-    returns-8)
+    slice-aggregate-piece-7
+    piece-requires-7
+    same-length-8
+    returns-8
+    returns-9)

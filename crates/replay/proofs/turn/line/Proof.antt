@@ -52,8 +52,8 @@ same-length-6 c = search needs
 returns-3 : tie.Need-returns-3
 returns-3 c = search line-call
 
-enum-told-4 : tie.Need-enum-told-4
-enum-told-4 c = search needs
+enum-known-command : tie.Need-enum-known-command
+enum-known-command c = search needs
 
 word-requires : tie.Need-word-requires
 word-requires c κs = search needs
@@ -70,8 +70,8 @@ same-length-8 c = search needs
 returns-4 : tie.Need-returns-4
 returns-4 c = search line-save
 
-enum-told-5 : tie.Need-enum-told-5
-enum-told-5 c = search needs
+enum-told-4 : tie.Need-enum-told-4
+enum-told-4 c = search needs
 
 word-requires-2 : tie.Need-word-requires-2
 word-requires-2 c κs = search needs
@@ -88,8 +88,8 @@ same-length-10 c = search needs
 returns-5 : tie.Need-returns-5
 returns-5 c = search line-load
 
-enum-told-6 : tie.Need-enum-told-6
-enum-told-6 c = search needs
+enum-told-5 : tie.Need-enum-told-5
+enum-told-5 c = search needs
 
 word-requires-3 : tie.Need-word-requires-3
 word-requires-3 c κs = search needs
@@ -106,8 +106,8 @@ same-length-12 c = search needs
 returns-6 : tie.Need-returns-6
 returns-6 c = search line-trace
 
-enum-told-7 : tie.Need-enum-told-7
-enum-told-7 c = search needs
+enum-told-6 : tie.Need-enum-told-6
+enum-told-6 c = search needs
 
 plain-requires-4 : tie.Need-plain-requires-4
 plain-requires-4 c κs = search needs
@@ -121,8 +121,8 @@ same-length-14 c = search needs
 returns-7 : tie.Need-returns-7
 returns-7 c = search line-panel
 
-enum-told-8 : tie.Need-enum-told-8
-enum-told-8 c = search needs
+enum-told-7 : tie.Need-enum-told-7
+enum-told-7 c = search needs
 
 plain-requires-5 : tie.Need-plain-requires-5
 plain-requires-5 c κs = search needs
@@ -156,30 +156,30 @@ line-spec =
     same-length-5
     same-length-6
     returns-3
-    enum-told-4
+    enum-known-command
     word-requires
     save-requires
     same-length-7
     same-length-8
     returns-4
-    enum-told-5
+    enum-told-4
     word-requires-2
     load-requires
     same-length-9
     same-length-10
     returns-5
-    enum-told-6
+    enum-told-5
     word-requires-3
     trace-requires
     same-length-11
     same-length-12
     returns-6
-    enum-told-7
+    enum-told-6
     plain-requires-4
     same-length-13
     same-length-14
     returns-7
-    enum-told-8
+    enum-told-7
     plain-requires-5
     same-length-15
     same-length-16

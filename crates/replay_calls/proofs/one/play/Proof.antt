@@ -133,8 +133,8 @@ returns-8 : tie.Need-returns-8
 unfolding step
 returns-8 c = (search plays, search output)
 
-enum-told-3 : tie.Need-enum-told-3
-enum-told-3 c = search needs
+enum-known-call-7 : tie.Need-enum-known-call-7
+enum-known-call-7 c = search needs
 
 write-requires : tie.Need-write-requires
 write-requires c κs = search needs
@@ -152,8 +152,8 @@ returns-9 : tie.Need-returns-9
 unfolding step
 returns-9 c = (search plays, search output)
 
-enum-told-4 : tie.Need-enum-told-4
-enum-told-4 c = search needs
+enum-told-3 : tie.Need-enum-told-3
+enum-told-3 c = search needs
 
 trace-requires : tie.Need-trace-requires
 trace-requires c κs = search needs
@@ -168,8 +168,8 @@ returns-10 : tie.Need-returns-10
 unfolding step
 returns-10 c = (search plays, search output)
 
-enum-told-5 : tie.Need-enum-told-5
-enum-told-5 c = search needs
+enum-told-4 : tie.Need-enum-told-4
+enum-told-4 c = search needs
 
 sound-requires : tie.Need-sound-requires
 sound-requires c κs = search needs
@@ -228,18 +228,18 @@ play-spec =
     same-length-15
     same-length-16
     returns-8
-    enum-told-3
+    enum-known-call-7
     write-requires
     same-length-17
     same-length-18
     same-length-19
     returns-9
-    enum-told-4
+    enum-told-3
     trace-requires
     same-length-20
     same-length-21
     returns-10
-    enum-told-5
+    enum-told-4
     sound-requires
     same-length-22
     same-length-23

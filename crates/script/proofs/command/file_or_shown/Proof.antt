@@ -1,5 +1,5 @@
 -- `file_or_shown`: one name after the other. Assumes nothing.
-use Rattle.script.proofs.Parsed.{save-is, load-is, trace-is, panel-named, table-named, none-named}
+use Rattle.script.proofs.Parsed.{save-named, load-is, trace-is, panel-named, table-named, none-named}
 use borrow.Author.Needs.{needs}
 use Rattle.script.proofs.command.file_or_shown.Statement.{statement}
 use Rattle.script.proofs.command.file_or_shown.Tie as tie
@@ -10,11 +10,11 @@ slice-aggregate-named c = search needs
 named-requires : tie.Need-named-requires
 named-requires c κs = search needs
 
-of-file-requires : tie.Need-of-file-requires
-of-file-requires c κs = search needs
+save-requires : tie.Need-save-requires
+save-requires c κs = search needs
 
 returns : tie.Need-returns
-returns c = search save-is
+returns c = search save-named
 
 slice-aggregate-named-2 : tie.Need-slice-aggregate-named-2
 slice-aggregate-named-2 c = search needs
@@ -22,8 +22,8 @@ slice-aggregate-named-2 c = search needs
 named-requires-2 : tie.Need-named-requires-2
 named-requires-2 c κs = search needs
 
-of-file-requires-2 : tie.Need-of-file-requires-2
-of-file-requires-2 c κs = search needs
+of-file-requires : tie.Need-of-file-requires
+of-file-requires c κs = search needs
 
 returns-2 : tie.Need-returns-2
 returns-2 c = search load-is
@@ -34,8 +34,8 @@ slice-aggregate-named-3 c = search needs
 named-requires-3 : tie.Need-named-requires-3
 named-requires-3 c κs = search needs
 
-of-file-requires-3 : tie.Need-of-file-requires-3
-of-file-requires-3 c κs = search needs
+of-file-requires-2 : tie.Need-of-file-requires-2
+of-file-requires-2 c κs = search needs
 
 returns-3 : tie.Need-returns-3
 returns-3 c = search trace-is
@@ -73,15 +73,15 @@ file-or-shown-spec =
     (tie.spec
     slice-aggregate-named
     named-requires
-    of-file-requires
+    save-requires
     returns
     slice-aggregate-named-2
     named-requires-2
-    of-file-requires-2
+    of-file-requires
     returns-2
     slice-aggregate-named-3
     named-requires-3
-    of-file-requires-3
+    of-file-requires-2
     returns-3
     slice-aggregate-named-4
     named-requires-4
