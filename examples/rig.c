@@ -1,7 +1,7 @@
-/* A small rig: founds a network, lets seven nodes join it at the same time, delivers until all are in system, withdraws the join of one more that began by
- * the wrong gateway and begins it again, says what each join cost, looks nodes up, asks for the verdict and the hop survey, does both once more around a node
- * that has failed, has the trace of a router of its own checked, saves the network as an image and reads it into other memory, after a look whether that
- * holds a network already. README.md has the line that builds it; examples/rig.out is what it prints. */
+/* A small rig: founds a network, lets seven nodes join it at the same time, is switched off and on with those joins under way, delivers until all are in
+ * system, withdraws the join of one more that began by the wrong gateway and begins it again, says what each join cost, looks nodes up, asks for the verdict
+ * and the hop survey, does both once more around a node that has failed, has the trace of a router of its own checked, saves the network as an image and reads
+ * it into other memory, after a look whether that holds a network already. README.md has the line that builds it; examples/rig.out is what it prints. */
 #include <stdio.h>
 #include <stdlib.h>
 #include <string.h>
@@ -45,6 +45,7 @@ static const char *const refusals[] = {
     [OVERLAY_HAS_FAILED] = "the start or the destination has failed",
     [OVERLAY_TRACE_COUNTS] = "the trace's counts and length do not fit",
     [OVERLAY_STEP_NOT_ALLOWED] = "a step that the tables do not allow",
+    [OVERLAY_UNSOUND_IMAGE] = "the image's joins, counts or state are not sound",
 };
 
 /* The refusal of an answer in words; a later version may have more. */
@@ -242,6 +243,19 @@ static void trace_router(const struct network *network, unsigned nodes)
     print_trace(network, "with a path past its destination", trace, length + 4);
 }
 
+/* Saves the network with its joins under way, clears its memory, as if the rig were switched off, and restores it. */
+static void switch_off_and_on(struct network *network)
+{
+    static struct network before;
+    before = *network;
+    print_refusal("saved as version 1", overlay_write(LENT(network), 1, image, sizeof image));
+    uint32_t length = overlay_image_length(taken("write", overlay_write(LENT(network), 2, image, sizeof image)));
+    printf("saved as version 2: an image of %u bytes\n", (unsigned)length);
+    memset(network, 0, sizeof *network);
+    taken("read", overlay_read(LENT(network), image, length));
+    printf("switched off and on: %s\n", memcmp(network, &before, sizeof before) == 0 ? "the same state" : "another state");
+}
+
 /* Exchanges a record of an image with the next. */
 static void exchange(uint8_t *record)
 {
@@ -264,14 +278,14 @@ static void read_disordered(struct network *to, unsigned nodes, uint32_t length)
 /* Saves the one network, of so many nodes, and reads it into the memory of the other. */
 static void save_and_read(const struct network *from, struct network *to, unsigned nodes)
 {
-    uint32_t length = overlay_image_length(taken("write", overlay_write(LENT(from), image, sizeof image)));
+    uint32_t length = overlay_image_length(taken("write", overlay_write(LENT(from), 1, image, sizeof image)));
     printf("saved: an image of %u bytes\n", (unsigned)length);
-    print_refusal("in one byte less", overlay_write(LENT(from), image, length - 1));
+    print_refusal("in one byte less", overlay_write(LENT(from), 1, image, length - 1));
     print_refusal("the other memory", overlay_sound(LENT(to)));
     print_refusal("read without its last byte", overlay_read(LENT(to), image, length - 1));
     read_disordered(to, nodes, length);
     taken("read", overlay_read(LENT(to), image, length));
-    taken("write", overlay_write(LENT(to), again, sizeof again));
+    taken("write", overlay_write(LENT(to), 1, again, sizeof again));
     printf("read, and saved again: %s\n", memcmp(image, again, length) == 0 ? "the same bytes" : "other bytes");
     printf("node %u after reading: requests %u\n", nodes, (unsigned)overlay_requests(to->state, nodes));
 }
@@ -282,6 +296,7 @@ int main(void)
     const unsigned nodes = sizeof ids / sizeof ids[0];
 
     begin_joins(&first, ids, nodes - 1);
+    switch_off_and_on(&first);
     printf("%u deliveries\n", settle(&first, nodes - 1));
     join_again(&first, ids[nodes - 1], 4, 1);
     print_costs(&first, nodes);

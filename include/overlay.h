@@ -11,6 +11,7 @@
  * - state and counts are aligned to 8.
  * - No two lent memories overlap: not state and tables, and neither of them an image, the memory for one, a trace, or counts.
  * - Nobody else writes lent memory during a call, nor reads what the call may write.
+ * - The stack has room: overlay_read takes some 38 KB of it.
  *
  * An answer is one number: bits 0 to 7 are the refusal, 0 for none. On a refusal no byte has changed, and every field that this header reads
  * off the answer is zero, but for the place of a record that reading's refusals 10, 17 and 18 carry, and the path and place that 9 and 23 of a trace
@@ -33,7 +34,7 @@ extern "C" {
 /* ---- version: of this header and of the archive that comes with it; CHANGES.md has a section for each */
 
 #define OVERLAY_VERSION_MAJOR 1
-#define OVERLAY_VERSION_MINOR 8
+#define OVERLAY_VERSION_MINOR 9
 
 /* ---- lengths */
 
@@ -44,8 +45,8 @@ extern "C" {
 #define OVERLAY_MOST_IMAGE_BYTES 65535
 /* The counts of a survey: for 1 to 8 hops, and lost. */
 #define OVERLAY_SURVEY_COUNTS 9
-/* No written image of version 1 is longer: memory of this length is enough for every network. */
-#define OVERLAY_MOST_WRITTEN_BYTES 23816
+/* No written image is longer, of either version: memory of this length is enough for every network. One of version 1 has at most 23816 bytes. */
+#define OVERLAY_MOST_WRITTEN_BYTES 25226
 /* The paths of a trace, and the nodes of a path. */
 #define OVERLAY_MOST_PATHS 255
 #define OVERLAY_MOST_PLACES 9
@@ -57,7 +58,7 @@ extern "C" {
 #define OVERLAY_SHORT_MEMORY 1           /* state or tables are shorter than their fixed length */
 #define OVERLAY_UNSOUND 2                /* the state isn't sound */
 #define OVERLAY_NOT_AN_IMAGE 3           /* fewer than 5 bytes, or the first byte isn't 4 */
-#define OVERLAY_IMAGE_VERSION 4          /* the image's version isn't 1 */
+#define OVERLAY_IMAGE_VERSION 4          /* the image's version, or the one to be written, is neither 1 nor 2 */
 #define OVERLAY_BAD_SETTING 5            /* base 2 to 16, digits 1 to 8, depth 1 to 4 */
 #define OVERLAY_IMAGE_COUNTS 6           /* no node count, or not 1 to 64; a length other than the counts say, or above 65,535 */
 #define OVERLAY_BAD_ID 7                 /* a digit not below the base, or a bit above the digits */
@@ -68,7 +69,7 @@ extern "C" {
 #define OVERLAY_GATEWAY_NOT_IN_SYSTEM 12 /* the gateway isn't in system */
 #define OVERLAY_NOT_OUTSTANDING 13       /* no request from the sender to the receiver is outstanding */
 #define OVERLAY_HELD 14                  /* a waiting sender's receiver isn't in system: the request stays outstanding */
-#define OVERLAY_JOIN_IN_FLIGHT 15        /* a node isn't in system */
+#define OVERLAY_JOIN_IN_FLIGHT 15        /* a node isn't in system (of a verdict, and of writing version 1) */
 #define OVERLAY_SHORT_OUTPUT 16          /* the memory for the image is too short */
 #define OVERLAY_RECORD_NEIGHBOR 17       /* a record's neighbour isn't qualified for its entry, is in it already, or finds it full */
 #define OVERLAY_OWN_ENTRY 18             /* an own entry has no record, or doesn't start with its owner */
@@ -77,6 +78,7 @@ extern "C" {
 #define OVERLAY_HAS_FAILED 21            /* the start or the destination of a lookup has failed */
 #define OVERLAY_TRACE_COUNTS 22          /* an empty trace; a path's count that isn't 1 to 9; a length other than the counts say */
 #define OVERLAY_STEP_NOT_ALLOWED 23      /* a path goes on past its destination, or to no node of the entry that the lookup rule names */
+#define OVERLAY_UNSOUND_IMAGE 24         /* version 2: a join or the counts are listed wrong, or the state that the image gives isn't sound */
 
 /* ---- calls */
 
@@ -84,8 +86,9 @@ extern "C" {
 uint64_t overlay_found(uint64_t *state, size_t state_len, uint8_t *tables, size_t tables_len,
                        uint64_t base, uint64_t digits, uint64_t depth, uint32_t id);
 
-/* Makes the network of an image, whatever the memory held; every node of a version 1 image is in system. The whole image is judged first.
- * Refusals 1, 3 to 10, 17, 18, in this order. 10, 17 and 18 come with the place of the record, by overlay_record. */
+/* Makes the network of an image of either version, whatever the memory held. Of version 1 every node is in system and its counts are zero; version 2 restores
+ * the whole state, joins under way and counts too, and every later answer is as if the run had not been stopped. The whole image is judged first.
+ * Refusals 1, 3 to 10, 17, 18, 24, in this order. 10, 17 and 18 come with the place of the record, by overlay_record. */
 uint64_t overlay_read(uint64_t *state, size_t state_len, uint8_t *tables, size_t tables_len,
                       const uint8_t *image, size_t image_len);
 
@@ -121,10 +124,11 @@ uint64_t overlay_survey(const uint64_t *state, size_t state_len, const uint8_t *
  * falls short, by overlay_short_node, overlay_short_level and overlay_short_digit. Refusals 1, 2, 15. */
 uint64_t overlay_verdict(const uint64_t *state, size_t state_len, const uint8_t *tables, size_t tables_len);
 
-/* Writes the image of the network to out, and changes nothing else: not what is past the image. Answers its length, by
- * overlay_image_length. Refusals 1, 2, 15, 16. */
+/* Writes the image of the network, of this version, to out, and changes nothing else: not what is past the image. Version 1 is for
+ * networks whose nodes are all in system, and leaves the counts out; version 2 holds any sound state whole. Answers its length, by overlay_image_length.
+ * Refusals 1, 2, 4, 15, 16; 15 of version 1 alone. */
 uint64_t overlay_write(const uint64_t *state, size_t state_len, const uint8_t *tables, size_t tables_len,
-                       uint8_t *out, size_t out_len);
+                       uint64_t version, uint8_t *out, size_t out_len);
 
 /* Checks a trace of another router on this network's tables, and changes nothing. A trace is a count byte of paths, and then for each path a count byte, 1
  * to 9, and so many node numbers of one byte, the last being the path's destination. Where its counts are right and every number is a node's, it is accepted,
@@ -207,8 +211,8 @@ static inline uint64_t overlay_only(uint64_t node)
     return node >= 1 && node <= OVERLAY_MOST_NODES ? (uint64_t)1 << (node - 1) : 0;
 }
 
-/* ---- the counts of a node, read off a sound state: what its join cost. They stay when the node is in system; found and read set them to
- * zero, and a join that is withdrawn and begun again counts anew. A number that no node has gives 0, however large it is. These two do not
+/* ---- the counts of a node, read off a sound state: what its join cost. They stay when the node is in system; found, and read of version 1,
+ * set them to zero, read of version 2 restores them, and a join that is withdrawn and begun again counts anew. A number that no node has gives 0, however large it is. These two do not
  * judge the state, as the calls do: of one that is not sound they give the words that stand there. */
 
 /* The copy and wait requests that the node has sent: at most one more than an id has digits. */

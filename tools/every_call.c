@@ -42,7 +42,7 @@ int main(void)
     return !(counts_read() && sets_made() && refused(overlay_found(NONE, NONE, 2, 2, 1, 0)) && refused(overlay_read(NONE, NONE, NONE)) &&
              refused(overlay_begin(NONE, NONE, 0, 1)) && refused(overlay_withdraw(NONE, NONE, 2)) &&
              refused(overlay_deliver(NONE, NONE, 2, 1)) && refused(overlay_lookup(NONE, NONE, 1, 1, 0)) &&
-             refused(overlay_verdict(NONE, NONE)) && refused(overlay_write(NONE, NONE, NONE)) &&
+             refused(overlay_verdict(NONE, NONE)) && refused(overlay_write(NONE, NONE, 2, NONE)) &&
              refused(overlay_sound(NONE, NONE)) && refused(overlay_trace(NONE, NONE, NONE)) &&
              refused(overlay_survey(NONE, NONE, 0, counts)));
 }
