@@ -1,7 +1,7 @@
 //! Times the proved engine beside the second one on the same calls, in one run: `cargo run --release --example bench`.
 //!
 //! A network grows to its size with joins in flight, each of them begun, withdrawn and begun again; then nodes are looked up in it, and it is judged,
-//! surveyed and written, with the counts of its joins, and read back last, as reading sets these to zero. Lookups and surveys are also made while every
+//! surveyed and written, with the counts of its joins, and read back, which in version 1 sets these to zero. Lookups and surveys are also made while every
 //! fourth node has failed. Behind that it is read as version 2, with its counts, and written so: these are the rows `read 2` and `write 2`, which a network
 //! of 64 nodes with joins under way has as well. Traces are checked in a network of their own, in which every path has nine nodes: as many paths as a file
 //! holds, half as many, and none, which leaves the check of the state. The two engines play this in turn for many rounds; a call counts with its shortest

@@ -1,4 +1,4 @@
-//! The images of document 01, and one of document 02.
+//! The images of document 01, and two of version 2.
 
 /// Image E1: two nodes.
 pub const E1: [u8; 40] = [

@@ -49,7 +49,7 @@ fn damaged_counts_are_judged_by_the_sentences() {
 
 /// A settled network whose nodes have any counts that they may have: its image is the same with all of them, and reading it sets them to zero.
 #[test]
-fn an_image_has_no_counts() {
+fn an_image_of_version_1_has_no_counts() {
     let mut written = 0;
     for seed in seeds(0, 60) {
         let mut rng = Rng::new(seed);

@@ -10,7 +10,7 @@ const SENTENCES: [&str; 25] = [
     "the lent memory is too short",
     "the state is not sound",
     "the image has fewer than 5 bytes or does not begin with 4",
-    "the version of the image is neither 1 nor 2",
+    "the version is neither 1 nor 2",
     "a setting is out of range",
     "the image's node count is wrong, or its length differs from its counts",
     "an id has a digit not below the base, or a bit above its digits",
@@ -30,7 +30,7 @@ const SENTENCES: [&str; 25] = [
     "the start or the destination has failed",
     "the trace is empty, a path's count is not 1 to 9, or the length does not fit",
     "the step goes to no node of the lookup's entry, or past the destination",
-    "the image's joins or counts are wrong, or its state is not sound",
+    "the image's state is not sound",
 ];
 
 /// Of 18 without a place.
