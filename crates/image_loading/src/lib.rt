@@ -1,4 +1,4 @@
-// Loading an image of which nothing but 24 may still refuse the state: the state that it gives, in every word and byte of the fixed lengths.
+// Loading an image that nothing but 24 can refuse: the state that it gives, in every word and byte of the fixed lengths.
 ghost use mathlib.Core.Path.{_≡_};
 ghost use mathlib.Core.Bool.{true};
 ghost use Prim.Native.Nat.{_≤_};
