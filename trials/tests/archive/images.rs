@@ -79,6 +79,20 @@ type Made = (fn(&mut Rng) -> Vec<u8>, &'static [usize]);
 /// Of each version.
 const VERSIONS: [Made; 2] = [(image, &READING), (image_2, &READING_2)];
 
+/// Of each version and seed an image that `damage` has read damaged; each answer that reading can give is met.
+fn damaged_of_each_version(first: u64, count: u64, damage: impl Fn(&mut Reader, &mut Rng, &[u8])) {
+    for (made, answers) in VERSIONS {
+        let mut reader = Reader::new();
+        for seed in seeds(first, count) {
+            reader.seed = seed;
+            let mut rng = Rng::new(seed);
+            let image = made(&mut rng);
+            damage(&mut reader, &mut rng, &image);
+        }
+        reader.met_each(answers, 10);
+    }
+}
+
 #[test]
 fn images_of_runs_are_taken_and_written_back() {
     let mut reader = Reader::new();
@@ -108,18 +122,11 @@ fn images_cut_at_every_byte_are_refused() {
 
 #[test]
 fn images_with_each_byte_changed_are_judged_alike() {
-    for (made, answers) in VERSIONS {
-        let mut reader = Reader::new();
-        for seed in seeds(0, 60) {
-            reader.seed = seed;
-            let mut rng = Rng::new(seed);
-            let image = made(&mut rng);
-            if image.len() < 2_000 {
-                reader.read_each(changed_bytes(&mut rng, &image));
-            }
+    damaged_of_each_version(0, 60, |reader, rng, image| {
+        if image.len() < 2_000 {
+            reader.read_each(changed_bytes(rng, image));
         }
-        reader.met_each(answers, 10);
-    }
+    });
 }
 
 /// A few bytes changed at once, so that several sentences may hold.
@@ -139,18 +146,11 @@ fn bytes_changed(rng: &mut Rng, image: &[u8]) -> Vec<u8> {
 
 #[test]
 fn images_with_several_bytes_changed_are_judged_alike() {
-    for (made, answers) in VERSIONS {
-        let mut reader = Reader::new();
-        for seed in seeds(600, 150) {
-            reader.seed = seed;
-            let mut rng = Rng::new(seed);
-            let image = made(&mut rng);
-            for _ in 0..100 {
-                reader.read(&bytes_changed(&mut rng, &image));
-            }
+    damaged_of_each_version(600, 150, |reader, rng, image| {
+        for _ in 0..100 {
+            reader.read(&bytes_changed(rng, image));
         }
-        reader.met_each(answers, 10);
-    }
+    });
 }
 
 #[test]
@@ -169,18 +169,11 @@ fn images_with_records_changed_are_judged_alike() {
 
 #[test]
 fn damaged_images_are_judged_alike() {
-    for (made, answers) in VERSIONS {
-        let mut reader = Reader::new();
-        for seed in seeds(200, 150) {
-            reader.seed = seed;
-            let mut rng = Rng::new(seed);
-            let image = made(&mut rng);
-            for _ in 0..10 {
-                reader.read_each(image_damages(&mut rng, &image));
-            }
+    damaged_of_each_version(200, 150, |reader, rng, image| {
+        for _ in 0..10 {
+            reader.read_each(image_damages(rng, image));
         }
-        reader.met_each(answers, 10);
-    }
+    });
 }
 
 #[test]

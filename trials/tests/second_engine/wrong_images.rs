@@ -155,4 +155,10 @@ impl AfterWriting<'_> {
         out.truncate((answer >> 8) as usize);
         out
     }
+
+    /// Writes another version.
+    pub fn write_other(&mut self, version: u64) {
+        let image = self.other(version);
+        self.write(&image);
+    }
 }

@@ -161,8 +161,7 @@ const REFUSED: [Wrong; 10] = [
         "joins under way are written as version 2 whatever is named",
         |after| {
             if after.answer == 15 {
-                let whole = after.other(2);
-                after.write(&whole);
+                after.write_other(2);
             }
         },
         "in order, round trips",
@@ -180,8 +179,7 @@ const REFUSED: [Wrong; 10] = [
         "the version is cut to a byte",
         |after| {
             if after.answer == 4 && matches!(after.version & 0xff, 1 | 2) {
-                let whole = after.other(after.version & 0xff);
-                after.write(&whole);
+                after.write_other(after.version & 0xff);
             }
         },
         "in order",
@@ -190,8 +188,7 @@ const REFUSED: [Wrong; 10] = [
         "other versions are written as version 2",
         |after| {
             if after.answer == 4 {
-                let whole = after.other(2);
-                after.write(&whole);
+                after.write_other(2);
             }
         },
         "in order",
