@@ -98,6 +98,13 @@ pub struct TraceAnswer {
     pub place: u64,
 }
 
+/// Filling: how many nodes were added to entries.
+#[derive(Clone, Copy, Debug, Default, PartialEq, Eq)]
+pub struct FillAnswer {
+    pub refusal: u8,
+    pub additions: u64,
+}
+
 /// Writing: the image's length.
 #[derive(Clone, Copy, Debug, Default, PartialEq, Eq)]
 pub struct WriteAnswer {
@@ -221,6 +228,19 @@ impl Answer for TraceAnswer {
 
     fn pack(&self) -> u64 {
         packed(self.refusal, &[self.path, self.place])
+    }
+}
+
+impl Answer for FillAnswer {
+    fn refused(refusal: Refusal) -> FillAnswer {
+        FillAnswer {
+            refusal: refusal as u8,
+            ..FillAnswer::default()
+        }
+    }
+
+    fn pack(&self) -> u64 {
+        packed(self.refusal, &[self.additions])
     }
 }
 

@@ -7,6 +7,7 @@ mod answers;
 mod beginning;
 mod consistency;
 mod delivering;
+mod filling;
 mod founding;
 mod joins;
 mod learning;
@@ -26,12 +27,13 @@ mod withdrawing;
 mod writing;
 
 pub use answers::{
-    Answer, BeginAnswer, Counts, DeliverAnswer, FoundAnswer, LookupAnswer, ReadAnswer,
+    Answer, BeginAnswer, Counts, DeliverAnswer, FillAnswer, FoundAnswer, LookupAnswer, ReadAnswer,
     SurveyAnswer, TraceAnswer, VerdictAnswer, WithdrawAnswer, WriteAnswer, LOST,
 };
 pub use beginning::begin;
 pub use consistency::verdict;
 pub use delivering::deliver;
+pub use filling::{fill, MOST_ADDED_BYTES};
 pub use founding::found;
 pub use lookup::{lookup, next_hop, very_hops, NextHop};
 pub use node_set::NodeSet;

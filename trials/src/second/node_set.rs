@@ -24,6 +24,15 @@ impl NodeSet {
         NodeSet(self.0 | other.0)
     }
 
+    pub fn intersection(self, other: NodeSet) -> NodeSet {
+        NodeSet(self.0 & other.0)
+    }
+
+    /// The lowest-numbered node of a set that is not empty.
+    pub fn lowest(self) -> usize {
+        self.0.trailing_zeros() as usize + 1
+    }
+
     pub fn is_empty(self) -> bool {
         self.0 == 0
     }
