@@ -1,6 +1,6 @@
 -- The calls, each from the lent memory and its arguments to the memory after, the output after and the answer. What each does is in document 01
 -- where its subject is, or in a ticket of document 02; what a refusal leaves, in "What a call declines".
-use Prim.Native.Nat.{ℕ, _+_}
+use Prim.Native.Nat.{ℕ, _+_, _/_}
 use mathlib.Core.Bool.{cond}
 use mathlib.Core.List.{List, [], _∷_, _++_}
 use lib.ListN.{length, drop, replicate}
@@ -10,10 +10,11 @@ use Rattle.model.specs.Join.{Delivery, founded, begun, withdrawn, delive
 use Rattle.model.specs.Lookup.{Lookup, lookup}
 use Rattle.model.specs.Survey.{surveyCounts}
 use Rattle.model.specs.Consistency.{Verdict, verdict}
+use Rattle.model.specs.Fill.{Filling, filling}
 use Rattle.model.specs.Image.{imageOf, loaded}
-use Rattle.model.specs.Refusals.{foundRefusal, readRefusal, recordPlace, beginRefusal, withdrawRefusal, deliverRefusal, lookupRefusal, verdictRefusal, writeRefusal, stateRefusal, traceRefusal, tracePlace}
+use Rattle.model.specs.Refusals.{foundRefusal, readRefusal, recordPlace, beginRefusal, withdrawRefusal, deliverRefusal, lookupRefusal, verdictRefusal, fillRefusal, writeRefusal, stateRefusal, traceRefusal, tracePlace}
 
--- what a call leaves: the memory, the memory for output (none but for writing), and the answer's fields, of which the refusal is the first
+-- what a call leaves: the memory, the memory for output (none but for filling and writing), and the answer's fields, of which the refusal is the first
 pub record Outcome : Type 0 where
   pub memory : Memory
   pub out : List ℕ
@@ -90,6 +91,16 @@ verdictFields r = r .consistent ∷ r .node ∷ r .level ∷ r .digit ∷ []
 unfoldable pub verdictCall : Memory → Outcome
 verdictCall m =
     unlessRefused (verdictRefusal m) (refused m [] 4) (taken m [] (verdictFields (verdict (m .state) (m .tables))))
+
+-- the tables filled, the list at the start of the output, and how many additions it has
+unfoldable pub filledBy : Memory → List ℕ → Filling → Outcome
+filledBy m out f =
+    taken (record { state = m .state; tables = f .tables }) (f .list ++ drop (length (f .list)) out) (length (f .list) / 4 ∷ [])
+
+-- answer: the refusal, and how many nodes were added. The output past the list stays as it was.
+unfoldable pub fillCall : Memory → List ℕ → Outcome
+fillCall m out =
+    unlessRefused (fillRefusal m out) (refused m out 1) (filledBy m out (filling (m .state) (m .tables)))
 
 -- answer: the refusal and the length. The output past the image stays as it was.
 unfoldable pub writeCall : Memory → ℕ → List ℕ → Outcome

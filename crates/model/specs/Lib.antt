@@ -15,6 +15,7 @@ pub mod Join
 pub mod Lookup
 pub mod Survey
 pub mod Consistency
+pub mod Fill
 pub mod Image
 pub mod Traces
 pub mod Refusals

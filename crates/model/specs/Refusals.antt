@@ -1,4 +1,4 @@
--- The refusals: document 01, "What a call declines", and document 02, Tickets 2, 5, 6, 8 and 9. Each call has its own sentences, in the papers' order.
+-- The refusals: document 01, "What a call declines", and document 02, Tickets 2, 5, 6, 8, 9 and 10. Each call has its own sentences, in the papers' order.
 use Prim.Native.Nat.{ℕ, _+_}
 use mathlib.Core.Bool.{Bool, cond, not, _&&_, _||_}
 use mathlib.Core.List.{List, [], _∷_, _++_}
@@ -11,6 +11,7 @@ use Rattle.model.specs.Nodes.{isNode, allNodes, anyNode}
 use Rattle.model.specs.Sound.{sound}
 use Rattle.model.specs.Join.{outstanding}
 use Rattle.model.specs.Lookup.{endFailed}
+use Rattle.model.specs.Fill.{filling}
 use Rattle.model.specs.Image.{isVersion, hasJoins, byteAt, imVersion, imBase, imDigits, imDepth, imNodes, imRecords, lengthRight, imIdValid, imIdNew, recNodesGood}
 use Rattle.model.specs.Image.{recOrdered, recAllowed, recOwnerFirst, recordsOrdered, recordsAllowed, ownPresent, recordsOwned, joinsListed, held, imageOf}
 use Rattle.model.specs.Traces.{pathCount, placeCount, stepCount, traceCountsWrong, placeNamed, stepAllowed, placesNamed, stepsAllowed, firstFault}
@@ -163,6 +164,14 @@ verdictSentences s = (someNotInSystem s, 15) ∷ []
 
 unfoldable pub verdictRefusal : Memory → ℕ
 verdictRefusal m = firstTrue (stateSentences m ++ verdictSentences (m .state))
+
+-- 15; 16, the list of additions is longer than the memory for it
+abbrev pub fillSentences : Memory → List ℕ → List Sentence
+fillSentences m out =
+    (someNotInSystem (m .state), 15) ∷ (ltb (length out) (length (filling (m .state) (m .tables) .list)), 16) ∷ []
+
+unfoldable pub fillRefusal : Memory → List ℕ → ℕ
+fillRefusal m out = firstTrue (stateSentences m ++ fillSentences m out)
 
 -- 4; 15, of version 1; 16, the image is longer than the memory for it
 abbrev pub writeSentences : Memory → ℕ → List ℕ → List Sentence

@@ -7,7 +7,7 @@ use lib.ListN.{getD}
 use lib.Dec.{eqb}
 use Rattle.model.specs.Memory.{Memory}
 use Rattle.model.specs.Join.{kindCopied, kindSentOn, kindNotified}
-use Rattle.model.specs.Calls.{Outcome, foundCall, readCall, beginCall, withdrawCall, deliverCall, lookupCall, surveyCall, verdictCall, writeCall, traceCall, soundCall}
+use Rattle.model.specs.Calls.{Outcome, foundCall, readCall, beginCall, withdrawCall, deliverCall, lookupCall, surveyCall, verdictCall, fillCall, writeCall, traceCall, soundCall}
 
 -- a call with its arguments
 pub data Call : Type 0 where
@@ -26,6 +26,8 @@ pub data Call : Type 0 where
   -- the set of failed nodes
   survey : ℕ → Call
   verdict : Call
+  -- the memory for the list
+  fill : List ℕ → Call
   -- the version, the memory for output
   write : ℕ → List ℕ → Call
   -- the trace
@@ -42,6 +44,7 @@ step m (deliver x y) = deliverCall m x y
 step m (lookup u z failed) = lookupCall m u z failed
 step m (survey failed) = surveyCall m failed
 step m verdict = verdictCall m
+step m (fill out) = fillCall m out
 step m (write version out) = writeCall m version out
 step m (trace file) = traceCall m file
 step m sound = soundCall m
@@ -78,6 +81,7 @@ isStart (deliver x y) = false
 isStart (lookup u z failed) = false
 isStart (survey failed) = false
 isStart verdict = false
+isStart (fill out) = false
 isStart (write version out) = false
 isStart (trace file) = false
 isStart sound = false
@@ -108,6 +112,7 @@ tallied first counts x (deliver y z) answer n = cond (eqb y x && counts (getD an
 tallied first counts x (lookup u z failed) answer n = n
 tallied first counts x (survey failed) answer n = n
 tallied first counts x verdict answer n = n
+tallied first counts x (fill out) answer n = n
 tallied first counts x (write version out) answer n = n
 tallied first counts x (trace file) answer n = n
 tallied first counts x sound answer n = n
