@@ -62,6 +62,7 @@ pub mod Lookup
 pub mod Survey
 pub mod Consistency
 pub mod NoRoom
+pub mod Filling
 pub mod MayGo
 pub mod Failures
 pub mod HopsUnchanged

@@ -52,7 +52,7 @@ module _ (K : ℕ) (T : List ℕ) (i j : ℕ) where
   same-place : (y z : ℕ) → holds K T i j y ≡ true → holds K T i j z ≡ true → place y ≡ place z → y ≡ z
   same-place y z e f q = sym (held-place y e .1) ∙ ap (slotAt T i j) q ∙ held-place z f .1
 
-  held-no-room : (z : ℕ) → holds K T i j z ≡ true → roomFor K T i j z ≡ false
+  pub held-no-room : (z : ℕ) → holds K T i j z ≡ true → roomFor K T i j z ≡ false
   unfolding roomFor
   held-no-room z e = ap (λ (b : Bool). not b && ltb (entrySize K T i j) K) e
 
@@ -242,7 +242,7 @@ module _ (s t : List ℕ) (S : Sound s t) where
             (omega (arith, w, size-is-length s t S u i j nu hi hj, another z nz qual e))
 
     -- and one without room for any holds what it must
-    entry-whole : ((z : ℕ) → IsNode s z → qualifies s u i j z ≡ true → roomFor (depth s) (tableOf t u) i j z ≡ false)
+    pub entry-whole : ((z : ℕ) → IsNode s z → qualifies s u i j z ≡ true → roomFor (depth s) (tableOf t u) i j z ≡ false)
         → entrySize (depth s) (tableOf t u) i j ≡ min (depth s) (howMany s u i j)
     unfolding entryWhole howMany
     entry-whole none = ⊎-elim (eqb-true _ _) (λ e. absurd (short e)) (true-or-false (entryWhole s t u i j))
