@@ -190,4 +190,8 @@ impl Engine for Archive {
             interface::overlay_trace(state, words, tables, bytes, trace.as_ptr(), trace.len())
         }
     }
+
+    fn fill(&self, _: &mut [u64], _: &mut [u8], _: &mut [u8]) -> u64 {
+        unimplemented!("the archive does not have it yet")
+    }
 }

@@ -1,19 +1,21 @@
 //! One script on two engines: every answer, every byte of memory, output and counts after every call, what any
 //! engine must leave alone, what a refusal may have beside its number, that a lookup is between nodes that have not failed
-//! and not too long, that a survey adds up, that a trace is answered as it reads, that a withdrawn node is gone, that an image is
-//! written and restored as its state has it, and that each node's two counts are those of the history.
+//! and not too long, that a survey adds up, that a trace is answered as it reads, that a withdrawn node is gone, that short
+//! entries are filled as the literal filling does, that an image is written and restored as its state has it, and that each node's two counts are those
+//! of the history.
 
 use std::fmt::{self, Display, Formatter};
 use std::ops::Range;
 
 use crate::engine::Engine;
 use crate::failures::fits;
+use crate::fills::is_filled;
 use crate::lent::Lent;
 use crate::panel::History;
 use crate::resumed;
 use crate::script::{Call, Line, Script};
 use crate::second::memory::{COUNT, MOST_NODES, STATE_WORDS, TABLE_BYTES};
-use crate::second::LOST;
+use crate::second::{LOST, MOST_ADDED_BYTES};
 use crate::surveys::adds_up;
 use crate::traces;
 use crate::withdrawals::is_gone;
@@ -93,6 +95,7 @@ impl<'a> Pair<'a> {
                 adds_up(after.used_state(), *failed, after.used_counts())
             }
             Call::Withdraw { node } if taken => is_gone(*node, answer, before, after),
+            Call::Fill => is_filled(before, after, answer),
             Call::Trace { trace } if !matches!(answer, 1 | 2) => reads_so(after, trace, answer),
             Call::Write { version } if taken => is_written(after, *version, answer),
             Call::Read { image } if matches!(answer, 0 | 24) => is_restored(after, image, answer),
@@ -170,6 +173,11 @@ fn may_write(call: &Call, answer: u64) -> Parts {
         },
         Call::Survey { .. } => Parts {
             counts: 0..LOST + 1,
+            ..NOTHING
+        },
+        Call::Fill => Parts {
+            tables: 0..TABLE_BYTES,
+            out: 0..MOST_ADDED_BYTES.min(4 * (answer >> 8) as usize),
             ..NOTHING
         },
     }

@@ -2,7 +2,7 @@
 
 use crate::second::{self, Answer, Counts};
 
-/// The eleven calls. Memory is lent for writing even where a call must not write, so that a trial sees it if one does. In a set of failed
+/// The twelve calls. Memory is lent for writing even where a call must not write, so that a trial sees it if one does. In a set of failed
 /// nodes bit u − 1 stands for node u.
 pub trait Engine {
     fn name(&self) -> &str;
@@ -29,6 +29,8 @@ pub trait Engine {
         -> u64;
 
     fn trace(&self, state: &mut [u64], tables: &mut [u8], trace: &[u8]) -> u64;
+
+    fn fill(&self, state: &mut [u64], tables: &mut [u8], out: &mut [u8]) -> u64;
 }
 
 /// The second engine.
@@ -100,5 +102,9 @@ impl Engine for Second {
 
     fn trace(&self, state: &mut [u64], tables: &mut [u8], trace: &[u8]) -> u64 {
         second::trace(state, tables, trace).pack()
+    }
+
+    fn fill(&self, state: &mut [u64], tables: &mut [u8], out: &mut [u8]) -> u64 {
+        second::fill(state, tables, out).pack()
     }
 }

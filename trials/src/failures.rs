@@ -28,7 +28,7 @@ pub use cost::{cost, mean};
 pub use every_set::every_set;
 pub use fitting::fits;
 pub use in_order::in_order;
-pub use kept::{changed, kept};
+pub use kept::{changed, kept, lookups, stands, step_on, Kept};
 pub use literal::{Literal, Way};
 pub use networks::{joined, small};
 pub use survived::{arrives, survived};

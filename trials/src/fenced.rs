@@ -238,4 +238,8 @@ impl Engine for FencedArchive {
             interface::overlay_trace(words, n, bytes, m, trace.pointer(), length)
         })
     }
+
+    fn fill(&self, _: &mut [u64], _: &mut [u8], _: &mut [u8]) -> u64 {
+        unimplemented!("the archive does not have it yet")
+    }
 }

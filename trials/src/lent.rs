@@ -87,6 +87,7 @@ impl Lent {
                 engine.survey(state, tables, *failed, counts)
             }
             Call::Trace { trace } => engine.trace(state, tables, trace),
+            Call::Fill => engine.fill(state, tables, &mut self.out[..self.lend.out]),
         }
     }
 

@@ -11,6 +11,7 @@
 //! - `surveys`: what holds of every survey.
 //! - `failures`: what holds of lookups and surveys around failed nodes, and trials of it.
 //! - `withdrawals`: what holds of every withdrawal, and trials of it.
+//! - `fills`: what filling short entries must do, and trials of it.
 //! - `traces`: what checking a trace must answer, and trials of it.
 //! - `one_join`: what holds of a single join into a network that passes the verdict, and of several at once, and trials of it.
 //! - `panel`: what holds of each node's two counts.
@@ -29,6 +30,7 @@ pub mod compare;
 pub mod engine;
 pub mod failures;
 pub mod fenced;
+pub mod fills;
 pub mod lent;
 pub mod met;
 pub mod one_join;

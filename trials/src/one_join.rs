@@ -32,7 +32,8 @@ pub use in_turn::in_turn;
 pub use last::last;
 pub use networks::{Origin, CONSISTENT};
 pub use nothing_else::nothing_else;
-pub use stalled::{sample, stalled};
+pub use stalled::{sample, sample_script, stalled};
+pub use steps::{join_alone, some_beginning};
 
 /// The most deliveries of a join, by the digits and the nodes before it.
 pub type Bound = fn(digits: usize, nodes: usize) -> usize;

@@ -15,7 +15,7 @@ pub use calls::judging_calls;
 pub use damage::damage;
 pub use ids::{all_ids, bad_id, bad_number, free_id, free_ids, fresh_id, id, settings};
 pub use images::{changed_bytes, changed_records, cuts, damaged_image, head, image, image_2};
-pub use images::{image_damages, parts, with_records, READING, READING_2};
+pub use images::{image_damages, parts, thinned, with_records, READING, READING_2};
 pub use joins::{before_joins, damaged_joins, joins, Joins, JOINS_KINDS};
 pub use runs::{run, run_from_built, run_in};
 pub use seeds::seeds;

@@ -15,6 +15,7 @@
 //! survey
 //! survey without 3         the same while node 3 has failed
 //! trace 01020102           a trace in hexadecimal, nothing for an empty one
+//! fill                     lists its additions in the output
 //! lend 520 32768 25226     words of state, bytes of tables and of output lent from here on
 //! word 12 5                state word 12 becomes 5 (hexadecimal), by the caller's hand
 //! byte 300 7               table byte 300 becomes 7 (hexadecimal), by the caller's hand
@@ -39,6 +40,7 @@ pub enum Call {
     Sound,
     Survey { failed: u64 },
     Trace { trace: Vec<u8> },
+    Fill,
 }
 
 impl Call {
@@ -108,6 +110,7 @@ impl Display for Call {
                 write_failed(out, *failed)
             }
             Call::Trace { trace } => write_bytes(out, "trace ", trace),
+            Call::Fill => out.write_str("fill"),
         }
     }
 }
@@ -204,6 +207,7 @@ fn parse_line(words: &[&str]) -> Result<Option<Line>, ParseIntError> {
         ["trace", ref trace @ ..] if may_be_bytes(trace) => Call::Trace {
             trace: parse_bytes(&trace.concat())?,
         },
+        ["fill"] => Call::Fill,
         _ => return parse_memory_line(words),
     };
     Ok(Some(Line::Call(call)))

@@ -6,6 +6,8 @@ mod differences;
 mod edges;
 #[path = "second_engine/failures.rs"]
 mod failures;
+#[path = "second_engine/filling.rs"]
+mod filling;
 #[path = "second_engine/images.rs"]
 mod images;
 #[path = "second_engine/one_join.rs"]
@@ -42,6 +44,8 @@ mod withdrawing;
 mod wrong_counts;
 #[path = "second_engine/wrong_failures.rs"]
 mod wrong_failures;
+#[path = "second_engine/wrong_fills.rs"]
+mod wrong_fills;
 #[path = "second_engine/wrong_images.rs"]
 mod wrong_images;
 #[path = "second_engine/wrong_joins.rs"]

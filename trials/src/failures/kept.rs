@@ -29,11 +29,11 @@ const NETWORKS: [([u64; 3], usize); 8] = [
 const FEW: usize = 6;
 
 /// A lookup and its way.
-struct Kept {
-    from: u64,
-    to: u64,
-    failed: u64,
-    way: Way,
+pub struct Kept {
+    pub from: u64,
+    pub to: u64,
+    pub failed: u64,
+    pub way: Way,
 }
 
 pub fn kept(a: &dyn Engine, b: &dyn Engine) -> Result<Met, String> {
@@ -93,7 +93,7 @@ fn play(
 }
 
 /// A join begun, withdrawn or brought on.
-fn step_on(pair: &mut Pair, rng: &mut Rng, most: usize, met: &mut Met) -> Result<(), String> {
+pub fn step_on(pair: &mut Pair, rng: &mut Rng, most: usize, met: &mut Met) -> Result<(), String> {
     let network = network(pair);
     let begin = beginning(rng, &network).filter(|_| network.count() < most && rng.once_in(3));
     let deliver = delivery_of_others(rng, &network, 0);
@@ -115,7 +115,7 @@ fn step_on(pair: &mut Pair, rng: &mut Rng, most: usize, met: &mut Met) -> Result
 }
 
 /// Every two nodes of few with every set of them, at times with numbers that nodes may have later; of many some, with some sets, often of a whole entry.
-fn lookups(rng: &mut Rng, memory: &Lent) -> Vec<Kept> {
+pub fn lookups(rng: &mut Rng, memory: &Lent) -> Vec<Kept> {
     let count = memory.state[COUNT] as usize;
     let nodes = all_nodes(count);
     let mut all = vec![];
@@ -152,7 +152,7 @@ impl Kept {
 }
 
 /// The way and the engines' answers are what they were.
-fn stands(engines: [&dyn Engine; 2], memory: &mut Lent, kept: &Kept) -> Result<(), String> {
+pub fn stands(engines: [&dyn Engine; 2], memory: &mut Lent, kept: &Kept) -> Result<(), String> {
     let &Kept {
         from,
         to,

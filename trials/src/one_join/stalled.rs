@@ -30,14 +30,18 @@ const IDS: [u32; 10] = [
 ];
 const STALLED: [usize; 3] = [5, 6, 7];
 
-/// No call of the sample is refused, each node settles, and the image is the sample's; these are the answers of its last two lines, a verdict and a lookup.
-pub fn sample(a: &dyn Engine, b: &dyn Engine) -> Result<[u64; 2], String> {
+/// Its lines.
+pub fn sample_script() -> Result<Script, String> {
     let text = fs::read_to_string(SAMPLE).map_err(|error| format!("{SAMPLE}: {error}"))?;
     let lines = text.lines().filter(|line| !line.starts_with('#'));
-    let script: Script = lines.collect::<Vec<_>>().join("\n").parse()?;
+    lines.collect::<Vec<_>>().join("\n").parse()
+}
+
+/// No call of the sample is refused, each node settles, and the image is the sample's; these are the answers of its last two lines, a verdict and a lookup.
+pub fn sample(a: &dyn Engine, b: &dyn Engine) -> Result<[u64; 2], String> {
     let mut pair = Pair::new(a, b);
     let mut answers = [0; 2];
-    for line in &script.lines {
+    for line in &sample_script()?.lines {
         let answer = pair.obey(line).map_err(|what| format!("{line}: {what}"))?;
         if answer & 0xff != 0 {
             return Err(format!("{line}: refused, {answer:#x}"));

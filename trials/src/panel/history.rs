@@ -60,7 +60,8 @@ impl History {
     }
 
     /// A founding or a reading starts a new run. A beginning sends its new node's first request, and a delivery
-    /// that was copied or sent on its sender's next one; one that was notified answers its sender's notice. A withdrawal sends nothing.
+    /// that was copied or sent on its sender's next one; one that was notified answers its sender's notice. A withdrawal sends nothing, nor does a
+    /// filling.
     fn taken(&mut self, call: &Call, answered: u64) {
         match call {
             Call::Found { .. } => *self = History::new(),

@@ -97,6 +97,14 @@ pub fn with_records(head: &[u8], records: &[[u8; 4]]) -> Vec<u8> {
     [before, &count, records.as_flattened()].concat()
 }
 
+/// The image with each neighbor left out once in so many times, but no owner: its entries are short, or all that they were.
+pub fn thinned(rng: &mut Rng, image: &[u8], times: usize) -> Vec<u8> {
+    let (before, behind) = image.split_at(before_joins(image).expect("it has its counts"));
+    let (head, mut records) = parts(before).expect("it has its counts");
+    records.retain(|[node, _, _, near]| node == near || !rng.once_in(times));
+    [&with_records(&head, &records)[..], behind].concat()
+}
+
 /// The image with one damage of some kind; an image too short for it is cut instead.
 pub fn damaged_image(rng: &mut Rng, image: &[u8]) -> Vec<u8> {
     let more = if image.get(1) == Some(&2) {

@@ -6,8 +6,11 @@ use trials::script::Script;
 use trials::second::memory::COUNT;
 use trials::second::LOST;
 
-use crate::spoiled::{AfterLookup, AfterReading, AfterTrace, AfterWriting, SpoilLookup};
-use crate::spoiled::{SpoilReading, SpoilSurvey, SpoilTrace, SpoilWithdrawal, SpoilWriting};
+use crate::spoiled::SpoilWriting;
+use crate::spoiled::{
+    AfterFilling, AfterLookup, AfterReading, AfterTrace, AfterWriting, SpoilFilling,
+};
+use crate::spoiled::{SpoilLookup, SpoilReading, SpoilSurvey, SpoilTrace, SpoilWithdrawal};
 use crate::spoiled::{Spoiled, UNSPOILED};
 
 const SCRIPT: &str = "found 2 2 1 0\nwrite\nlookup 1 1\nbegin 1 1\nbegin 1 1\nverdict\nsound\n\
@@ -22,7 +25,9 @@ const SCRIPT: &str = "found 2 2 1 0\nwrite\nlookup 1 1\nbegin 1 1\nbegin 1 1\nve
                       lend 536 32896 100\n\
                       read 04020202010200000000010000000400010000010101000102000102020100020102010001000000000000000000000000000000000200000100\n\
                       write 2\nwrite\nwrite 3\n\
-                      read 04020202010200000000010000000400010000010101000102000102020100020100010001000000000000000000000000000000000200000100\n";
+                      read 04020202010200000000010000000400010000010101000102000102020100020100010001000000000000000000000000000000000200000100\n\
+                      fill\nread 040102020102000000000100000005000100000101010001020000010200010202010002\nlend 536 32896 3\nfill\n\
+                      lend 536 32896 100\nfill\nfill\nlend 519 32896 100\nfill\n";
 
 /// The line of the first difference between two engines.
 fn first_difference(a: &dyn Engine, b: &dyn Engine) -> Option<usize> {
@@ -436,6 +441,63 @@ fn every_difference_of_an_image_is_seen() {
         assert_eq!(first_difference(&engine, &Second), Some(line), "{number}");
         assert_eq!(first_difference(&Second, &engine), Some(line), "{number}");
         assert_eq!(first_difference(&engine, &engine), Some(line), "{number}");
+    }
+}
+
+/// Line 40 is refused 15, line 43 is refused 16, line 45 adds node 2 to the entry of node 1 at byte 4, line 46 adds nothing, and line 48 is refused 1.
+const WRONG_FILLINGS: [(SpoilFilling, usize); 19] = [
+    (|after| filled(after, 15, |after| after.answer |= 0x100), 40),
+    (|after| filled(after, 15, |after| after.answer = 0), 40),
+    (|after| filled(after, 15, |after| after.state[9] ^= 1), 40),
+    (|after| filled(after, 15, |after| after.out[0] ^= 1), 40),
+    (
+        |after| filled(after, 15, |after| after.tables[511] ^= 1),
+        40,
+    ),
+    (|after| filled(after, 16, |after| after.answer = 0), 43),
+    (|after| filled(after, 16, |after| after.answer = 15), 43),
+    (|after| filled(after, 16, |after| after.answer |= 0x100), 43),
+    (|after| filled(after, 16, |after| after.out[0] ^= 1), 43),
+    (|after| filled(after, 16, |after| after.tables[4] = 2), 43),
+    (|after| filled(after, 0x100, |after| after.out[3] ^= 1), 45),
+    (|after| filled(after, 0x100, |after| after.out[4] ^= 1), 45),
+    (
+        |after| filled(after, 0x100, |after| after.tables[4] = 0),
+        45,
+    ),
+    (
+        |after| filled(after, 0x100, |after| after.tables[5] = 1),
+        45,
+    ),
+    (
+        |after| filled(after, 0x100, |after| after.tables[32_768] ^= 1),
+        45,
+    ),
+    (
+        |after| filled(after, 0x100, |after| after.state[14] ^= 1),
+        45,
+    ),
+    (
+        |after| filled(after, 0x100, |after| after.state[520] ^= 1),
+        45,
+    ),
+    (|after| filled(after, 0, |after| after.answer = 0x100), 46),
+    (|after| filled(after, 1, |after| after.answer = 2), 48),
+];
+
+fn filled(after: &mut AfterFilling, answer: u64, change: fn(&mut AfterFilling)) {
+    if after.answer == answer {
+        change(after);
+    }
+}
+
+#[test]
+fn every_difference_of_a_filling_is_seen() {
+    for (number, (fill, line)) in WRONG_FILLINGS.into_iter().enumerate() {
+        let fault = || Spoiled { fill, ..UNSPOILED };
+        assert_eq!(first_difference(&fault(), &Second), Some(line), "{number}");
+        assert_eq!(first_difference(&Second, &fault()), Some(line), "{number}");
+        assert_eq!(first_difference(&fault(), &fault()), Some(line), "{number}");
     }
 }
 

@@ -1,7 +1,7 @@
 //! The first true sentence wins, and a refused call changes nothing.
 
 use trials::lent::Lent;
-use trials::paper::E1;
+use trials::paper::{e1_short, E1};
 use trials::second::{self, Answer};
 
 use crate::support::Trial;
@@ -238,6 +238,30 @@ fn writing_judges_in_order() {
     assert_eq!(second::write(state, tables, 3, &mut []).refusal, 4);
 }
 
+#[test]
+fn filling_judges_in_order() {
+    let mut trial = two_joins();
+    let before = trial.memory.clone();
+    assert_eq!(trial.fill().refusal, 15);
+    let Lent { state, tables, .. } = &mut trial.memory;
+    assert_eq!(second::fill(state, tables, &mut []).refusal, 15);
+    assert_eq!(trial.memory, before);
+    let mut trial = Trial::read_in(&e1_short());
+    let before = trial.memory.clone();
+    let Lent {
+        state, tables, out, ..
+    } = &mut trial.memory;
+    for length in 0..4 {
+        let short = second::fill(state, tables, &mut out[..length]);
+        assert_eq!((short.refusal, short.additions), (16, 0));
+    }
+    assert_eq!(trial.memory, before);
+    assert_eq!(trial.fill().additions, 1);
+    let Lent { state, tables, .. } = &mut trial.memory;
+    let nothing = second::fill(state, tables, &mut []);
+    assert_eq!((nothing.refusal, nothing.additions), (0, 0));
+}
+
 /// Of every version, and of others.
 fn all_writings_are_refused(state: &[u64], tables: &[u8], refusal: u8) {
     for version in 0..4 {
@@ -278,6 +302,9 @@ fn memory_too_short_comes_first_and_unsound_next() {
         all_traces_are_refused(state, tables, refusal.into());
         assert_eq!(second::verdict(state, tables).refusal, refusal);
         all_writings_are_refused(state, tables, refusal);
+        for out in [&mut [][..], &mut [0; 21_504]] {
+            assert_eq!(second::fill(state, tables, out).refusal, refusal);
+        }
     }
     assert_eq!(
         second::found(&mut state[..519], &mut tables, 0, 0, 0, 0).refusal,

@@ -16,9 +16,9 @@ fn every_line_has_its_text() {
     let text =
         "found 2 2 1 a0\nbegin ff 18446744073709551615\nwithdraw 18446744073709551615\ndeliver 2 1\nlookup 1 2\nverdict\nwrite\n\
                 read 0401ff\nsound\nsurvey\nlend 520 32768 40\nword 12 ffffffffffffffff\nbyte 300 7\n\
-                lookup 1 18446744073709551615 without 1 3 64\nsurvey without 2\ntrace 0102ff00\nwrite 2\nwrite 18446744073709551615\n";
+                lookup 1 18446744073709551615 without 1 3 64\nsurvey without 2\ntrace 0102ff00\nwrite 2\nwrite 18446744073709551615\nfill\n";
     let script: Script = text.parse().unwrap();
-    assert_eq!(script.lines.len(), 18);
+    assert_eq!(script.lines.len(), 19);
     assert_eq!(script.to_string(), text);
 }
 
@@ -74,6 +74,8 @@ fn other_lines_are_errors() {
         "write x",
         "write -1",
         "write 18446744073709551616",
+        "fill 1",
+        "fills",
         "survey 1",
         "survey without",
         "survey with 1",

@@ -5,7 +5,7 @@ use trials::second::memory::{record, record_mut, Record, State, COUNT, MOST_NODE
 use trials::second::Counts;
 
 /// The second engine, but spoiled in what it judges sound, or in what a founding, a reading, a beginning, a withdrawal, a delivery, a lookup, a verdict,
-/// a writing, a survey or the check of a trace does. A delivery is spoiled in the records of its two nodes, or in all of its memory; a reading and a writing
+/// a writing, a survey, the check of a trace or a filling does. A delivery is spoiled in the records of its two nodes, or in all of its memory; a reading and a writing
 /// in what they leave alone, or beside the image too.
 pub struct Spoiled {
     pub judge: SpoilJudge,
@@ -22,6 +22,7 @@ pub struct Spoiled {
     pub save: SpoilWriting,
     pub survey: SpoilSurvey,
     pub trace: SpoilTrace,
+    pub fill: SpoilFilling,
 }
 
 /// What is judged in place of a node's record.
@@ -118,6 +119,17 @@ pub struct AfterTrace<'a> {
     pub answer: u64,
 }
 
+pub type SpoilFilling = fn(&mut AfterFilling);
+
+/// Its memory and the output before and after it, and its answer.
+pub struct AfterFilling<'a> {
+    pub before: (Vec<u64>, Vec<u8>, Vec<u8>),
+    pub state: &'a mut [u64],
+    pub tables: &'a mut [u8],
+    pub out: &'a mut [u8],
+    pub answer: u64,
+}
+
 pub const UNSPOILED: Spoiled = Spoiled {
     judge: |_, _, _| {},
     found: |_| {},
@@ -133,6 +145,7 @@ pub const UNSPOILED: Spoiled = Spoiled {
     save: |_| {},
     survey: |_| {},
     trace: |_| {},
+    fill: |_| {},
 };
 
 impl Spoiled {
@@ -302,6 +315,20 @@ impl Engine for Spoiled {
             answer,
         };
         (self.trace)(&mut after);
+        after.answer
+    }
+
+    fn fill(&self, state: &mut [u64], tables: &mut [u8], out: &mut [u8]) -> u64 {
+        let before = (state.to_vec(), tables.to_vec(), out.to_vec());
+        let answer = Second.fill(state, tables, out);
+        let mut after = AfterFilling {
+            before,
+            state,
+            tables,
+            out,
+            answer,
+        };
+        (self.fill)(&mut after);
         after.answer
     }
 }

@@ -3,8 +3,8 @@
 use trials::lent::Lent;
 use trials::second::network::Network;
 use trials::second::{
-    self, BeginAnswer, DeliverAnswer, FoundAnswer, LookupAnswer, ReadAnswer, SurveyAnswer,
-    TraceAnswer, VerdictAnswer, WithdrawAnswer, WriteAnswer,
+    self, BeginAnswer, DeliverAnswer, FillAnswer, FoundAnswer, LookupAnswer, ReadAnswer,
+    SurveyAnswer, TraceAnswer, VerdictAnswer, WithdrawAnswer, WriteAnswer,
 };
 
 pub struct Trial {
@@ -77,6 +77,13 @@ impl Trial {
             state, tables, out, ..
         } = &mut self.memory;
         second::write(state, tables, version, out)
+    }
+
+    pub fn fill(&mut self) -> FillAnswer {
+        let Lent {
+            state, tables, out, ..
+        } = &mut self.memory;
+        second::fill(state, tables, out)
     }
 
     pub fn image(&mut self, version: u64) -> Vec<u8> {
