@@ -13,15 +13,16 @@ use Rattle.model.specs.Sound.{sound}
 use Rattle.model.specs.Join.{outstanding}
 use Rattle.model.specs.Image.{hasJoins}
 use Rattle.model.specs.Traces.{pathCount, placeCount, placeAt, stepCount, placeNamed, stepAllowed}
-use Rattle.model.specs.Refusals.{Sentence, firstTrue, memoryShort, unsound, hasId, areNodes, someNotInSystem, stateSentences, beginSentences, withdrawSentences, deliverSentences, lookupSentences, verdictSentences, writeSentences, traceSentences, foundRefusal, readRefusal, stateRefusal, beginRefusal, withdrawRefusal, deliverRefusal, lookupRefusal, verdictRefusal, writeRefusal, traceRefusal, tracePlace}
+use Rattle.model.specs.Refusals.{Sentence, firstTrue, memoryShort, unsound, hasId, areNodes, someNotInSystem, stateSentences, beginSentences, withdrawSentences, deliverSentences, lookupSentences, verdictSentences, fillSentences, writeSentences, traceSentences, foundRefusal, readRefusal, stateRefusal, beginRefusal, withdrawRefusal, deliverRefusal, lookupRefusal, verdictRefusal, fillRefusal, writeRefusal, traceRefusal, tracePlace}
 use Rattle.model.proofs.Loops.{all-same, any-same}
 use Rattle.model.proofs.Memory.{same-status, same-target, same-pending}
 use Rattle.model.proofs.Status.{IsNode, is-node, in-system-same, attached-same}
 use Rattle.model.proofs.Sound.{Sound, sound-ok}
-use Rattle.model.proofs.Taken.{long-of, both-nodes, not-short}
+use Rattle.model.proofs.Taken.{long-of, both-nodes, all-in-system, not-short}
 use Rattle.model.proofs.Traces.{in-paths-same, fault-same, refused-9, refused-23, by-refusal, trace-place-none}
 use Rattle.model.proofs.NextHop.{Agreeing}
 use Rattle.model.proofs.Alike.{Alike, LongAlike, base-same, digits-same, count-same, id-same, record-same, short-same, sound-same}
+use Rattle.model.proofs.FillingAlike.{filling-same}
 use Rattle.model.proofs.AlikeLooking.{nodes-same, image-same, step-same}
 
 -- lists of sentences are judged alike where each test is the same, if no test before it was true
@@ -164,6 +165,16 @@ module _ (m m′ : Memory) (a : Alike (m .state) (m .tables) (m′ .state) (m′
   verdict-same =
       past-sound (verdictSentences s) (verdictSentences s′)
       (λ L S. sentence-same _ _ 15 [] [] (not-in-system-same S) (λ e. refl))
+
+  pub fill-same : (out : List ℕ) → fillRefusal m′ out ≡ fillRefusal m out
+  unfolding fillRefusal
+  fill-same out =
+      past-sound (fillSentences m out) (fillSentences m′ out)
+      (λ L S.
+      sentence-same _ _ 15 _ _ (not-in-system-same S)
+      (λ e₁₅.
+      sentence-same _ _ 16 [] []
+      (cc (filling-same s (m .tables) s′ (m′ .tables) L (record { sound = S; settled = all-in-system m e₁₅ }))) (λ e₁₆. refl)))
 
   pub write-same : (v : ℕ) (out : List ℕ) → writeRefusal m′ v out ≡ writeRefusal m v out
   unfolding writeRefusal

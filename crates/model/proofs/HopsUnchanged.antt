@@ -1,17 +1,17 @@
--- In every later state of a network that passed the verdict, lookups between its nodes of that time take the very same hops, whatever nodes have failed
--- but the two ends. Assumes nothing.
+-- In every later state of a network whose nodes are all in system, a lookup that arrives takes the very same hops; and if the network passed the verdict,
+-- every lookup between its nodes of that time does, whatever nodes have failed but the two ends. Assumes nothing.
 use Prim.Native.Nat.{ℕ, _≤_}
 use mathlib.Core.Path.{_≡_, sym, ap, _∙_}
 use mathlib.Core.Logic.{_≢_}
 use mathlib.Core.Bool.{true, false}
 use mathlib.Core.List.{List, _∷_}
-use native.Mathlib.Decide.{ℕ-discrete}
+use native.Mathlib.Omega.{arith}
 use lib.ListN.{length}
 use Rattle.model.specs.Ids.{digitOf}
 use Rattle.model.specs.Memory.{digits, depth, idOf, isInSystem, hasNode, tableOf}
 use Rattle.model.specs.Tables.{slotPlace, entry}
 use Rattle.model.specs.Nodes.{suffixOf}
-use Rattle.model.specs.Lookup.{hopEntry, NextHop, frontmost, nextHop, veryHops, answerOf, lookup}
+use Rattle.model.specs.Lookup.{hopEntry, NextHop, frontmost, nextHop, veryHops, Lookup, answerOf, lookup}
 use Rattle.model.specs.Consistency.{consistent}
 use Rattle.model.proofs.Nodes.{suffix-by}
 use Rattle.model.proofs.Tables.{Grows, grown-longer, grown-begins, grown-full}
@@ -20,9 +20,9 @@ use Rattle.model.proofs.Sound.{Sound}
 use Rattle.model.proofs.TablesOnlyGrow.{Attached, Onward}
 use Rattle.model.proofs.SoundEntries.{entry-fits}
 use Rattle.model.proofs.NextHop.{front-behind, level-below, digit-below}
-use Rattle.model.proofs.Lookup.{walk, path-hop, arrives-path, loses-path}
+use Rattle.model.proofs.Lookup.{walk, path-hop, arrives-path, loses-path, loses-is, lookup-hop}
 use Rattle.model.proofs.Consistency.{consistent-whole}
-use Rattle.model.proofs.NoRoom.{NoRoom, whole-hop}
+use Rattle.model.proofs.NoRoom.{whole-hop}
 use Rattle.model.proofs.Failures.{lost-full}
 
 module _ (s t s′ t′ : List ℕ) (S : Sound s t) (S′ : Sound s′ t′) (on : Onward s t s′ t′) where
@@ -34,7 +34,7 @@ module _ (s t s′ t′ : List ℕ) (S : Sound s t) (S′ : Sound s′ t′) (on
     pub still-node : (u : ℕ) → IsNode s u → IsNode s′ u
     still-node u nu = on .attached u (attached u nu) .node
 
-    module _ (whole : consistent s t ≡ true) (failed z : ℕ) (nz : IsNode s z) (left : hasNode failed z ≡ false) where
+    module _ (failed z : ℕ) (nz : IsNode s z) where
       module _ (u : ℕ) (nu : IsNode s u) (ne : u ≢ z) where
         -- the entry of the next hop, then and now
         abbrev i : ℕ
@@ -55,37 +55,58 @@ module _ (s t s′ t′ : List ℕ) (S : Sound s t) (S′ : Sound s′ t′) (on
         grows : Grows (tableOf t u) (tableOf t′ u)
         grows = on .grows u (attached u nu)
 
-        no-room : NoRoom s (tableOf t u) z (suffixOf s u z)
-        no-room = whole-hop s t S (consistent-whole s t whole) u z nu nz ne
-
-        -- a next hop stays; where none was left the entry was full, and stays
-        same : nextHop s′ t′ failed u z ≡ nextHop s t failed u z
+        -- a next hop stays
+        next-stays : nextHop s t failed u z .node ≢ 0 → nextHop s′ t′ failed u z ≡ nextHop s t failed u z
         unfolding nextHop hopEntry
-        same = ap (frontmost failed) now-at ∙ go (ℕ-discrete (nextHop s t failed u z .node) 0)
-          where
-            go : Dec (nextHop s t failed u z .node ≡ 0)
-                → frontmost failed (entry (depth s) (tableOf t′ u) i j) ≡ frontmost failed (entry (depth s) (tableOf t u) i j)
-            go (yes none) =
-                ap (frontmost failed)
-                (grown-full (depth s) (tableOf t u) (tableOf t′ u) i j grows fits (lost-full s t S failed z nz left u nu ne none no-room))
-            go (no some) =
-                front-behind failed (entry (depth s) (tableOf t u) i j) (entry (depth s) (tableOf t′ u) i j)
-                (grown-longer (depth s) (tableOf t u) (tableOf t′ u) i j grows fits)
-                (grown-begins (depth s) (tableOf t u) (tableOf t′ u) i j grows fits) some
+        next-stays some =
+            ap (frontmost failed) now-at
+            ∙ front-behind failed (entry (depth s) (tableOf t u) i j) (entry (depth s) (tableOf t′ u) i j)
+            (grown-longer (depth s) (tableOf t u) (tableOf t′ u) i j grows fits)
+            (grown-begins (depth s) (tableOf t u) (tableOf t′ u) i j grows fits) some
 
-        same-node : nextHop s′ t′ failed u z .node ≡ nextHop s t failed u z .node
-        same-node = ap (λ (r : NextHop). r .node) same
+        -- so does the path to it, where the rest does
+        hop-stays : (some : nextHop s t failed u z .node ≢ 0)
+            → veryHops s′ t′ failed (nextHop s t failed u z .node) z ≡ veryHops s t failed (nextHop s t failed u z .node) z
+            → veryHops s′ t′ failed u z ≡ veryHops s t failed u z
+        hop-stays some rest =
+            let same : nextHop s′ t′ failed u z .node ≡ nextHop s t failed u z .node = ap (λ (r : NextHop). r .node) (next-stays some) in
+            path-hop s′ t′ S′ failed z (still-node z nz) u (still-node u nu) ne (λ n. some (sym same ∙ n))
+            ∙ ap (λ (v : ℕ). u ∷ veryHops s′ t′ failed v z) same
+            ∙ ap (_∷_ u) rest
+            ∙ sym (path-hop s t S failed z nz u nu ne some)
+
+      arrived-there : (u : ℕ) → u ≡ z → veryHops s′ t′ failed u z ≡ veryHops s t failed u z
+      arrived-there u e = arrives-path (digits s′) s′ t′ failed u z e ∙ sym (arrives-path (digits s) s t failed u z e)
+
+      -- whatever the verdict says: a lookup that arrives takes the very same hops
+      pub arrived-hops : (u : ℕ) → IsNode s u → lookup s t failed u z .arrived ≡ 1 → veryHops s′ t′ failed u z ≡ veryHops s t failed u z
+      arrived-hops =
+          walk s t S failed z nz (λ (u : ℕ). lookup s t failed u z .arrived ≡ 1 → veryHops s′ t′ failed u z ≡ veryHops s t failed u z)
+          (λ u nu e q. arrived-there u e) (λ u nu e none q. absurd (omega (arith, q, ap (λ (r : Lookup). r .arrived) (loses-is s t failed u z e none))))
+          (λ u nu e some ih q. hop-stays u nu e some (ih (sym (ap (λ (r : Lookup). r .arrived) (lookup-hop s t S failed z nz u nu e some)) ∙ q)))
+
+      -- and has the same answer
+      pub arrived-lookup : (u : ℕ) → IsNode s u → lookup s t failed u z .arrived ≡ 1 → lookup s′ t′ failed u z ≡ lookup s t failed u z
+      unfolding lookup
+      arrived-lookup u nu q = ap (answerOf z) (arrived-hops u nu q)
+
+    module _ (whole : consistent s t ≡ true) (failed z : ℕ) (nz : IsNode s z) (left : hasNode failed z ≡ false) where
+      -- where none was left the entry was full, and stays
+      lost-stays : (u : ℕ) → IsNode s u → u ≢ z → nextHop s t failed u z .node ≡ 0 → nextHop s′ t′ failed u z ≡ nextHop s t failed u z
+      unfolding nextHop hopEntry
+      lost-stays u nu ne none =
+          ap (frontmost failed)
+          (now-at failed z nz u nu ne
+          ∙ grown-full (depth s) (tableOf t u) (tableOf t′ u) _ _ (grows failed z nz u nu ne) (fits failed z nz u nu ne)
+          (lost-full s t S failed z nz left u nu ne none (whole-hop s t S (consistent-whole s t whole) u z nu nz ne)))
 
       pub same-hops : (u : ℕ) → IsNode s u → veryHops s′ t′ failed u z ≡ veryHops s t failed u z
       same-hops =
-          walk s t S failed z nz (λ (u : ℕ). veryHops s′ t′ failed u z ≡ veryHops s t failed u z)
-          (λ u nu e. arrives-path (digits s′) s′ t′ failed u z e ∙ sym (arrives-path (digits s) s t failed u z e))
-          (λ u nu e q. loses-path (digits s′) s′ t′ failed u z e (same-node u nu e ∙ q) ∙ sym (loses-path (digits s) s t failed u z e q))
-          (λ u nu e q ih.
-          path-hop s′ t′ S′ failed z (still-node z nz) u (still-node u nu) e (λ n. q (sym (same-node u nu e) ∙ n))
-          ∙ ap (λ (v : ℕ). u ∷ veryHops s′ t′ failed v z) (same-node u nu e)
-          ∙ ap (_∷_ u) ih
-          ∙ sym (path-hop s t S failed z nz u nu e q))
+          walk s t S failed z nz (λ (u : ℕ). veryHops s′ t′ failed u z ≡ veryHops s t failed u z) (λ u nu e. arrived-there failed z nz u e)
+          (λ u nu e q.
+          loses-path (digits s′) s′ t′ failed u z e (ap (λ (r : NextHop). r .node) (lost-stays u nu e q) ∙ q)
+          ∙ sym (loses-path (digits s) s t failed u z e q))
+          (λ u nu e q ih. hop-stays failed z nz u nu e q ih)
 
       -- so they have the same answer
       pub same-lookup : (u : ℕ) → IsNode s u → lookup s′ t′ failed u z ≡ lookup s t failed u z

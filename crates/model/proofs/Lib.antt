@@ -63,6 +63,9 @@ pub mod Survey
 pub mod Consistency
 pub mod NoRoom
 pub mod Filling
+pub mod FillingRecords
+pub mod FillingLength
+pub mod FillingFew
 pub mod MayGo
 pub mod Failures
 pub mod HopsUnchanged
@@ -104,6 +107,7 @@ pub mod Alike
 pub mod AlikeLearning
 pub mod AlikeDelivery
 pub mod AlikeLooking
+pub mod FillingAlike
 pub mod AlikeRefusals
 pub mod ReadingIsSound
 -- ---- with a node that copies or waits, and without it

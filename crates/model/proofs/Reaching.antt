@@ -104,6 +104,10 @@ module _ (s₀ : List ℕ) where
       let k = withdrawn-kept s t S away u (a .node) in
       inl (record { node = k .0; status = sym (attached-same s (withdrawn s t .state) u (k .1)) ∙ a .status }))
 
+  -- tables that gain nodes while every node is in system
+  pub grown-reaching : (s t t′ : List ℕ) → Sound s t → Sound s t′ → ((u : ℕ) → IsNode s u → isInSystem s u ≡ true) → Onward s t s t′ → Reaching s t → Reaching s t′
+  grown-reaching s t t′ S S′ settled on R = onward-reaching s t s t′ S on R (settled-floors s t′ S′ settled) (λ u a. inl a)
+
   -- a delivery may attach its sender
   module _ (s t : List ℕ) (S : Sound s t) (x y : ℕ) (c : CanDeliver s x y) (R : Reaching s t) where
     abbrev s₁ : List ℕ

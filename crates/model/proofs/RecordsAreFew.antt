@@ -22,10 +22,10 @@ use Rattle.model.proofs.Counting.{count-most, count-blocks}
 use Rattle.model.proofs.Records.{filledAt, place-at, filled-nonzero}
 
 -- a place of a table by its level, digit and slot
-place-of : (p : ℕ) → 64 * (p / 64) + 4 * (p % 64 / 4) + p % 4 ≡ p
+pub place-of : (p : ℕ) → 64 * (p / 64) + 4 * (p % 64 / 4) + p % 4 ≡ p
 place-of p = omega arith
 
-same-place : (p q : ℕ) → p / 64 ≡ q / 64 → p % 64 / 4 ≡ q % 64 / 4 → p % 4 ≡ q % 4 → p ≡ q
+pub same-place : (p q : ℕ) → p / 64 ≡ q / 64 → p % 64 / 4 ≡ q % 64 / 4 → p % 4 ≡ q % 4 → p ≡ q
 same-place p q ei ej ek =
     sym (place-of p)
     ∙ ap₂ (λ (i j : ℕ). 64 * i + 4 * j + p % 4) ei ej
@@ -48,28 +48,28 @@ module _ (s t : List ℕ) (S : Sound s t) (y : ℕ) (h : y < nodeCount s) where
   at : (q : ℕ) → q < 512 → getD T q 0 ≡ getD t (512 * y + q) 0
   at = place-at t y (omega (arith, S .few, S .long .tables))
 
-  nonzero : (q : ℕ) → q < 512 → filled q ≡ true → getD T q 0 ≡ 0 → ⊥
+  pub nonzero : (q : ℕ) → q < 512 → filled q ≡ true → getD T q 0 ≡ 0 → ⊥
   nonzero q l e z = filled-nonzero t (512 * y + q) e (sym (at q l) ∙ z)
 
   -- a filled place keeps the rules of a slot
-  slot-of : (q : ℕ) → q < 512 → filled q ≡ true → SlotOk s (y + 1) T (q / 64) (q % 64 / 4) (q % 4)
+  pub slot-of : (q : ℕ) → q < 512 → filled q ≡ true → SlotOk s (y + 1) T (q / 64) (q % 64 / 4) (q % 4)
   slot-of q l e = filled-slot s (S .settings) (y + 1) T (S .tables (y + 1) is-node) q l (nonzero q l e) .0
 
   -- a place of an own entry, and one below the last of eight levels
   abbrev ofOwn : ℕ → Bool
   ofOwn q = eqb (q % 64 / 4) (digitOf (idOf s (y + 1)) (q / 64))
 
-  abbrev own : ℕ → Bool
+  abbrev pub own : ℕ → Bool
   own q = ltb (q / 64) 7 && ofOwn q
 
-  own-digit : (q : ℕ) → own q ≡ true → q % 64 / 4 ≡ digitOf id (q / 64)
+  pub own-digit : (q : ℕ) → own q ≡ true → q % 64 / 4 ≡ digitOf id (q / 64)
   own-digit q e = eqb-true _ _ (and-right (ltb (q / 64) 7) (ofOwn q) e)
 
   not-own : (q : ℕ) → q / 64 < 7 → own q ≡ false → ofOwn q ≡ false
   not-own q l e = sym (ap (λ (b : Bool). b && ofOwn q) (lt-ltb (q / 64) 7 l)) ∙ e
 
   -- a node does not stand twice, but for own entries below the last level
-  twice : (p q : ℕ) → p < q → q < 512 → filled p ≡ true → filled q ≡ true → own p ≡ false → getD T p 0 ≡ getD T q 0 → ⊥
+  pub twice : (p q : ℕ) → p < q → q < 512 → filled p ≡ true → filled q ≡ true → own p ≡ false → getD T p 0 ≡ getD T q 0 → ⊥
   twice p q l g fp fq other e = go (decLt (p / 64) (q / 64))
     where
       P : SlotOk s (y + 1) T (p / 64) (p % 64 / 4) (p % 4)
@@ -113,7 +113,7 @@ module _ (s t : List ℕ) (S : Sound s t) (y : ℕ) (h : y < nodeCount s) where
   abbrev code : ℕ → ℕ
   code q = cond (own q) (64 + 4 * (q / 64) + q % 4) (getD T q 0 - 1)
 
-  node-most : (q : ℕ) → q < 512 → filled q ≡ true → getD T q 0 ≤ 64
+  pub node-most : (q : ℕ) → q < 512 → filled q ≡ true → getD T q 0 ≤ 64
   node-most q l e =
       omega (arith, slot-of q l e .within, S .few, ap (λ (p : ℕ). getD T p 0) (place-of q))
 

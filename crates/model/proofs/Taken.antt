@@ -13,8 +13,9 @@ use Rattle.model.specs.Memory.{Memory, stateLength, tablesLength, nodeCo
 use Rattle.model.specs.Nodes.{isNode}
 use Rattle.model.specs.Sound.{sound}
 use Rattle.model.specs.Image.{imNodes, imBase, imDigits, imDepth, imRecords, imId, imIdValid, imIdDiffers, imIdNew, imIsNode, recNode, recNeighbor, recNodesGood, recOrdered, recAllowed, recOwnerFirst, ownHaveRecords, ownPresent, recordsOwned, isVersion, hasJoins, imVersion, joinsListed, held, imageOf}
+use Rattle.model.specs.Fill.{filling}
 use Rattle.model.specs.Lookup.{endFailed}
-use Rattle.model.specs.Refusals.{Sentence, firstTrue, memoryShort, frameSentences, recordSentences, joinsWrong, unsound, hasId, idTaken, areNodes, someNotInSystem, stateSentences, foundRefusal, readRefusal, stateRefusal, beginRefusal, withdrawRefusal, deliverRefusal, lookupRefusal, verdictRefusal, writeRefusal}
+use Rattle.model.specs.Refusals.{Sentence, firstTrue, memoryShort, frameSentences, recordSentences, joinsWrong, unsound, hasId, idTaken, areNodes, someNotInSystem, stateSentences, foundRefusal, readRefusal, stateRefusal, beginRefusal, withdrawRefusal, deliverRefusal, lookupRefusal, verdictRefusal, fillRefusal, writeRefusal}
 use Rattle.model.proofs.Bools.{and-left, and-right, and-intro, or-none-left, or-none-right}
 use Rattle.model.proofs.Refusals.{numbered, testOf, passed, skipped, free, first-free, sentence-none}
 use Rattle.model.proofs.Counts.{counts-ok}
@@ -25,6 +26,7 @@ use Rattle.model.proofs.Status.{IsNode, is-node, is-node-of}
 use Rattle.model.proofs.Sound.{Long, Sound, sound-ok, sound-of}
 use Rattle.model.proofs.BeginningKeepsSound.{CanBegin}
 use Rattle.model.proofs.Sender.{CanDeliver}
+use Rattle.model.proofs.Filling.{Steady}
 use Rattle.model.proofs.LoadingIsSound.{GoodImage}
 
 pub long-of : (m : Memory) → memoryShort m ≡ false → Long (m .state) (m .tables)
@@ -108,7 +110,7 @@ module _ (m : Memory) where
       (sound-past m (p 1) (p 2), n .0, n .1, p 21)
 
   -- 15: every node is in system
-  all-in-system : someNotInSystem s ≡ false → (x : ℕ) → IsNode s x → isInSystem s x ≡ true
+  pub all-in-system : someNotInSystem s ≡ false → (x : ℕ) → IsNode s x → isInSystem s x ≡ true
   all-in-system e x n = nodes-at (nodeCount s) (isInSystem s) (not-false _ e) x (n .low) (n .high)
 
   pub verdict-taken : verdictRefusal m ≡ 0 → Sound s t × ((x : ℕ) → IsNode s x → isInSystem s x ≡ true)
@@ -116,6 +118,12 @@ module _ (m : Memory) where
   verdict-taken e =
       let p = passed _ refl e in
       (sound-past m (p 1) (p 2), all-in-system (p 15))
+
+  pub fill-taken : (out : List ℕ) → fillRefusal m out ≡ 0 → Steady s t × (length (filling s t .list) ≤ length out)
+  unfolding fillRefusal numbered testOf
+  fill-taken out e =
+      let p = passed _ refl e in
+      (record { sound = sound-past m (p 1) (p 2); settled = all-in-system (p 15) }, ltb-false (length out) (length (filling s t .list)) (p 16))
 
   -- what a writing that is not refused has: of version 1 every node is in system
   pub record CanWrite (v : ℕ) (out : List ℕ) : Type 0 where
@@ -238,10 +246,18 @@ deliver-free m x y S c =
     (free (not (areNodes s x y)) 9 _ (ap not (and-intro _ _ (is-node-of s x (c .sender)) (is-node-of s y (c .receiver))))
     (free _ 13 _ (ap not (c .requested)) (free _ 14 [] (c .free) (sym sentence-none))))
 
+-- every node is in system: not 15
+not-unsettled : (s : List ℕ) → ((x : ℕ) → IsNode s x → isInSystem s x ≡ true) → someNotInSystem s ≡ false
+not-unsettled s settled = ap not (nodes-of (nodeCount s) (isInSystem s) (λ x low high. settled x (record { low = low; high = high })))
+
 pub verdict-free : (m : Memory) → Sound (m .state) (m .tables) → ((x : ℕ) → IsNode (m .state) x → isInSystem (m .state) x ≡ true) → verdictRefusal m ≡ 0
 unfolding verdictRefusal
-verdict-free m S settled =
-    let s = m .state in
-    state-free m _ S
-    (free (someNotInSystem s) 15 [] (ap not (nodes-of (nodeCount s) (isInSystem s) (λ x low high. settled x (record { low = low; high = high }))))
-    (sym sentence-none))
+verdict-free m S settled = state-free m _ S (free (someNotInSystem (m .state)) 15 [] (not-unsettled (m .state) settled) (sym sentence-none))
+
+pub fill-free : (m : Memory) (out : List ℕ) → Steady (m .state) (m .tables) → length (filling (m .state) (m .tables) .list) ≤ length out
+    → fillRefusal m out ≡ 0
+unfolding fillRefusal
+fill-free m out w fits =
+    state-free m _ (w .sound)
+    (free (someNotInSystem (m .state)) 15 _ (not-unsettled (m .state) (w .settled))
+    (free _ 16 [] (le-ltb (length out) (length (filling (m .state) (m .tables) .list)) fits) (sym sentence-none)))

@@ -5,15 +5,18 @@ use mathlib.Core.Bool.{Bool, true, false, cond}
 use mathlib.Core.List.{List}
 use native.Mathlib.Omega.{arith}
 use lib.ListN.{length, set}
-use Rattle.model.specs.Memory.{Node, stateLength, tablesLength, zeroed, withNode, withTable}
+use Rattle.model.specs.Memory.{Node, depth, stateLength, tablesLength, zeroed, withNode, withTable}
 use Rattle.model.specs.Tables.{append, ownTable}
 use Rattle.model.specs.Join.{Delivery, founded, delivery}
+use Rattle.model.specs.Fill.{filling, withRecords}
 use Rattle.model.specs.Image.{hasJoins, imVersion, imBase, imDigits, imDepth, imNodes, imId, imRecords, recNode, recLevel, recDigit, recNeighbor}
 use Rattle.model.specs.Image.{joinsListed, loadId, loadedIds, loadedJoins, loadRecord, loadedTables, loadedState, loaded}
 use Rattle.model.proofs.Tables.{append-length}
 use Rattle.model.proofs.OwnTable.{own-long}
 use Rattle.model.proofs.Sound.{Sound}
 use Rattle.model.proofs.LoadingIsSound.{GoodImage}
+use Rattle.model.proofs.Filling.{Steady}
+use Rattle.model.proofs.FillingAlike.{filling-within}
 use Rattle.model.proofs.JoinsLoaded.{within-joins}
 use Rattle.model.proofs.Sender.{CanDeliver}
 use Rattle.model.proofs.Within.{Within, within-then, within-each, within-set, within-zeroed, then-set, within-node, within-table}
@@ -88,3 +91,8 @@ module _ (s t : List ℕ) (S : Sound s t) (x y : ℕ) (c : CanDeliver s x y) whe
         (within-table y (c .receiver .low) (omega (arith, c .receiver .high, S .few)) (λ U. d .receiverTable) (λ U q. tables-long s t S x y c .1))
         (within-table x (c .sender .low) (omega (arith, c .sender .high, S .few)) (λ U. d .senderTable) (λ U q. tables-long s t S x y c .0));
   }
+
+-- ---- a filling: the words stay, and the listed records are appended
+
+pub fill-works : (s t : List ℕ) → Steady s t → Works (λ s. s) (withRecords (depth s) (filling s t .list))
+fill-works s t w = record { state = record { apart = λ a b e. refl; long = λ a e. e }; tables = filling-within s t w }

@@ -1,10 +1,11 @@
 -- Filling short tables: document 02, ticket 10. Entry by entry in the order of an image, the lowest-numbered absent node is appended until the entry holds
 -- what it must, and each addition is listed.
 use Prim.Native.Nat.{ℕ, _+_, _-_, _*_, _/_, min}
-use mathlib.Core.Bool.{Bool, not, _&&_}
+use mathlib.Core.Bool.{Bool, cond, not, _&&_}
 use mathlib.Core.List.{List, [], _∷_, _++_}
 use lib.ListN.{length, getD}
-use Rattle.model.specs.Loops.{eachBelow, node}
+use lib.Dec.{eqb}
+use Rattle.model.specs.Loops.{eachBelow, joinBelow, node}
 use Rattle.model.specs.Memory.{base, digits, depth, nodeCount, tableOf, withTable}
 use Rattle.model.specs.Tables.{entrySize, holds, append}
 use Rattle.model.specs.Nodes.{qualifies, firstNode}
@@ -64,3 +65,12 @@ withRecord K list r t =
 -- one record after another
 unfoldable pub withRecords : ℕ → List ℕ → List ℕ → List ℕ
 withRecords K list t = eachBelow (length list / 4) (withRecord K list) t
+
+-- the neighbour of record r, where that is of entry (i, j) of x
+unfoldable pub listedAt : List ℕ → ℕ → ℕ → ℕ → ℕ → List ℕ
+listedAt list x i j r =
+    cond (eqb (getD list (4 * r) 0) x && (eqb (getD list (4 * r + 1) 0) i && eqb (getD list (4 * r + 2) 0) j)) (getD list (4 * r + 3) 0 ∷ []) []
+
+-- the neighbours of the records of entry (i, j) of x, in their order
+unfoldable pub listedFor : List ℕ → ℕ → ℕ → ℕ → List ℕ
+listedFor list x i j = joinBelow (length list / 4) (listedAt list x i j)

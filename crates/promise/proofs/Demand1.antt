@@ -1,5 +1,5 @@
 -- Demand 1: a refused call changes nothing, and no call reads or changes what lies past the fixed lengths. Assumes nothing.
-use Prim.Native.Nat.{ℕ, zero, suc, _+_, _-_}
+use Prim.Native.Nat.{ℕ, zero, suc, _+_, _-_, _/_}
 use mathlib.Core.Path.{_≡_, refl, sym, ap, ap₂, subst, _∙_}
 use mathlib.Core.Logic.{_≢_}
 use mathlib.Core.Bool.{true, false, true≢false}
@@ -12,18 +12,21 @@ use Rattle.model.specs.Join.{Delivery, newNode, joiningNode, noNode, founded, b
 use Rattle.model.specs.Lookup as routing
 use Rattle.model.specs.Survey.{surveyCounts}
 use Rattle.model.specs.Consistency as consistency
+use Rattle.model.specs.Fill.{Filling, filling, withRecords}
 use Rattle.model.specs.Image.{imageOf, loaded}
-use Rattle.model.specs.Refusals.{foundRefusal, readRefusal, recordPlace, beginRefusal, withdrawRefusal, deliverRefusal, lookupRefusal, verdictRefusal, writeRefusal, traceRefusal, tracePlace, stateRefusal}
-use Rattle.model.specs.Calls.{Outcome, refusedAt, taken, unlessRefused, deliveryFields, lookupFields, verdictFields, foundCall, readCall, beginCall, withdrawCall, deliverCall, lookupCall, surveyCall, verdictCall, writeCall, traceCall, soundCall}
-use Rattle.model.specs.Run.{Call, found, read, begin, withdraw, deliver, lookup, survey, verdict, write, trace, sound, step, after, play, history, isTaken}
+use Rattle.model.specs.Refusals.{foundRefusal, readRefusal, recordPlace, beginRefusal, withdrawRefusal, deliverRefusal, lookupRefusal, verdictRefusal, fillRefusal, writeRefusal, traceRefusal, tracePlace, stateRefusal}
+use Rattle.model.specs.Calls.{Outcome, refusedAt, taken, unlessRefused, deliveryFields, lookupFields, verdictFields, foundCall, readCall, beginCall, withdrawCall, deliverCall, lookupCall, surveyCall, verdictCall, filledBy, fillCall, writeCall, traceCall, soundCall}
+use Rattle.model.specs.Run.{Call, found, read, begin, withdraw, deliver, lookup, survey, verdict, fill, write, trace, sound, step, after, play, history, isTaken}
 use Rattle.model.proofs.Sound.{Long}
-use Rattle.model.proofs.Taken.{state-taken, found-taken, read-taken, begin-taken, withdraw-taken, deliver-taken, lookup-taken, verdict-taken, write-taken, not-short}
+use Rattle.model.proofs.Taken.{state-taken, found-taken, read-taken, begin-taken, withdraw-taken, deliver-taken, lookup-taken, verdict-taken, fill-taken, write-taken, not-short}
 use Rattle.model.proofs.OwnTable.{own-long}
 use Rattle.model.proofs.Calls.{either-end, taken-zero}
+use Rattle.model.proofs.FillingRecords.{filling-records}
+use Rattle.model.proofs.FillingAlike.{filling-same}
 use Rattle.model.proofs.Within.{within-past, within-same}
-use Rattle.model.proofs.Works.{Works, found-works, read-works, node-works, deliver-works}
+use Rattle.model.proofs.Works.{Works, found-works, read-works, node-works, deliver-works, fill-works}
 use Rattle.model.proofs.ReadingIsSound.{read-listed}
-use Rattle.model.proofs.Alike.{Alike, LongAlike, digits-same, count-same}
+use Rattle.model.proofs.Alike.{Alike, LongAlike, digits-same, depth-same, count-same}
 use Rattle.model.proofs.AlikeDelivery.{delivery-same}
 use Rattle.model.proofs.AlikeLooking as looking
 use Rattle.model.proofs.AlikeLooking.{image-same}
@@ -44,6 +47,7 @@ number m (deliver x y) = deliverRefusal m x y
 number m (lookup u z failed) = lookupRefusal m u z failed
 number m (survey failed) = stateRefusal m
 number m verdict = verdictRefusal m
+number m (fill out) = fillRefusal m out
 number m (write v out) = writeRefusal m v out
 number m (trace file) = traceRefusal m file
 number m sound = stateRefusal m
@@ -58,6 +62,7 @@ others m (deliver x y) n = replicate 3 0
 others m (lookup u z failed) n = replicate 3 0
 others m (survey failed) n = replicate 9 0
 others m verdict n = replicate 4 0
+others m (fill out) n = replicate 1 0
 others m (write v out) n = replicate 1 0
 others m (trace file) n = tracePlace m file n
 others m sound n = []
@@ -80,6 +85,13 @@ work m (deliver x y) =
 work m (lookup u z failed) = record { memory = m; out = []; fields = lookupFields (routing.lookup (m .state) (m .tables) failed u z) }
 work m (survey failed) = record { memory = m; out = []; fields = surveyCounts (m .state) (m .tables) failed }
 work m verdict = record { memory = m; out = []; fields = verdictFields (consistency.verdict (m .state) (m .tables)) }
+work m (fill out) =
+    let f = filling (m .state) (m .tables) in
+    record {
+      memory = record { state = m .state; tables = f .tables };
+      out = f .list ++ drop (length (f .list)) out;
+      fields = length (f .list) / 4 ∷ [];
+    }
 work m (write v out) =
     let im = imageOf v (m .state) (m .tables) in
     record { memory = m; out = im ++ drop (length im) out; fields = length im ∷ [] }
@@ -90,7 +102,7 @@ abbrev ended : Memory → Call → ℕ → Work → Outcome
 ended m c n w = unlessRefused n (refusedAt m (outputOf c) (others m c n)) (taken (w .memory) (w .out) (w .fields))
 
 step-is : (m : Memory) (c : Call) → step m c ≡ ended m c (number m c) (work m c)
-unfolding step foundCall readCall beginCall withdrawCall deliverCall lookupCall surveyCall verdictCall writeCall traceCall soundCall
+unfolding step foundCall readCall beginCall withdrawCall deliverCall lookupCall surveyCall verdictCall fillCall filledBy writeCall traceCall soundCall
 step-is m (found b d K id) = refl
 step-is m (read im) = refl
 step-is m (begin id gateway) = refl
@@ -99,6 +111,7 @@ step-is m (deliver x y) = refl
 step-is m (lookup u z failed) = refl
 step-is m (survey failed) = refl
 step-is m verdict = refl
+step-is m (fill out) = refl
 step-is m (write v out) = refl
 step-is m (trace file) = refl
 step-is m sound = refl
@@ -137,6 +150,7 @@ others-carried m (deliver x y) n k = zeros 3 k
 others-carried m (lookup u z failed) n k = zeros 3 k
 others-carried m (survey failed) n k = zeros 9 k
 others-carried m verdict n k = zeros 4 k
+others-carried m (fill out) n k = zeros 1 k
 others-carried m (write v out) n k = zeros 1 k
 others-carried m (trace file) n k = refl
 others-carried m sound n k = refl
@@ -201,6 +215,10 @@ work-past m (deliver x y) z =
 work-past m (lookup u v failed) z = refl
 work-past m (survey failed) z = refl
 work-past m verdict z = refl
+work-past m (fill out) z =
+    let w = fill-taken m out z .0 in
+    subst (λ (t : List ℕ). past (record { state = m .state; tables = t }) ≡ past m) (sym (filling-records (m .state) (m .tables)))
+    (works-past m _ _ (fill-works (m .state) (m .tables) w) (w .sound .long))
 work-past m (write v out) z = refl
 work-past m (trace file) z = refl
 work-past m sound z = refl
@@ -242,6 +260,7 @@ module _ (m m′ : Memory) (e : fixed m′ ≡ fixed m) where
   number-same (lookup u z failed) = alike.lookup-same m m′ a u z failed failed (λ x n. refl)
   number-same (survey failed) = alike.state-same m m′ a
   number-same verdict = alike.verdict-same m m′ a
+  number-same (fill out) = alike.fill-same m m′ a out
   number-same (write v out) = alike.write-same m m′ a v out
   number-same (trace file) = alike.trace-same m m′ a file
   number-same sound = alike.state-same m m′ a
@@ -256,6 +275,7 @@ module _ (m m′ : Memory) (e : fixed m′ ≡ fixed m) where
   others-same (lookup u z failed) = refl
   others-same (survey failed) = refl
   others-same verdict = refl
+  others-same (fill out) = refl
   others-same (write v out) = refl
   others-same (trace file) = alike.traced-same m m′ a file
   others-same sound = refl
@@ -328,6 +348,18 @@ module _ (m m′ : Memory) (e : fixed m′ ≡ fixed m) where
   work-same verdict z =
       let k = verdict-taken m z in
       looks _ _ (ap verdictFields (looking.verdict-same s t s′ t′ (both (k .0 .long)) (k .0)))
+  work-same (fill out) z =
+      let w = fill-taken m out z .0 in
+      let l = filling-same s t s′ t′ (both (w .sound .long)) w in
+      record {
+        fields = ap (λ (l : List ℕ). length l / 4 ∷ []) l;
+        out = ap (λ (l : List ℕ). l ++ drop (length l) out) l;
+        memory =
+            ap (λ (t : List ℕ). fixed (record { state = s′; tables = t }))
+            (filling-records s′ t′ ∙ ap₂ (λ (K : ℕ) (l : List ℕ). withRecords K l t′) (depth-same s s′ (a .state)) l)
+            ∙ works-front _ _ (fill-works s t w) (w .sound .long)
+            ∙ ap (λ (t : List ℕ). fixed (record { state = s; tables = t })) (sym (filling-records s t));
+      }
   work-same (write v out) z =
       let S = write-taken m v out z .sound in
       let i = image-same s t s′ t′ (both (S .long)) S v in

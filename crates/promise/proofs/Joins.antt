@@ -11,6 +11,7 @@ use borrow.Author.Tests.{not-true}
 use Rattle.model.specs.Memory.{Memory, depth, nodeCount, inSystem, isInSystem, isAttached, hasNode}
 use Rattle.model.specs.Join.{kindAttached, founded}
 use Rattle.model.specs.Lookup.{endFailed}
+use Rattle.model.specs.Fill.{filling}
 use Rattle.model.specs.Refusals.{foundRefusal, beginRefusal, withdrawRefusal, deliverRefusal}
 use Rattle.model.specs.Calls.{Outcome, refused, taken, foundCall, lookupCall, verdictCall}
 use Rattle.model.specs.Run.{Call, found, begin, withdraw, deliver, sound, step, after, play, history, isTaken, starts, goesOn}
@@ -22,10 +23,11 @@ use Rattle.model.proofs.BeginningKeepsSound.{begun-new}
 use Rattle.model.proofs.Sender.{CanDeliver}
 use Rattle.model.proofs.TablesOnlyGrow.{delivered-onward, sender-out, kind-attaches}
 use Rattle.model.proofs.NoRoom.{single-whole}
-use Rattle.model.proofs.Reaching.{Yes, Reaching, reaching-arrives, begun-reaching, withdrawn-reaching, delivered-reaching, yes-reaching}
+use Rattle.model.proofs.Reaching.{Yes, Reaching, reaching-arrives, begun-reaching, withdrawn-reaching, grown-reaching, delivered-reaching, yes-reaching}
+use Rattle.model.proofs.Filling.{filling-fills, filling-onward}
 use Rattle.model.proofs.Progress.{some-delivery}
 use Rattle.model.proofs.OneJoin.{joiner, begun-alone}
-use Rattle.model.proofs.Taken.{found-taken, begin-taken, withdraw-taken, deliver-taken, state-taken, withdraw-free}
+use Rattle.model.proofs.Taken.{found-taken, begin-taken, withdraw-taken, deliver-taken, fill-taken, state-taken, withdraw-free}
 use Rattle.model.proofs.Calls.{taken-is}
 use Rattle.promise.specs.Promise.{Passes, NodeIn}
 use Rattle.promise.specs.Failures.{failedNodes}
@@ -33,11 +35,12 @@ use Rattle.promise.specs.Withdrawals.{onlyOwn}
 use Rattle.promise.specs.OneJoin.{InTurn, Joins}
 use Rattle.promise.proofs.Demand1.{taken-number}
 use Rattle.promise.proofs.Demand2.{settled}
-use Rattle.promise.proofs.Steps.{Effect, still, begins, withdraws, delivers, effect}
-use Rattle.promise.proofs.Run.{begin-after, begin-answer, begun-number, withdraw-after, withdraw-answer, withdraw-away, deliver-after, deliver-answer, run-goes}
+use Rattle.promise.proofs.Steps.{Effect, still, begins, withdraws, delivers, fills, effect}
+use Rattle.promise.proofs.Run.{begin-after, begin-answer, begun-number, withdraw-after, withdraw-answer, withdraw-away, deliver-after, deliver-answer, fill-after, run-goes}
 use Rattle.promise.proofs.Promise.{lookup-answer}
 use Rattle.promise.proofs.Withdrawals.{withdrawals}
 use Rattle.promise.proofs.Deliveries.{deliveries-few}
+use Rattle.promise.proofs.Fills.{whole-after}
 use Rattle.promise.proofs.OneJoin.{passes-yes, yes-passes, can-taken, AloneIn, taken-alone, alone-passes, one-join}
 
 -- ---- one after another
@@ -144,6 +147,11 @@ module _ (M : Memory) (c : Call) (ok : BeginsInTurn M c) where
       let k = deliver-taken M z y r in
       absurd (not-both (isInSystem (M .state) z) (settled M (p .taken) z (k .1 .sender)) (sender-out (M .state) (M .tables) (k .0) z y (k .1)))
   step-turn (delivers z y e r) (joins m Y n A out back) = subst turn-of (sym e) (delivered-turn m Y M n A back z y r)
+  step-turn (fills out e r) (passes p) = subst turn-of (sym e) (subst Turn (sym (whole-after M out p)) (passes p))
+  step-turn (fills list e r) (joins m Y n A out back) =
+      absurd
+      (not-both (isInSystem (M .state) (nodeCount (m .state) + 1))
+      (fill-taken M list r .0 .settled _ (joiner (m .state) (m .tables) Y (M .state) (M .tables) n A)) out)
 
 play-turn : (M : Memory) (cs : List Call) → goesOn M cs ≡ true → InTurn M cs → Turn M → Turn (play M cs)
 unfolding goesOn play
@@ -184,6 +192,11 @@ module _ (s₀ : List ℕ) where
   step-reaching M c (delivers x y e r) R =
       let k = deliver-taken M x y r in
       rw (ap (after M) e ∙ deliver-after M x y r) (delivered-reaching s₀ (M .state) (M .tables) (k .0) x y (k .1) R)
+  step-reaching M c (fills out e r) R =
+      let w = fill-taken M out r .0 in
+      rw (ap (after M) e ∙ fill-after M out r)
+      (grown-reaching s₀ (M .state) (M .tables) (filling (M .state) (M .tables) .tables) (w .sound)
+      (filling-fills (M .state) (M .tables) w .steady .sound) (w .settled) (filling-onward (M .state) (M .tables) w) R)
 
   play-reaching : (M : Memory) (cs : List Call) → goesOn M cs ≡ true → Reaching s₀ (M .state) (M .tables)
       → Reaching s₀ (play M cs .state) (play M cs .tables)

@@ -14,7 +14,8 @@ pub mod Records
 pub mod Withdrawals
 pub mod Failures
 pub mod NoneFailed
--- ---- joins
+-- ---- filling; joins
+pub mod Fills
 pub mod OneJoin
 pub mod Deliveries
 pub mod Joins

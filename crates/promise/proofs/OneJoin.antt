@@ -30,7 +30,7 @@ use Rattle.promise.specs.Withdrawals.{begunAs}
 use Rattle.promise.specs.OneJoin.{OnlyDeliveries, deliveriesOf, OneJoin}
 use Rattle.promise.proofs.Demand1.{taken-number}
 use Rattle.promise.proofs.Demand2.{verdict-sound, settled, yes-says}
-use Rattle.promise.proofs.Steps.{event, Idle, refuses, Effect, still, begins, withdraws, delivers, effect, quiet}
+use Rattle.promise.proofs.Steps.{event, Idle, refuses, looks, Effect, still, begins, withdraws, delivers, fills, effect, quiet}
 use Rattle.promise.proofs.Run.{begin-after, begun-number, withdraw-after, deliver-after, deliver-answer, deliver-refused, not-taken}
 use Rattle.promise.proofs.Promise.{started, passes-whole}
 
@@ -106,6 +106,7 @@ module _ (m : Memory) (Y : Yes (m .state) (m .tables)) where
           let k = withdraw-taken M z r in
           absurd (omega (arith, nodes (ap (after M) e ∙ withdraw-after M z r), withdrawn-count (M .state) (M .tables) (k .0), k .0 .some))
       go (delivers z y e r) = subst (λ (c : Call). AloneIn (after M c) (counted M c n)) (sym e) (deliver-alone M n z y A)
+      go (fills out e r) = idle (subst (Idle M) (sym e) (looks (λ p q x a n. refl)))
 
   play-alone : (M : Memory) (n : ℕ) (cs : List Call) → AloneIn M n → OnlyDeliveries M cs → AloneIn (play M cs) (tallyFrom 0 every x n (history M cs))
   unfolding play history tallyFrom

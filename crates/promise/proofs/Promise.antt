@@ -11,7 +11,7 @@ use Rattle.model.specs.Lookup.{Lookup, veryHops, endFailed}
 use Rattle.model.specs.Consistency.{consistent}
 use Rattle.model.specs.Refusals.{foundRefusal, readRefusal, lookupRefusal}
 use Rattle.model.specs.Calls.{Outcome, refused, taken, lookupFields, foundCall, readCall, lookupCall}
-use Rattle.model.specs.Run.{Call, found, read, begin, withdraw, deliver, lookup, survey, verdict, write, trace, sound, step, after, play, history, isTaken, starts, goesOn, isRun, tallyFrom, sent}
+use Rattle.model.specs.Run.{Call, found, read, begin, withdraw, deliver, lookup, survey, verdict, fill, write, trace, sound, step, after, play, history, isTaken, starts, goesOn, isRun, tallyFrom, sent}
 use Rattle.model.proofs.Bools.{and-left, and-right, and-intro, or-none-right}
 use Rattle.model.proofs.Status.{IsNode, is-node}
 use Rattle.model.proofs.NodeCounts.{Fresh}
@@ -71,6 +71,7 @@ module _ (m : Memory) where
   started (lookup u z failed) e = absurd (false≢true e)
   started (survey failed) e = absurd (false≢true e)
   started verdict e = absurd (false≢true e)
+  started (fill out) e = absurd (false≢true e)
   started (write v out) e = absurd (false≢true e)
   started (trace file) e = absurd (false≢true e)
   started sound e = absurd (false≢true e)

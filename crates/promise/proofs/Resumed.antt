@@ -10,7 +10,7 @@ use lib.ListN.{getD, take}
 use Rattle.model.specs.Memory.{Memory, stateLength, nodeOf, requestsOf, noticesOf}
 use Rattle.model.specs.Refusals.{memoryShort, readRefusal}
 use Rattle.model.specs.Calls.{readCall, writeCall}
-use Rattle.model.specs.Run.{Call, found, read, begin, withdraw, deliver, lookup, survey, verdict, write, trace, sound, Event, step, after, play, history, isTaken, starts, isRun, keepsAsking, answersNotice, tallied, tally, tallyFrom, sent, answered}
+use Rattle.model.specs.Run.{Call, found, read, begin, withdraw, deliver, lookup, survey, verdict, fill, write, trace, sound, Event, step, after, play, history, isTaken, starts, isRun, keepsAsking, answersNotice, tallied, tally, tallyFrom, sent, answered}
 use Rattle.model.proofs.Bools.{and-left, and-right, or-none-left, or-none-right}
 use Rattle.model.proofs.Status.{IsNode, is-node, is-node-of}
 use Rattle.model.proofs.RequestBound.{requests-most}
@@ -130,6 +130,7 @@ module _ (first : ℕ) (counts : ℕ → Bool) (x : ℕ) where
       go true (lookup u z failed) h = same
       go true (survey failed) h = same
       go true verdict h = same
+      go true (fill out) h = same
       go true (write v out) h = same
       go true (trace file) h = same
       go true sound h = same

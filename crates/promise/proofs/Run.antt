@@ -1,33 +1,35 @@
 -- Every state of a run is sound, and the network only goes onward. Assumes nothing.
-use Prim.Native.Nat.{ℕ, _+_}
+use Prim.Native.Nat.{ℕ, _+_, _/_}
 use mathlib.Core.Path.{_≡_, sym, ap, subst, _∙_}
 use mathlib.Core.Logic.{_≢_}
 use mathlib.Core.Bool.{true, false, not}
-use mathlib.Core.List.{List, [], _∷_}
-use lib.ListN.{getD, replicate}
+use mathlib.Core.List.{List, [], _∷_, _++_}
+use lib.ListN.{length, getD, drop, replicate}
 use borrow.Author.Tests.{ne-eqb, not-true}
 use Rattle.model.specs.Memory.{Memory, nodeCount, isAttached}
 use Rattle.model.specs.Join.{begun, withdrawn, delivery, delivered}
-use Rattle.model.specs.Refusals.{beginRefusal, withdrawRefusal, deliverRefusal}
-use Rattle.model.specs.Calls.{Outcome, refusedAt, refused, taken, deliveryFields, beginCall, withdrawCall, deliverCall}
-use Rattle.model.specs.Run.{Call, begin, withdraw, deliver, step, after, play, isTaken, starts, goesOn}
+use Rattle.model.specs.Fill.{filling}
+use Rattle.model.specs.Refusals.{beginRefusal, withdrawRefusal, deliverRefusal, fillRefusal}
+use Rattle.model.specs.Calls.{Outcome, refusedAt, refused, taken, deliveryFields, beginCall, withdrawCall, deliverCall, filledBy, fillCall}
+use Rattle.model.specs.Run.{Call, begin, withdraw, deliver, fill, step, after, play, isTaken, starts, goesOn}
 use Rattle.model.proofs.Bools.{and-left, and-right}
 use Rattle.model.proofs.Sound.{Sound}
 use Rattle.model.proofs.BeginningKeepsSound.{begun-ok}
 use Rattle.model.proofs.DeliveryKeepsSound.{delivered-ok}
 use Rattle.model.proofs.TablesOnlyGrow.{Onward, onward-refl, onward-trans, begun-onward, delivered-onward}
 use Rattle.model.proofs.Withdrawing.{withdrawn-ok, withdrawn-onward}
-use Rattle.model.proofs.Taken.{begin-taken, withdraw-taken, deliver-taken}
+use Rattle.model.proofs.Filling.{filling-fills, filling-onward}
+use Rattle.model.proofs.Taken.{begin-taken, withdraw-taken, deliver-taken, fill-taken}
 use Rattle.model.proofs.Calls.{refused-is, taken-is}
 use Rattle.promise.specs.Withdrawals.{begunAs}
-use Rattle.promise.proofs.Steps.{Effect, still, begins, withdraws, delivers, effect}
+use Rattle.promise.proofs.Steps.{Effect, still, begins, withdraws, delivers, fills, effect}
 
 -- one call on, or many
 pub record Goes (m m′ : Memory) : Type 0 where
   pub sound : Sound (m′ .state) (m′ .tables)
   pub onward : Onward (m .state) (m .tables) (m′ .state) (m′ .tables)
 
--- ---- what a taken beginning, withdrawal and delivery leave and answer
+-- ---- what a taken beginning, withdrawal, delivery and filling leave and answer
 
 module _ (m : Memory) (id gateway : ℕ) (e : beginRefusal m id gateway ≡ 0) where
   begin-outcome : step m (begin id gateway) ≡ taken (begun (m .state) (m .tables) id gateway) [] ((nodeCount (m .state) + 1) ∷ [])
@@ -72,6 +74,23 @@ module _ (m : Memory) (x y : ℕ) (e : deliverRefusal m x y ≡ 0) where
   pub deliver-answer : step m (deliver x y) .answer ≡ 0 ∷ deliveryFields (delivery (m .state) (m .tables) x y)
   unfolding taken
   deliver-answer = ap (λ (o : Outcome). o .answer) deliver-outcome
+
+module _ (m : Memory) (out : List ℕ) (e : fillRefusal m out ≡ 0) where
+  pub fill-outcome : step m (fill out) ≡ filledBy m out (filling (m .state) (m .tables))
+  unfolding step fillCall
+  fill-outcome = taken-is _ _ _ e
+
+  pub fill-after : after m (fill out) ≡ record { state = m .state; tables = filling (m .state) (m .tables) .tables }
+  unfolding after taken filledBy
+  fill-after = ap (λ (o : Outcome). o .memory) fill-outcome
+
+  pub fill-answer : step m (fill out) .answer ≡ 0 ∷ length (filling (m .state) (m .tables) .list) / 4 ∷ []
+  unfolding taken filledBy
+  fill-answer = ap (λ (o : Outcome). o .answer) fill-outcome
+
+  pub fill-out : step m (fill out) .out ≡ filling (m .state) (m .tables) .list ++ drop (length (filling (m .state) (m .tables) .list)) out
+  unfolding taken filledBy
+  fill-out = ap (λ (o : Outcome). o .out) fill-outcome
 
 -- what a refused delivery leaves and answers
 pub deliver-refused : (m : Memory) (x y : ℕ) → deliverRefusal m x y ≢ 0
@@ -119,6 +138,11 @@ step-goes m c S f = go (effect m c f)
           sound = delivered-ok (m .state) (m .tables) (k .0) x y (k .1);
           onward = delivered-onward (m .state) (m .tables) (k .0) x y (k .1);
         }))
+    go (fills out e r) =
+        let w = fill-taken m out r .0 in
+        subst (λ (c : Call). Goes m (after m c)) (sym e)
+        (rw (fill-after m out r)
+        (record { sound = filling-fills (m .state) (m .tables) w .steady .sound; onward = filling-onward (m .state) (m .tables) w }))
 
 pub run-goes : (m : Memory) (cs : List Call) → Sound (m .state) (m .tables) → goesOn m cs ≡ true → Goes m (play m cs)
 unfolding goesOn play

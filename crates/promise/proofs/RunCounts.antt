@@ -13,8 +13,8 @@ use borrow.Author.Tests.{eq-eqb, ne-eqb, not-true}
 use Rattle.model.specs.Memory.{Memory, Node, digits, nodeCount, nodeOf, withNode, copying}
 use Rattle.model.specs.Nodes.{isNode}
 use Rattle.model.specs.Join.{Delivery, newNode, joiningNode, begun, withdrawn, delivery, delivered}
-use Rattle.model.specs.Refusals.{beginRefusal, withdrawRefusal, deliverRefusal}
-use Rattle.model.specs.Run.{Call, found, read, begin, withdraw, deliver, lookup, survey, verdict, write, trace, sound, Event, step, after, play, history, isTaken, starts, goesOn, keepsAsking, answersNotice, tallied, tally, tallyFrom}
+use Rattle.model.specs.Refusals.{beginRefusal, withdrawRefusal, deliverRefusal, fillRefusal}
+use Rattle.model.specs.Run.{Call, found, read, begin, withdraw, deliver, lookup, survey, verdict, fill, write, trace, sound, Event, step, after, play, history, isTaken, starts, goesOn, keepsAsking, answersNotice, tallied, tally, tallyFrom}
 use Rattle.model.proofs.Bools.{and-left, and-right}
 use Rattle.model.proofs.Memory.{node-stored}
 use Rattle.model.proofs.Status.{IsNode, is-node, is-node-of, node-among}
@@ -26,8 +26,8 @@ use Rattle.model.proofs.ReplacingKeepsSound.{agree-node, agree-kept}
 use Rattle.model.proofs.TablesOnlyGrow.{delivered-id, delivered-count}
 use Rattle.model.proofs.DeliveryCounts.{delivery-adds}
 use Rattle.model.proofs.Taken.{begin-taken, withdraw-taken, deliver-taken}
-use Rattle.promise.proofs.Steps.{event, quiet, Effect, still, begins, withdraws, delivers, effect}
-use Rattle.promise.proofs.Run.{Goes, step-goes, begin-after, begin-answer, withdraw-after, withdraw-answer, withdraw-away, deliver-after, deliver-answer}
+use Rattle.promise.proofs.Steps.{event, quiet, looks, Effect, still, begins, withdraws, delivers, fills, effect}
+use Rattle.promise.proofs.Run.{Goes, step-goes, begin-after, begin-answer, withdraw-after, withdraw-answer, withdraw-away, deliver-after, deliver-answer, fill-after}
 
 -- ---- a count: where a record has it, what a beginning sets it to, and which kinds of delivery raise it
 
@@ -165,6 +165,10 @@ module _ (k : Count) (K : Kept k) where
               ∙ H z (node-among _ s (omega (arith, delivered-count s t S x y c)) z i)
               ∙ sym (deliver-same z q)
 
+  -- a filling changes no record, and counts nothing
+  fill-same : (count : ℕ → ℕ) (m : Memory) (out : List ℕ) (x : ℕ) → next m (fill out) count x ≡ count x
+  fill-same count m out x = quiet m (fill out) (looks (λ p q x a n. refl)) (k .first) (k .counts) x (count x)
+
   step-counted : (count : ℕ → ℕ) (m : Memory) (c : Call) → Counted count m → starts m c ≡ false → Counted (next m c count) (after m c)
   step-counted count m c H f = go (effect m c f)
     where
@@ -176,6 +180,9 @@ module _ (k : Count) (K : Kept k) where
           subst (λ (c : Call). Counted (next m c count) (after m c)) (sym e) (rw (withdraw-after m y r) (withdraw-counted count m y r H))
       go (delivers x y e r) =
           subst (λ (c : Call). Counted (next m c count) (after m c)) (sym e) (rw (deliver-after m x y r) (deliver-counted count m x y r H))
+      go (fills out e r) =
+          subst (λ (c : Call). Counted (next m c count) (after m c)) (sym e)
+          (rw (fill-after m out r) (λ x n. H x n ∙ sym (fill-same count m out x)))
 
   -- a call that changes the count of x leaves x a node
   counts-nodes : (count : ℕ → ℕ) (m : Memory) (c : Call) → starts m c ≡ false → (x : ℕ) → (next m c count x ≡ count x) ⊎ IsNode (after m c .state) x
@@ -206,6 +213,7 @@ module _ (k : Count) (K : Kept k) where
                 high = omega (arith, q, delivered-count _ _ (w .0) y z (w .1), w .1 .sender .high);
               }))
           own (no q) = inl (deliver-same count m y z r x q)
+      go (fills out e r) = subst Counts (sym e) (inl (fill-same count m out x))
 
   -- ---- any list of calls that starts no new run
 
@@ -248,6 +256,7 @@ module _ (first first′ : ℕ) (counts : ℕ → Bool) (x : ℕ) (less : first 
       by-call (lookup u z failed) = l
       by-call (survey failed) = l
       by-call verdict = l
+      by-call (fill out) = l
       by-call (write v out) = l
       by-call (trace file) = l
       by-call sound = l

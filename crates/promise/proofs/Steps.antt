@@ -1,4 +1,4 @@
--- What each call of a run does: nothing to the network, or a beginning, a withdrawal or a delivery. Assumes nothing.
+-- What each call of a run does: nothing to the network, or a beginning, a withdrawal, a delivery or a filling. Assumes nothing.
 use Prim.Native.Nat.{ℕ}
 use mathlib.Core.Path.{_≡_, refl, ap, _∙_}
 use mathlib.Core.Logic.{_≢_}
@@ -7,9 +7,9 @@ use mathlib.Core.List.{List, [], _∷_}
 use native.Mathlib.Decide.{ℕ-discrete}
 use borrow.Author.Tests.{ne-eqb}
 use Rattle.model.specs.Memory.{Memory}
-use Rattle.model.specs.Refusals.{beginRefusal, withdrawRefusal, deliverRefusal}
-use Rattle.model.specs.Calls.{Outcome, refusedAt, unlessRefused, foundCall, readCall, beginCall, withdrawCall, deliverCall, lookupCall, surveyCall, verdictCall, writeCall, traceCall, soundCall}
-use Rattle.model.specs.Run.{Call, found, read, begin, withdraw, deliver, lookup, survey, verdict, write, trace, sound, step, after, Event, isTaken, starts, tallied, tally}
+use Rattle.model.specs.Refusals.{beginRefusal, withdrawRefusal, deliverRefusal, fillRefusal}
+use Rattle.model.specs.Calls.{Outcome, refusedAt, unlessRefused, foundCall, readCall, beginCall, withdrawCall, deliverCall, lookupCall, surveyCall, verdictCall, fillCall, writeCall, traceCall, soundCall}
+use Rattle.model.specs.Run.{Call, found, read, begin, withdraw, deliver, lookup, survey, verdict, fill, write, trace, sound, step, after, Event, isTaken, starts, tallied, tally}
 use Rattle.model.proofs.Calls.{refused-is, looks-on, not-taken-same}
 
 -- the call as an event of the history
@@ -26,6 +26,7 @@ pub data Effect (m : Memory) (c : Call) : Type 0 where
   begins : (id gateway : ℕ) → c ≡ begin id gateway → beginRefusal m id gateway ≡ 0 → Effect m c
   withdraws : (x : ℕ) → c ≡ withdraw x → withdrawRefusal m x ≡ 0 → Effect m c
   delivers : (x y : ℕ) → c ≡ deliver x y → deliverRefusal m x y ≡ 0 → Effect m c
+  fills : (out : List ℕ) → c ≡ fill out → fillRefusal m out ≡ 0 → Effect m c
 
 -- changes no count
 pub quiet : (m : Memory) (c : Call) → Idle m c → (first : ℕ) (counts : ℕ → Bool) (x n : ℕ) → tally first counts x (event m c) n ≡ n
@@ -48,7 +49,7 @@ refused-still m c out fields n done nz e =
 
 module _ (m : Memory) where
   pub effect : (c : Call) → starts m c ≡ false → Effect m c
-  unfolding starts step after foundCall readCall beginCall withdrawCall deliverCall lookupCall surveyCall verdictCall writeCall traceCall soundCall
+  unfolding starts step after foundCall readCall beginCall withdrawCall deliverCall lookupCall surveyCall verdictCall fillCall writeCall traceCall soundCall
   effect (found b d K id) f =
       still (not-taken-same m _ [] _ _ [] [] f) (looks (λ p q x a n. refl))
   effect (read im) f = still (not-taken-same m _ [] _ _ [] (0 ∷ []) f) (looks (λ p q x a n. refl))
@@ -70,6 +71,11 @@ module _ (m : Memory) where
   effect (lookup u z failed) f = still (looks-on m _ [] _ [] _) (looks (λ p q x a n. refl))
   effect (survey failed) f = still (looks-on m _ [] _ [] _) (looks (λ p q x a n. refl))
   effect verdict f = still (looks-on m _ [] _ [] _) (looks (λ p q x a n. refl))
+  effect (fill out) f = go (ℕ-discrete (fillRefusal m out) 0)
+    where
+      go : Dec (fillRefusal m out ≡ 0) → Effect m (fill out)
+      go (yes e) = fills out refl e
+      go (no nz) = refused-still m (fill out) out _ _ _ nz refl
   effect (write v out) f = still (looks-on m _ out _ _ _) (looks (λ p q x a n. refl))
   effect (trace file) f = still (looks-on m _ [] _ [] _) (looks (λ p q x a n. refl))
   effect sound f = still (looks-on m _ [] _ [] _) (looks (λ p q x a n. refl))

@@ -14,7 +14,7 @@ use Rattle.model.specs.Memory.{Memory, nodeCount, idOf, isInSystem, isAttached}
 use Rattle.model.specs.Join.{Delivery, kindAttached, withdrawn}
 use Rattle.model.specs.Refusals.{beginRefusal, withdrawRefusal, deliverRefusal}
 use Rattle.model.specs.Calls.{deliveryFields, lookupCall, surveyCall, verdictCall, writeCall, traceCall, soundCall}
-use Rattle.model.specs.Run.{Call, found, read, begin, withdraw, deliver, lookup, survey, verdict, write, trace, sound, step, after, play, history, isTaken}
+use Rattle.model.specs.Run.{Call, found, read, begin, withdraw, deliver, lookup, survey, verdict, fill, write, trace, sound, step, after, play, history, isTaken}
 use Rattle.model.proofs.Bools.{and-left, and-right, and-intro, or-right, or-intro-right, true-or-false}
 use Rattle.model.proofs.Memory.{same-id}
 use Rattle.model.proofs.Status.{IsNode, is-node, attached-other}
@@ -140,6 +140,7 @@ module _ (m : Memory) where
   own-more m′ (lookup u z failed) h e q = same (looks-on m′ _ [] _ [] _) h
   own-more m′ (survey failed) h e q = same (looks-on m′ _ [] _ [] _) h
   own-more m′ verdict h e q = same (looks-on m′ _ [] _ [] _) h
+  own-more m′ (fill out) h e q = absurd (false≢true q)
   own-more m′ (write v out) h e q = same (looks-on m′ _ out _ _ _) h
   own-more m′ (trace file) h e q = same (looks-on m′ _ [] _ [] _) h
   own-more m′ sound h e q = same (looks-on m′ _ [] _ [] _) h

@@ -7,10 +7,10 @@ use mathlib.Core.List.{List, [], _∷_}
 use lib.ListN.{getD}
 use Rattle.model.specs.Memory.{Memory}
 use Rattle.model.specs.Refusals.{recordPlace, tracePlace}
-use Rattle.model.specs.Run.{Call, found, read, begin, withdraw, deliver, lookup, survey, verdict, write, trace, sound, step, isTaken}
+use Rattle.model.specs.Run.{Call, found, read, begin, withdraw, deliver, lookup, survey, verdict, fill, write, trace, sound, step, isTaken}
 use Rattle.promise.specs.Fixed.{fixed, past}
 
--- the memory for output that a call is lent: none but for writing
+-- the memory for output that a call is lent: none but for filling and writing
 abbrev pub outputOf : Call → List ℕ
 outputOf (found b d K id) = []
 outputOf (read im) = []
@@ -20,6 +20,7 @@ outputOf (deliver x y) = []
 outputOf (lookup u z failed) = []
 outputOf (survey failed) = []
 outputOf verdict = []
+outputOf (fill out) = out
 outputOf (write version out) = out
 outputOf (trace file) = []
 outputOf sound = []
@@ -34,6 +35,7 @@ carried m (deliver x y) number = []
 carried m (lookup u z failed) number = []
 carried m (survey failed) number = []
 carried m verdict number = []
+carried m (fill out) number = []
 carried m (write version out) number = []
 carried m (trace file) number = tracePlace m file number
 carried m sound number = []

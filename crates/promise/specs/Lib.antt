@@ -11,4 +11,5 @@ pub mod Withdrawals
 pub mod Failures
 pub mod NoneFailed
 pub mod OneJoin
+pub mod Fills
 pub mod Traces

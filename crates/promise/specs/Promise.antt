@@ -10,7 +10,7 @@ use Rattle.model.specs.Nodes.{isNode, suffixOf}
 use Rattle.model.specs.Lookup.{veryHops, endFailed}
 use Rattle.model.specs.Image.{hasJoins, imVersion}
 use Rattle.model.specs.Calls.{lookupCall, verdictCall}
-use Rattle.model.specs.Run.{Call, found, read, begin, withdraw, deliver, lookup, survey, verdict, write, trace, sound, after, play, history, sent, sentFrom, answeredFrom, isTaken, isRun}
+use Rattle.model.specs.Run.{Call, found, read, begin, withdraw, deliver, lookup, survey, verdict, fill, write, trace, sound, after, play, history, sent, sentFrom, answeredFrom, isTaken, isRun}
 
 -- the digits already matched: the common suffix of u and z, where the lookup starts
 abbrev pub alreadyMatched : Memory → ℕ → ℕ → ℕ
@@ -35,6 +35,7 @@ restores (deliver x y) = false
 restores (lookup u z failed) = false
 restores (survey failed) = false
 restores verdict = false
+restores (fill out) = false
 restores (write version out) = false
 restores (trace file) = false
 restores sound = false

@@ -9,7 +9,7 @@ use lib.ListN.{getD}
 use Rattle.model.specs.Memory.{Memory, digits, requestsOf, noticesOf}
 use Rattle.model.specs.Refusals.{memoryShort}
 use Rattle.model.specs.Calls.{readCall, writeCall}
-use Rattle.model.specs.Run.{Call, found, read, begin, withdraw, deliver, lookup, survey, verdict, write, trace, sound, Event, after, play, history, isTaken, isRun, sent, sentFrom, answered, answeredFrom}
+use Rattle.model.specs.Run.{Call, found, read, begin, withdraw, deliver, lookup, survey, verdict, fill, write, trace, sound, Event, after, play, history, isTaken, isRun, sent, sentFrom, answered, answeredFrom}
 use Rattle.promise.specs.Fixed.{fixed}
 use Rattle.promise.specs.Demand1.{SameUpToThere}
 use Rattle.promise.specs.Demand2.{written}
@@ -55,6 +55,7 @@ beginsAs x (deliver y z) answer = false
 beginsAs x (lookup u z failed) answer = false
 beginsAs x (survey failed) answer = false
 beginsAs x verdict answer = false
+beginsAs x (fill out) answer = false
 beginsAs x (write version out) answer = false
 beginsAs x (trace file) answer = false
 beginsAs x sound answer = false

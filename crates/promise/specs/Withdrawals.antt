@@ -9,7 +9,7 @@ use lib.ListN.{length, getD, replicate}
 use Rattle.model.specs.Memory.{Memory, nodeCount, nodeOf, idOf, isInSystem, tableOf}
 use Rattle.model.specs.Nodes.{isNode}
 use Rattle.model.specs.Join.{noNode, kindAttached}
-use Rattle.model.specs.Run.{Call, found, read, begin, withdraw, deliver, lookup, survey, verdict, write, trace, sound, step, after, play, Event, history, isTaken}
+use Rattle.model.specs.Run.{Call, found, read, begin, withdraw, deliver, lookup, survey, verdict, fill, write, trace, sound, step, after, play, Event, history, isTaken}
 
 -- ---- what it undoes
 
@@ -23,6 +23,7 @@ isOwn x (deliver y z) answer = eqb y x && not (eqb (getD answer 1 0) kindAttache
 isOwn x (lookup u z failed) answer = true
 isOwn x (survey failed) answer = true
 isOwn x verdict answer = true
+isOwn x (fill out) answer = false
 isOwn x (write version out) answer = true
 isOwn x (trace file) answer = true
 isOwn x sound answer = true
