@@ -168,7 +168,7 @@ fn may_write(call: &Call, answer: u64) -> Parts {
         Call::Withdraw { node } => of_node(*node),
         Call::Lookup { .. } | Call::Verdict | Call::Sound | Call::Trace { .. } => NOTHING,
         Call::Write { .. } => Parts {
-            out: 0..(answer >> 8) as usize,
+            out: 0..call.written(answer),
             ..NOTHING
         },
         Call::Survey { .. } => Parts {
@@ -177,7 +177,7 @@ fn may_write(call: &Call, answer: u64) -> Parts {
         },
         Call::Fill => Parts {
             tables: 0..TABLE_BYTES,
-            out: 0..MOST_ADDED_BYTES.min(4 * (answer >> 8) as usize),
+            out: 0..MOST_ADDED_BYTES.min(call.written(answer)),
             ..NOTHING
         },
     }

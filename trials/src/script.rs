@@ -48,6 +48,17 @@ impl Call {
     pub const WRITE_1: Call = Call::Write { version: 1 };
     /// Writing an image with the joins under way and the counts.
     pub const WRITE_2: Call = Call::Write { version: 2 };
+
+    /// How many bytes of the output it has written, by its answer.
+    pub fn written(&self, answer: u64) -> usize {
+        let field = (answer >> 8) as usize;
+        match self {
+            _ if answer & 0xff != 0 => 0,
+            Call::Write { .. } => field,
+            Call::Fill => 4 * field,
+            _ => 0,
+        }
+    }
 }
 
 /// These nodes as the calls take them: bit u − 1 for node u. Numbers outside 1 to 64 mean nothing.

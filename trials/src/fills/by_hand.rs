@@ -7,7 +7,7 @@ use crate::compare::Pair;
 use crate::engine::{Engine, Second};
 use crate::lent::Lent;
 use crate::paper::{e1_short, E1};
-use crate::records::networks;
+use crate::records::{networks, Whole};
 use crate::script::Call;
 
 /// The depth, what nodes 00, 10, 01 and 11 of base 2 know beside themselves, and the list.
@@ -48,19 +48,23 @@ pub fn by_hand(a: &dyn Engine, b: &dyn Engine) -> Result<(), String> {
         let four = by_hand::image([2, 2, depth], &[0x00, 0x10, 0x01, 0x11], more);
         is_filled(pair, &four, list)?;
     }
-    for whole in networks() {
-        let numbers = [whole.settings.base(), whole.settings.digits()];
-        let [base, digits] = numbers.map(|number| number as u8);
-        let settings = [base, digits, whole.settings.depth() as u8];
-        let alone = by_hand::image(settings, &whole.ids, &[]);
-        let mut list = whole.records.clone();
-        list.retain(|[node, _, _, near]| node != near);
-        is_filled(pair, &alone, &list)?;
-        if image(pair, 1)? != whole.holding(whole.records.clone()).image() {
-            return Err(format!("{settings:?} alone is not filled to the whole"));
-        }
+    networks()
+        .iter()
+        .try_for_each(|whole| alone_is_filled(pair, whole))
+}
+
+/// Nodes that know only themselves come to the image in which each entry has the first that qualify, the owner before them.
+fn alone_is_filled(pair: &mut Pair, whole: &Whole) -> Result<(), String> {
+    let settings = whole.settings;
+    let numbers = [settings.base(), settings.digits(), settings.depth()];
+    let alone = by_hand::image(numbers.map(|number| number as u8), &whole.ids, &[]);
+    let mut list = whole.records.clone();
+    list.retain(|[node, _, _, near]| node != near);
+    is_filled(pair, &alone, &list)?;
+    match image(pair, 1)? == whole.holding(whole.records.clone()).image() {
+        true => Ok(()),
+        false => Err(format!("{settings:?} alone is not filled to the whole")),
     }
-    Ok(())
 }
 
 /// Once it has this list, and then none; each record is at the end of its entry.

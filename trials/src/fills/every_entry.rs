@@ -3,7 +3,7 @@
 
 use super::expected::with_additions;
 use super::networks::settled;
-use super::steps::{expect_kept, fill, image, meet_additions, restored};
+use super::steps::{call, expect_kept, fill, image, meet_additions, restored};
 use crate::compare::Pair;
 use crate::engine::Engine;
 use crate::met::{meet, Met};
@@ -25,7 +25,7 @@ pub fn every_entry(a: &dyn Engine, b: &dyn Engine) -> Result<Met, String> {
 
 fn is_right(pair: &mut Pair, met: &mut Met) -> Result<(), String> {
     let state = pair.memory().state.clone();
-    let passed = super::steps::call(pair, Call::Verdict)? == CONSISTENT;
+    let passed = call(pair, Call::Verdict)? == CONSISTENT;
     let [first, second] = [1, 2].map(|version| image(pair, version));
     let [first, second] = [first?, second?];
     let list = fill(pair)?;

@@ -137,8 +137,8 @@ impl Beside {
             return Err(format!("{answer:#x}, without a stop {expected:#x}"));
         }
         let taken = answer & 0xff == 0;
-        if let Line::Call(Call::Write { .. }) = line {
-            let length = if taken { (answer >> 8) as usize } else { 0 };
+        if let Line::Call(call) = line {
+            let length = call.written(answer);
             self.out[..length].copy_from_slice(&point.out[..length]);
         }
         let surveyed = taken && matches!(line, Line::Call(Call::Survey { .. }));

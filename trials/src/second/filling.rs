@@ -1,11 +1,11 @@
 //! Filling: an entry that falls short gets the lowest-numbered qualified nodes that are absent, behind those that it has.
 
 use super::answers::{Answer, FillAnswer};
-use super::memory::{self, Tables, MOST_NODES};
+use super::memory::{self, TableBytes, Tables, MOST_NODES};
 use super::network::Network;
 use super::node_set::NodeSet;
 use super::refusal::Refusal;
-use super::settings::digit;
+use super::settings::{digit, Settings};
 use super::soundness::lent_and_sound;
 use super::table::Entry;
 
@@ -41,57 +41,64 @@ fn try_fill(state: &[u64], tables: &mut [u8], out: &mut [u8]) -> Result<FillAnsw
 
 /// What every entry lacks, in image order.
 fn additions_to(network: &Network, tables: &Tables) -> Vec<Addition> {
-    let digits = Digits::of(network);
-    let mut additions = vec![];
-    for (owner, _) in network.iter() {
-        add_to_table(network, &digits, tables, owner, &mut additions);
+    let mut filling = Filling {
+        settings: network.settings,
+        digits: Digits::of(network),
+        additions: vec![],
+    };
+    for (owner, node) in network.iter() {
+        filling.fill_table(owner, node.id, memory::table_bytes(tables, owner));
     }
-    additions
+    filling.additions
 }
 
-/// What one node's entries lack. Those that share the owner's low digits grow fewer level by level; once the owner is alone it stands already
-/// wherever anybody qualifies.
-fn add_to_table(
-    network: &Network,
-    digits: &Digits,
-    tables: &Tables,
-    owner: usize,
-    additions: &mut Vec<Addition>,
-) {
-    let (settings, own_id) = (network.settings, network.node(owner).id);
-    let table = memory::table_bytes(tables, owner);
-    let mut sharing = NodeSet(u64::MAX);
-    for level in 0..settings.digits() {
-        for digit in 0..settings.base() {
-            let qualified = sharing.intersection(digits.having(level, digit));
-            let entry = Entry::decode(memory::entry_bytes(table, level, digit));
-            let must = settings.depth().min(qualified.len());
-            let place = [owner as u8, level as u8, digit as u8];
-            add_to_entry(place, &entry, must, qualified, additions);
-        }
-        sharing = sharing.intersection(digits.having(level, digit(own_id, level)));
-        if sharing == NodeSet::only(owner) {
-            return;
-        }
-    }
+/// A filling on its way through the tables.
+struct Filling {
+    settings: Settings,
+    digits: Digits,
+    additions: Vec<Addition>,
 }
 
-/// The lowest absent ones, until so many would stand there.
-fn add_to_entry(
-    [owner, level, digit]: [u8; 3],
-    entry: &Entry,
-    must: usize,
-    qualified: NodeSet,
-    additions: &mut Vec<Addition>,
-) {
-    let mut absent = qualified;
-    if entry.len() < must {
-        entry.iter().for_each(|node| absent.remove(node));
+impl Filling {
+    /// Those that share the owner's low digits grow fewer level by level; once the owner is alone it stands already wherever anybody qualifies.
+    fn fill_table(&mut self, owner: usize, own_id: u32, table: &TableBytes) {
+        let mut sharing = NodeSet(u64::MAX);
+        for level in 0..self.settings.digits() {
+            self.fill_level([owner, level], sharing, table);
+            sharing = sharing.intersection(self.digits.having(level, digit(own_id, level)));
+            if sharing == NodeSet::only(owner) {
+                return;
+            }
+        }
     }
-    for _ in entry.len()..must {
-        let node = absent.lowest();
-        absent.remove(node);
-        additions.push([owner, level, digit, node as u8]);
+
+    fn fill_level(&mut self, [owner, level]: [usize; 2], sharing: NodeSet, table: &TableBytes) {
+        for digit in 0..self.settings.base() {
+            let qualified = sharing.intersection(self.digits.having(level, digit));
+            if !qualified.is_empty() {
+                let entry = Entry::decode(memory::entry_bytes(table, level, digit));
+                let place = [owner as u8, level as u8, digit as u8];
+                self.fill_entry(place, &entry, qualified);
+            }
+        }
+    }
+
+    /// The lowest absent ones, until it would hold what it must.
+    fn fill_entry(
+        &mut self,
+        [owner, level, digit]: [u8; 3],
+        entry: &Entry,
+        mut qualified: NodeSet,
+    ) {
+        let must = self.settings.depth().min(qualified.len());
+        if entry.len() < must {
+            entry.iter().for_each(|node| qualified.remove(node));
+        }
+        for _ in entry.len()..must {
+            let node = qualified.lowest();
+            qualified.remove(node);
+            self.additions.push([owner, level, digit, node as u8]);
+        }
     }
 }
 
