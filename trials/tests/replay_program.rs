@@ -2,6 +2,8 @@
 
 #[path = "replay_program/edges.rs"]
 mod edges;
+#[path = "programs/folders.rs"]
+mod folders;
 #[path = "replay_program/language.rs"]
 mod language;
 #[path = "replay_program/mangled.rs"]

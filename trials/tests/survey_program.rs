@@ -17,7 +17,7 @@ use trials::second::{Counts, LOST};
 
 const SURVEY: ImageProgram = ImageProgram {
     name: "survey",
-    ending: "survey",
+    ending: Some("survey"),
     lines,
     refused: |_| String::new(),
 };
@@ -97,7 +97,7 @@ fn samples_print_what_stands_beside_them() {
 /// Among them are images with lost pairs, with several hops and with refusals.
 #[test]
 fn random_and_damaged_images_print_the_same() {
-    let printed = SURVEY.random_and_damaged_images_print_the_same(image);
+    let printed = SURVEY.random_and_damaged_images_print_the_same(image, 400);
     let count = |has: fn(&str) -> bool| printed.iter().filter(|lines| has(lines)).count();
     let losing = count(|lines| lines.contains("lost ") && !lines.contains("lost 0\n"));
     let far = count(|lines| lines.contains("hops 3 ") && !lines.contains("hops 3 0\n"));
@@ -111,7 +111,7 @@ fn random_and_damaged_images_print_the_same() {
 /// Among them are images with joins under way, and some that are refused 24.
 #[test]
 fn random_and_damaged_images_of_version_2_print_the_same() {
-    let printed = SURVEY.random_and_damaged_images_print_the_same(image_2);
+    let printed = SURVEY.random_and_damaged_images_print_the_same(image_2, 400);
     let count = |start: &str| {
         let starts = printed.iter().filter(|lines| lines.starts_with(start));
         starts.count()

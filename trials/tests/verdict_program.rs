@@ -14,7 +14,7 @@ use trials::script::Call;
 
 const VERDICT: ImageProgram = ImageProgram {
     name: "verdict",
-    ending: "out",
+    ending: Some("out"),
     lines,
     refused,
 };
@@ -74,13 +74,13 @@ fn are_met(printed: &[String], starts: &[&str]) {
 
 #[test]
 fn random_and_damaged_images_print_the_same() {
-    let printed = VERDICT.random_and_damaged_images_print_the_same(image);
+    let printed = VERDICT.random_and_damaged_images_print_the_same(image, 400);
     are_met(&printed, &[CONSISTENT, NOT_CONSISTENT]);
 }
 
 #[test]
 fn random_and_damaged_images_of_version_2_print_the_same() {
-    let printed = VERDICT.random_and_damaged_images_print_the_same(image_2);
+    let printed = VERDICT.random_and_damaged_images_print_the_same(image_2, 400);
     let refused = ["refusal 15\n", "refusal 24\n"];
     are_met(&printed, &[CONSISTENT, NOT_CONSISTENT]);
     are_met(&printed, &refused);

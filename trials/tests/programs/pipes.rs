@@ -9,10 +9,14 @@ pub fn root() -> PathBuf {
     Path::new(env!("CARGO_MANIFEST_DIR")).join("..")
 }
 
-/// What the program prints in this folder for this input, which goes to it in pieces of at most `piece` bytes.
-pub fn printed(program: &str, folder: &Path, input: &[u8], piece: usize) -> String {
+/// What a program with its arguments prints in this folder for this input, which goes to it in pieces of at most `piece` bytes.
+pub fn printed(command: &[&str], folder: &Path, input: &[u8], piece: usize) -> String {
+    let [program, arguments @ ..] = command else {
+        unreachable!("a program is named");
+    };
     let path = root().join("target/bin").join(program);
     let mut child = Command::new(&path)
+        .args(arguments)
         .current_dir(folder)
         .stdin(Stdio::piped())
         .stdout(Stdio::piped())

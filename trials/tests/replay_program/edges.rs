@@ -2,7 +2,9 @@
 
 use std::fs;
 
-use trials::by_hand::surveyed;
+use trials::by_hand::{image, longest, surveyed};
+use trials::paper::e1_short;
+use trials::random::{thinned, Rng};
 
 use crate::language::{lines, Command, Line};
 use crate::pipes::root;
@@ -469,6 +471,82 @@ fn traces_of_255_paths_and_overlong_files() {
     }
 }
 
+/// Before founding, while a node joins, of a whole network, of short E1, and of three nodes with counts that know only themselves.
+const FILLINGS: &str = "\
+refused 2: the state is not sound
+found: node 1
+fill: 0 additions
+begin: node 2
+refused 15: a node is not settled
+deliver: copied
+refused 15: a node is not settled
+deliver: attached at level 0, settled
+fill: 0 additions
+load: 36 bytes
+verdict: node 1 level 0 digit 1 falls short
+fill: 1 addition
+  node 1 level 0 digit 1 gains 2
+verdict: consistent
+fill: 0 additions
+lookup: arrived at 2 in 1 hop
+save: 40 bytes
+load: 52 bytes
+fill: 8 additions
+  node 1 level 0 digit a gains 2
+  node 1 level 0 digit a gains 3
+  node 2 level 0 digit 0 gains 1
+  node 2 level 0 digit a gains 3
+  node 2 level 1 digit f gains 3
+  node 3 level 0 digit 0 gains 1
+  node 3 level 0 digit a gains 2
+  node 3 level 1 digit 1 gains 2
+node 1: id 00, settled, requests 3, notices 62
+node 2: id 1a, settled, requests 0, notices 0
+node 3: id fa, settled, requests 1, notices 2
+table 3: id fa, settled, requests 1, notices 2
+  level 0 digit 0: 1
+  level 0 digit a: 3 2
+  level 1 digit 1: 2
+  level 1 digit f: 3
+line 22: not understood
+line 23: not understood
+line 24: not understood
+line 25: not understood
+fill: 0 additions
+";
+
+#[test]
+fn fillings_before_founding_and_of_files() {
+    let counts = [0, 3, 3, 62, 0, 0, 1, 2];
+    let mut alone = image([16, 2, 2], &[0x00, 0x1a, 0xfa], &[]);
+    alone[1] = 2;
+    alone.extend(counts);
+    let files = [("short".into(), e1_short()), ("alone".into(), alone)];
+    let script = b"\
+fill\nfound 2 2 1 0\nfill\nbegin 1 1\nfill\ndeliver 2 1\nfill\ndeliver 2 1\nfill\n\
+load short\nverdict\n\tfill # one\nverdict\nfill\nlookup 1 2\nsave whole\nload alone\nfill\npanel\ntable 3\n\n\
+fill 1\nfill short\nFill\nfills\n  fill\r";
+    assert_eq!(printed_beside(&files, script), FILLINGS);
+}
+
+/// The longest list: 84 additions of each of 64 nodes.
+#[test]
+fn a_filling_of_5376_additions() {
+    let alone = thinned(&mut Rng::new(1), &longest(), 1);
+    let files = [("alone".into(), alone)];
+    let printed = printed_beside(&files, b"load alone\nfill\nverdict\nfill\nverdict");
+    let lines: Vec<&str> = printed.lines().collect();
+    assert_eq!(lines[1], "fill: 5376 additions");
+    assert_eq!(lines[2], "  node 1 level 0 digit 0 gains 2");
+    assert_eq!(lines[5377], "  node 64 level 7 digit 2 gains 63");
+    let rest = [
+        "verdict: consistent",
+        "fill: 0 additions",
+        "verdict: consistent",
+    ];
+    assert_eq!(lines[5378..], rest);
+}
+
 /// A section of docs/REPLAY.md: its first block is a script, and its second what is printed.
 fn blocks(heading: &str) -> [String; 2] {
     let page = fs::read_to_string(root().join("docs/REPLAY.md")).expect("the page");
@@ -684,6 +762,7 @@ fn name(line: &Line) -> &'static str {
             Command::Save { .. } => "save",
             Command::Load { .. } => "load",
             Command::Trace { .. } => "trace",
+            Command::Fill => "fill",
             Command::Table { .. } => "table",
             Command::Panel => "panel",
         },
@@ -710,6 +789,7 @@ fn the_script_of_the_docs_has_every_command_and_prints_what_stands_beside_it() {
         "",
         "begin",
         "deliver",
+        "fill",
         "found",
         "load",
         "lookup",

@@ -15,6 +15,7 @@ pub enum Command {
     Save { file: Vec<u8>, version: u64 },
     Load { file: Vec<u8> },
     Trace { file: Vec<u8> },
+    Fill,
     Table { node: u64 },
     Panel,
 }
@@ -76,6 +77,7 @@ fn command(words: &[&[u8]]) -> Option<Command> {
         [b"save", file, version] => save(file, number(version)?),
         [b"load", file] => Command::Load { file: file.into() },
         [b"trace", file] => Command::Trace { file: file.into() },
+        [b"fill"] => Command::Fill,
         [b"table", node] => Command::Table {
             node: number(node)?,
         },

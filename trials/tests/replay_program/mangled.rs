@@ -16,7 +16,7 @@ const SPECIAL: [u8; 16] = [
 ];
 
 /// The commands, each with how many words stand behind it.
-const COMMANDS: [(&str, usize); 13] = [
+const COMMANDS: [(&str, usize); 14] = [
     ("found", 4),
     ("begin", 2),
     ("withdraw", 1),
@@ -28,6 +28,7 @@ const COMMANDS: [(&str, usize); 13] = [
     ("save", 1),
     ("load", 1),
     ("trace", 1),
+    ("fill", 0),
     ("table", 1),
     ("panel", 0),
 ];
@@ -36,7 +37,7 @@ const COMMANDS: [(&str, usize); 13] = [
 const SMALL: &str = "0 1 1 1 1 2 2 2 3 4 5 8 10 11 16 64 a saved0 image0 trace0";
 
 /// What may stand there too, and what mostly may not.
-const ODD: &str = "foun founds Found tabl surveys pane panels Panel withdra withdraws Withdraw withdrawal without without withou withouts Without trac traces Trace traced write verdict sound panel 17 65 257 f FF \
+const ODD: &str = "foun founds Found tabl surveys pane panels Panel withdra withdraws Withdraw withdrawal without without withou withouts Without trac traces Trace traced fil fills Fill filled write verdict sound panel 17 65 257 f FF \
     g 0x1 -1 +1 1.0 1, . .. ffffffff 100000000 \
     1ffffffff 9223372036854775808 18446744073709551615 18446744073709551616 18446744073709551617 \
     99999999999999999999 00000000000000000000000000000001 0000000000000000ffffffff";
@@ -71,7 +72,7 @@ fn tally(counts: &mut BTreeMap<String, usize>, printed: &str) {
 fn all_kinds(counts: &BTreeMap<String, usize>) -> bool {
     let kinds = [
         "found", "begin", "withdraw", "deliver", "lookup", "verdict", "survey", "sound", "save",
-        "load", "trace", "table", "node", "refused", "failed", "line",
+        "load", "trace", "fill", "table", "node", "refused", "failed", "line",
     ];
     kinds.iter().all(|&kind| counts.contains_key(kind))
 }

@@ -9,11 +9,11 @@ use std::path::PathBuf;
 use trials::engine::{Engine, Second};
 use trials::second::memory::{COUNT, DIGITS, STATE_WORDS, TABLE_BYTES};
 use trials::second::network::Network;
-use trials::second::Counts;
+use trials::second::{Counts, MOST_ADDED_BYTES};
 
 use crate::language::{lines, Command, Line};
 use crate::support::Folder;
-use crate::words::{delivered, field, judged, looked_up, panelled, said, shown, surveyed};
+use crate::words::{delivered, field, filled, judged, looked_up, panelled, said, shown, surveyed};
 use crate::words::{tabled, traced};
 
 /// The longest script that is played.
@@ -110,6 +110,11 @@ impl<'a> Player<'a> {
             Command::Save { file, version } => self.save(file, *version),
             Command::Load { file } => self.load(file),
             Command::Trace { file } => self.trace(file),
+            Command::Fill => {
+                let mut list = vec![0; MOST_ADDED_BYTES];
+                let answer = Second.fill(state, tables, &mut list);
+                said(answer, |answer| filled(answer, &list))
+            }
             Command::Table { node } => shown(tabled(state, tables, *node)),
             Command::Panel => shown(panelled(state, tables)),
         }

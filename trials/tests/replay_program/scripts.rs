@@ -21,7 +21,7 @@ struct Maker<'a> {
 pub struct Made {
     pub text: Vec<u8>,
     commands: Vec<Command>,
-    /// What each `table`, each `panel`, each `sound`, each `survey` and each `trace` was answered, line by line of a panel, else its first line.
+    /// What each `table`, each `panel`, each `sound`, each `survey`, each `trace` and each `fill` was answered, line by line of a panel, else its first line.
     looks: Vec<(&'static str, String)>,
     /// What the script reads and has not written itself.
     pub files: Vec<File>,
@@ -105,6 +105,7 @@ impl Maker<'_> {
             Command::Sound => Some(("sound", 1)),
             Command::Survey { .. } => Some(("survey", 1)),
             Command::Trace { .. } => Some(("trace", 1)),
+            Command::Fill => Some(("fill", 1)),
             _ => None,
         };
         if let Some((name, most)) = looks {
@@ -139,6 +140,7 @@ impl Maker<'_> {
                     version: one,
                 },
                 Command::Trace { file },
+                Command::Fill,
             ];
             let command = commands[self.rng.below(commands.len())].clone();
             self.command(command);
@@ -196,6 +198,7 @@ impl Maker<'_> {
             Call::Trace { trace } => Command::Trace {
                 file: self.loaded_name("trace", trace),
             },
+            Call::Fill => Command::Fill,
         };
         self.command(command);
     }
@@ -301,6 +304,7 @@ fn command_words(rng: &mut Rng, command: &Command) -> Vec<Vec<u8>> {
         Command::Trace { file } => return vec![b"trace".to_vec(), file.clone()],
         Command::Table { node } => vec!["table".into(), number(*node)],
         Command::Panel => vec!["panel".into()],
+        Command::Fill => vec!["fill".into()],
     };
     texts.into_iter().map(String::into_bytes).collect()
 }
@@ -353,7 +357,7 @@ fn agree(made: Made, ours: &Folder, seed: u64, looks: &mut BTreeMap<String, usiz
 }
 
 /// What random scripts must meet.
-const PRINTED: [&str; 8] = [
+const PRINTED: [&str; 11] = [
     " at record ",
     "withdraw: node ",
     "refused 19: ",
@@ -362,6 +366,9 @@ const PRINTED: [&str; 8] = [
     "lookup: lost ",
     "refused 4: ",
     "refused 24: ",
+    "fill: 0 additions\n",
+    "fill: 1 addition\n",
+    " gains ",
 ];
 
 #[test]
@@ -399,6 +406,9 @@ fn random_scripts_print_what_the_second_engine_answers() {
         "trace refused 23",
         "trace accepted",
         "trace read",
+        "fill refused 2",
+        "fill refused 15",
+        "fill additions",
     ];
     assert!(wanted.iter().all(|&kind| looks.contains_key(kind)));
 }

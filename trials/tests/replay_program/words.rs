@@ -22,7 +22,7 @@ const SENTENCES: [&str; 25] = [
     "no request from the first node to the second is outstanding",
     "the receiver of a wait request is not settled",
     "a node is not settled",
-    "the memory for the image is too short",
+    "the memory for the output is too short",
     "the neighbour is not qualified, is in its entry already, or finds it full",
     "an own entry does not start with its owner",
     "the node is not the highest-numbered one",
@@ -120,6 +120,17 @@ pub fn surveyed(digits: usize, counts: &Counts) -> String {
             let marks = (50 * count).div_ceil(pairs);
             words += &format!(" {}", "#".repeat(marks as usize));
         }
+    }
+    words
+}
+
+/// How many were added, then each by its entry.
+pub fn filled(answer: u64, list: &[u8]) -> String {
+    let count = (answer >> 8) as usize;
+    let unit = if count == 1 { "addition" } else { "additions" };
+    let mut words = format!("fill: {count} {unit}");
+    for [node, level, digit, near] in &list.as_chunks().0[..count] {
+        words += &format!("\n  node {node} level {level} digit {digit:x} gains {near}");
     }
     words
 }
