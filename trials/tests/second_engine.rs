@@ -44,6 +44,12 @@ mod withdrawing;
 mod wrong_counts;
 #[path = "second_engine/wrong_failures.rs"]
 mod wrong_failures;
+#[path = "second_engine/wrong_fill_lists.rs"]
+mod wrong_fill_lists;
+#[path = "second_engine/wrong_fill_nodes.rs"]
+mod wrong_fill_nodes;
+#[path = "second_engine/wrong_fill_refusals.rs"]
+mod wrong_fill_refusals;
 #[path = "second_engine/wrong_fills.rs"]
 mod wrong_fills;
 #[path = "second_engine/wrong_images.rs"]
