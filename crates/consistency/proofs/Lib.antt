@@ -1,3 +1,3 @@
 -- Laws that the proofs of the check of K-consistency cite.
 mod Passed
-mod Judged
+pub mod Judged

@@ -1,6 +1,6 @@
 -- What the pass over the nodes counts, and when an entry meets its count. s is the state, T the table of one node, C the counts: place
 -- 16i + j for entry (i, j).
-use Prim.Native.Nat.{ℕ, _+_, _*_, _^_, _≤_, _<_, min}
+use Prim.Native.Nat.{ℕ, _+_, _-_, _*_, _^_, _≤_, _<_, min}
 use mathlib.Core.Path.{_≡_}
 use mathlib.Core.Bool.{Bool, cond, not}
 use mathlib.Core.List.{List}
@@ -64,3 +64,7 @@ misses K T C i j = not (meets K T C i j)
 -- some entry of level i misses its count
 abbrev pub levelMisses : ℕ → ℕ → List ℕ → List ℕ → ℕ → Bool
 levelMisses b K T C i = not (allBelow b (meets K T C i))
+
+-- how many nodes entry (i, j) is short of its count, K at most
+unfoldable pub shortOf : ℕ → List ℕ → List ℕ → ℕ → ℕ → ℕ
+shortOf K T C i j = min K (getD C (place i j) 0) - entrySize K T i j

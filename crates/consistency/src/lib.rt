@@ -1,7 +1,7 @@
 // The check of K-consistency, on a sound state.
 pub mod answer;
-mod short;
-mod tally;
+pub mod short;
+pub mod tally;
 
 ghost use mathlib.Core.Path.{_≡_};
 ghost use Prim.Native.Nat.{_+_, _<_};

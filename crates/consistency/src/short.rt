@@ -1,10 +1,10 @@
-// The first entry of a table that falls short of what was counted for it.
+// The first entry of a table that falls short of what was counted for it, and how many nodes an entry is short.
 ghost use mathlib.Core.Path.{_≡_};
 ghost use Prim.Native.Nat.{_≤_, _<_, min};
 ghost use lib.ListN.{length};
 ghost use Rattle.model.specs.Loops.{firstBelow};
 ghost use Rattle.tables.specs.Places.{Entry};
-ghost use Rattle.consistency.specs.Counted.{meets, misses, levelMisses};
+ghost use Rattle.consistency.specs.Counted.{meets, misses, levelMisses, shortOf};
 use tables::entry;
 
 // How many nodes an entry must hold: as many as there are for it, K at most.
@@ -21,6 +21,19 @@ fn whole(table: &[u8], counts: &[u8; 128], depth: usize, i: usize, j: usize) -> 
     ensures { λ r. ⌜ r ≡ meets depth (now (table .entry)) (now (counts .entry)) i j ⌝ }
 {
     entry::size(table, depth, i, j) == wanted(depth, counts[16 * i + j])
+}
+
+// How many nodes entry (i, j) is short of that many; 0 where it holds as many or more. For most entries there is none.
+pub fn by(table: &[u8], counts: &[u8; 128], depth: usize, i: usize, j: usize) -> usize
+    requires { ⌜ Entry (now table) depth i j ⌝ }
+    ensures { λ r. ⌜ (r ≡ shortOf depth (now (table .entry)) (now (counts .entry)) i j) × (r ≤ 4) ⌝ }
+{
+    let most = wanted(depth, counts[16 * i + j]);
+    if most == 0 {
+        return 0;
+    }
+    let held = entry::size(table, depth, i, j);
+    if held < most { most - held } else { 0 }
 }
 
 // The first digit of level i whose entry falls short; the base if there is none.

@@ -1,5 +1,5 @@
 -- Loading step by step: each record can be appended to its entry, and appending it is the book's step. Assumes nothing.
-use Prim.Native.Nat.{ℕ, _+_, _-_, _*_, _<_}
+use Prim.Native.Nat.{ℕ, _+_, _*_, _<_}
 use mathlib.Core.Path.{_≡_, sym, ap, ap₂, _∙_}
 use mathlib.Core.Bool.{Bool, true, false, cond}
 use mathlib.Core.List.{List}
@@ -11,34 +11,19 @@ use Rattle.model.specs.Memory.{zeroed, tableOf, withTable, stateLength, tablesL
 use Rattle.model.specs.Tables.{entrySize, append}
 use Rattle.model.specs.Join.{withSettings}
 use Rattle.model.specs.Image.{hasJoins, imVersion, imBase, imDigits, imDepth, imNodes, imId, imRecords, loadId, loadedIds, loadedJoins, loadRecord, loadedTables, loaded, loadedState}
-use Rattle.model.proofs.Memory.{zeroed-length, table-set}
+use Rattle.model.proofs.Memory.{zeroed-length}
 use Rattle.model.proofs.LoadingIsSound.{GoodImage, Words, words-loaded, record-ok, record-room}
 use Rattle.image_fields.specs.declared.header.Header.{Header}
 use Rattle.image_fields.specs.declared.record.Record.{Record}
 use Rattle.image_fields.specs.Parts.{Headed, RecordOf, Small}
 use Rattle.state.specs.Lent.{memory}
-use Rattle.image_loading.specs.Loads.{Fills, Appends}
+use Rattle.tables.specs.Places.{Appends}
+use Rattle.image_loading.specs.Loads.{Fills}
 
 pub id-step : (im s : List ℕ) (k v : ℕ) → v ≡ imId im (k + 1) → set s (8 * (k + 1)) v ≡ loadId im k s
 id-step im s k v e = ap (set s (8 * (k + 1))) e
 
 -- ---- one record
-
--- appending to an entry of node x's table stores one byte of the table memory
-module _ (t T : List ℕ) (K x i j u k : ℕ) (a : Appends t K x i j u) (lent : T ≡ tableOf t x) (is : k ≡ entrySize K T i j) where
-  e : k ≡ entrySize K (tableOf t x) i j
-  e = is ∙ ap (λ (T : List ℕ). entrySize K T i j) lent
-
-  pub append-place : 512 * (x - 1) + (64 * i + 4 * j + k) < length t
-  append-place = omega (arith, a .long, a .first, a .last, a .level, a .digit, a .deep, a .room, e)
-
-  pub appended : set t (512 * (x - 1) + (64 * i + 4 * j + k)) u ≡ withTable t x (append K (tableOf t x) i j u)
-  unfolding append
-  appended =
-      ap (λ (k : ℕ). set t (512 * (x - 1) + (64 * i + 4 * j + k)) u) e
-      ∙ sym
-      (table-set t x (64 * i + 4 * j + entrySize K (tableOf t x) i j) u (omega (arith, a .long, a .first, a .last))
-      (omega (arith, a .level, a .digit, a .deep, a .room)))
 
 -- the step of record r
 pub record-step : (im t t′ : List ℕ) (h : Header) (r : ℕ) (q : Record) → Headed im h → RecordOf im r q

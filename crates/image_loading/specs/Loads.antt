@@ -1,11 +1,10 @@
 -- What loading asks of the image, and of the memory that it is loaded into.
-use Prim.Native.Nat.{ℕ, _≤_, _<_}
+use Prim.Native.Nat.{ℕ, _≤_}
 use mathlib.Core.Path.{_≡_}
 use mathlib.Core.Bool.{true}
 use mathlib.Core.List.{List}
 use lib.ListN.{length}
-use Rattle.model.specs.Memory.{zeroed, tableOf, stateLength, tablesLength}
-use Rattle.model.specs.Tables.{entrySize}
+use Rattle.model.specs.Memory.{zeroed, stateLength, tablesLength}
 use Rattle.model.specs.Image.{hasJoins, imVersion, joinsListed}
 use Rattle.model.proofs.LoadingIsSound.{GoodImage}
 use Rattle.image_fields.specs.Parts.{CountsRight}
@@ -24,14 +23,3 @@ pub record Fills (t im : List ℕ) : Type 0 where
   pub long : tablesLength ≤ length before
   pub clear : t ≡ zeroed tablesLength before
   pub good : GoodImage im
-
--- u can be appended to entry (i, j) of node x in t
-pub record Appends (t : List ℕ) (K x i j u : ℕ) : Type 0 where
-  pub long : tablesLength ≤ length t
-  pub first : 1 ≤ x
-  pub last : x ≤ 64
-  pub level : i < 8
-  pub digit : j < 16
-  pub deep : K ≤ 4
-  pub room : entrySize K (tableOf t x) i j < K
-  pub byte : u < 256

@@ -4,13 +4,12 @@ ghost use mathlib.Core.Bool.{true};
 ghost use Prim.Native.Nat.{_≤_};
 ghost use lib.ListN.{length};
 ghost use Rattle.model.specs.Loops.{eachBelow};
-ghost use Rattle.model.specs.Memory.{tableOf, withTable, stateLength};
-ghost use Rattle.model.specs.Tables as book;
+ghost use Rattle.model.specs.Memory.{stateLength};
 ghost use Rattle.model.specs.Join.{withSettings};
 ghost use Rattle.model.specs.Image.{hasJoins, imVersion, imNodes, imRecords, joinsListed, loadId, loadedIds, loadRecord, loaded, loadedState};
 ghost use Rattle.image_fields.specs.Parts.{Headed};
 ghost use Rattle.state.specs.Lent.{memory};
-ghost use Rattle.image_loading.specs.Loads.{Loads, Fills, Appends};
+ghost use Rattle.image_loading.specs.Loads.{Loads, Fills};
 use image_fields::header;
 use image_fields::header::Header;
 use image_fields::ids;
@@ -46,16 +45,6 @@ fn load_ids(state: &mut [u64], image: &[u8], h: Header)
     }
 }
 
-// u behind the nodes of entry (i, j) of node x.
-fn append(tables: &mut [u8], depth: usize, x: usize, i: usize, j: usize, u: usize)
-    requires { ⌜ Appends (now tables) depth x i j u ⌝ }
-    ensures { λ r. ⌜ now (tables .exit) ≡ withTable (now (tables .entry)) x (book.append depth (tableOf (now (tables .entry)) x) i j u) ⌝ }
-{
-    let k = tables::entry::size(part::lent(tables, x), depth, i, j);
-    let start = 512 * (x - 1);
-    tables[start + (64 * i + 4 * j + k)] = u as u8;
-}
-
 fn load_records(tables: &mut [u8], image: &[u8], h: Header)
     requires { ⌜ Fills (now tables) (now image) ⌝ }
     requires { ⌜ Headed (now image) h ⌝ }
@@ -64,7 +53,7 @@ fn load_records(tables: &mut [u8], image: &[u8], h: Header)
     let mut r = 0;
     while r < h.records {
         let e = record::load(image, h, r);
-        append(tables, h.depth, e.node, e.level, e.digit, e.neighbor);
+        part::append(tables, h.depth, e.node, e.level, e.digit, e.neighbor);
         r += 1;
     }
 }

@@ -136,7 +136,7 @@ module _ (s t s′ t′ : List ℕ) (L : LongAlike s t s′ t′) (S : Sound s t
   -- ---- the verdict
 
   module _ (x : ℕ) (low : 1 ≤ x) (high : x ≤ nodeCount s) where
-    how-many-same : (i j : ℕ) → howMany s′ x i j ≡ howMany s x i j
+    pub how-many-same : (i j : ℕ) → howMany s′ x i j ≡ howMany s x i j
     unfolding howMany
     how-many-same i j =
         nodes-same countBelow count-same (nodeCount s) (nodeCount s′) count (qualifies s x i j) (qualifies s′ x i j)

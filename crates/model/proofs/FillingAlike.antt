@@ -6,13 +6,13 @@ use native.Mathlib.Nat.{add-zero}
 use native.Mathlib.Decide.{decLt}
 use native.Mathlib.Omega.{arith}
 use lib.ListN.{length, getD, take}
-use Rattle.model.specs.Loops.{countBelow, firstBelow, eachBelow, node}
+use Rattle.model.specs.Loops.{firstBelow, eachBelow, node}
 use Rattle.model.specs.Memory.{stateLength, tablesLength, base, digits, depth, nodeCount, tableStart, tableOf, withTable}
 use Rattle.model.specs.Tables.{append}
 use Rattle.model.specs.Nodes.{qualifies}
 use Rattle.model.specs.Consistency.{howMany}
 use Rattle.model.specs.Fill.{Filling, isAbsent, lowestAbsent, shortBy, added, fillOnce, fillEntry, fillLevel, fillNode, filling, withRecord, withRecords}
-use Rattle.model.proofs.Loops.{count-same, first-same, each-leads}
+use Rattle.model.proofs.Loops.{first-same, each-leads}
 use Rattle.model.proofs.Memory.{table-length, stored-length}
 use Rattle.model.proofs.Tables.{append-length}
 use Rattle.model.proofs.Status.{IsNode}
@@ -20,7 +20,7 @@ use Rattle.model.proofs.Sound.{Sound}
 use Rattle.model.proofs.Within.{Within, within-same, within-each, within-table}
 use Rattle.model.proofs.Alike as same
 use Rattle.model.proofs.Alike.{LongAlike, base-same, digits-same, depth-same, id-same, table-same}
-use Rattle.model.proofs.AlikeLooking.{nodes-same}
+use Rattle.model.proofs.AlikeLooking.{nodes-same, how-many-same}
 use Rattle.model.proofs.Filling.{Steady, EntryOf, unfilled, fills-once, once-short}
 use Rattle.model.proofs.FillingRecords.{steady-keep, more-length, more-before, more-here}
 
@@ -86,13 +86,9 @@ module _ (s t s′ t′ : List ℕ) (L : LongAlike s t s′ t′) (S : Sound s t
       (λ y l h. cc (qualifies-same y h, depth-same s s′ a, table-same s t s′ t′ L x (n .low) (few x (n .high)))))
 
   short-same : shortBy s′ t′ x i j ≡ shortBy s t x i j
-  unfolding shortBy howMany
+  unfolding shortBy
   short-same =
-      cc (
-        depth-same s s′ a,
-        table-same s t s′ t′ L x (n .low) (few x (n .high)),
-        nodes-same countBelow count-same (nodeCount s) (nodeCount s′) count (qualifies s x i j) (qualifies s′ x i j) (λ y l h. qualifies-same y h),
-      )
+      cc (depth-same s s′ a, table-same s t s′ t′ L x (n .low) (few x (n .high)), how-many-same s t s′ t′ L S x (n .low) (n .high) i j)
 
 module _ (s s′ : List ℕ) (a : take stateLength s′ ≡ take stateLength s) where
   -- both have got so far

@@ -22,7 +22,7 @@ use Rattle.model.proofs.Bools.{and-left, and-right, true-or-false}
 use Rattle.model.proofs.Loops.{count-none}
 use Rattle.model.proofs.Ids.{qualified-digit}
 use Rattle.model.proofs.Counting.{count-most, count-blocks}
-use Rattle.model.proofs.Sums.{bit, bits, count-sum}
+use Rattle.model.proofs.Sums.{bit, bits, count-sum, sum-less}
 use Rattle.model.proofs.Memory.{table-at, table-set}
 use Rattle.model.proofs.Tables.{size-empty}
 use Rattle.model.proofs.Status.{IsNode}
@@ -31,7 +31,6 @@ use Rattle.model.proofs.Records.{filledAt, place-at, filled-of}
 use Rattle.model.proofs.RecordsAreFew.{place-of, same-place, nonzero, slot-of, own, own-digit, twice, node-most}
 use Rattle.model.proofs.Filling.{Steady, EntryOf, lowest-node, short-room, filling-fills}
 use Rattle.model.proofs.FillingRecords.{steady-keep}
-use Rattle.model.proofs.FillingLength.{sum-less}
 
 -- place p is filled in t′ and was empty in t
 abbrev newAt : List ℕ → List ℕ → ℕ → Bool

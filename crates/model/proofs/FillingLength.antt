@@ -5,8 +5,7 @@ use mathlib.Core.Path.{_≡_, refl, sym, ap, ap₂, subst, subst₃, _∙_}
 use mathlib.Core.Logic.{_≢_}
 use mathlib.Core.Bool.{Bool, true, false, cond, _&&_}
 use mathlib.Core.List.{List, [], _∷_, _++_, append-assoc, append-nil}
-use native.Mathlib.Nat.{le-step, lt-suc-self}
-use native.Mathlib.Decide.{ℕ-discrete, le-ind}
+use native.Mathlib.Decide.{ℕ-discrete}
 use native.Mathlib.Omega.{arith}
 use lib.Dec.{eqb}
 use lib.ListN.{length, length-append, getD}
@@ -19,7 +18,7 @@ use Rattle.model.specs.Consistency.{howMany, neighbors}
 use Rattle.model.specs.Fill.{Filling, lowestAbsent, shortBy, added, fillOnce, filling, listedAt, listedFor}
 use Rattle.model.proofs.Bools.{and-intro, not-both, parts}
 use Rattle.model.proofs.Loops.{sum-same, join-same}
-use Rattle.model.proofs.Sums.{sum-none}
+use Rattle.model.proofs.Sums.{sum-none, sum-less}
 use Rattle.model.proofs.Memory.{table-length, stored-same, stored-other}
 use Rattle.model.proofs.Tables.{size-same, append-length, append-other, entry-same, append-entry}
 use Rattle.model.proofs.Status.{IsNode}
@@ -32,14 +31,6 @@ use Rattle.model.proofs.FillingRecords.{steady-keep, more-length, more-
 -- how many nodes the entries are short of what they must hold, taken together
 unfoldable pub shortSum : List ℕ → List ℕ → ℕ
 shortSum s t = sumNodes s (λ x. sumBelow (digits s) (λ i. sumBelow (base s) (shortBy s t x i)))
-
--- a sum of which one summand is one less
-pub sum-less : (n : ℕ) (f g : ℕ → ℕ) (k : ℕ) → k < n → f k + 1 ≡ g k → ((m : ℕ) → m < n → m ≢ k → f m ≡ g m) → sumBelow n f + 1 ≡ sumBelow n g
-unfolding sumBelow
-sum-less n f g k l e =
-    le-ind (λ (n : ℕ). ((m : ℕ) → m < n → m ≢ k → f m ≡ g m) → sumBelow n f + 1 ≡ sumBelow n g)
-    (λ h. omega (arith, e, sum-same k f g (λ m q. h m (le-step q) (λ p. omega (arith, p, q)))))
-    (λ m q ih h. omega (arith, ih (λ p a. h p (le-step a)), h m (lt-suc-self m) (λ p. omega (arith, p, q)))) n l
 
 -- ---- one addition
 

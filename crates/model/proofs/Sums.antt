@@ -1,6 +1,7 @@
 -- Laws of sums below a number, and of counts as sums. Assumes nothing.
 use Prim.Native.Nat.{ℕ, zero, suc, _+_, _*_, _≤_, _<_}
 use mathlib.Core.Path.{_≡_, refl, sym, ap, ap₂, _∙_}
+use mathlib.Core.Logic.{_≢_}
 use mathlib.Core.Bool.{Bool, true, false, cond}
 use native.Mathlib.Nat.{mul-zero, zero-mul, suc-mul, le-step, lt-suc-self, le-antisymm}
 use native.Mathlib.Numerals.{add-one}
@@ -94,3 +95,11 @@ count-parts d n f g t h =
 pub count-only : (n : ℕ) (f : ℕ → Bool) (j : ℕ) → j < n → f j ≡ true → ((k : ℕ) → k < n → f k ≡ true → k ≡ j) → countBelow n f ≡ 1
 count-only n f j l e only =
     le-antisymm (count-one n f (λ p q lp lq ep eq. only p lp ep ∙ sym (only q lq eq))) (count-some n f j l e)
+
+-- a sum of which one summand is one less
+pub sum-less : (n : ℕ) (f g : ℕ → ℕ) (k : ℕ) → k < n → f k + 1 ≡ g k → ((m : ℕ) → m < n → m ≢ k → f m ≡ g m) → sumBelow n f + 1 ≡ sumBelow n g
+unfolding sumBelow
+sum-less n f g k l e =
+    le-ind (λ (n : ℕ). ((m : ℕ) → m < n → m ≢ k → f m ≡ g m) → sumBelow n f + 1 ≡ sumBelow n g)
+    (λ h. omega (arith, e, sum-same k f g (λ m q. h m (le-step q) (λ p. omega (arith, p, q)))))
+    (λ m q ih h. omega (arith, ih (λ p a. h p (le-step a)), h m (lt-suc-self m) (λ p. omega (arith, p, q)))) n l

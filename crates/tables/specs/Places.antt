@@ -3,8 +3,8 @@
 use Prim.Native.Nat.{ℕ, _≤_, _<_}
 use mathlib.Core.List.{List}
 use lib.ListN.{length}
-use Rattle.model.specs.Memory.{tablesLength}
-use Rattle.model.specs.Tables.{slotAt}
+use Rattle.model.specs.Memory.{tableOf, tablesLength}
+use Rattle.model.specs.Tables.{slotAt, entrySize}
 
 -- entry (i, j) of depth K stands in T
 pub record Entry (T : List ℕ) (K i j : ℕ) : Type 0 where
@@ -22,3 +22,14 @@ pub record Lent (t : List ℕ) (x : ℕ) : Type 0 where
   pub long : tablesLength ≤ length t
   pub first : 1 ≤ x
   pub last : x ≤ 64
+
+-- u can be appended to entry (i, j) of node x in t
+pub record Appends (t : List ℕ) (K x i j u : ℕ) : Type 0 where
+  pub long : tablesLength ≤ length t
+  pub first : 1 ≤ x
+  pub last : x ≤ 64
+  pub level : i < 8
+  pub digit : j < 16
+  pub deep : K ≤ 4
+  pub room : entrySize K (tableOf t x) i j < K
+  pub byte : u < 256

@@ -3,21 +3,22 @@ use mathlib.Core.Path.{refl}
 use Rattle.model.specs.Loops.{allBelow, anyBelow, countBelow, sumBelow, firstBelow, eachBelow, joinBelow}
 use Rattle.model.specs.Ids.{settingsInRange, digitOf, validId, commonSuffix, lowDigits, suffixMask}
 use Rattle.model.specs.Memory.{withNode, hasNode, setSize, tableOf, withTable}
-use Rattle.model.specs.Tables.{qualified, entrySize, entry, append, ownTable}
+use Rattle.model.specs.Tables.{qualified, entrySize, entry, holds, append, ownTable}
 use Rattle.model.specs.Sound.{hasNewId, slotSound, entrySound, levelSound, inSystemSound, joiningSound, copyingSound, waitingSound, pendingSound, notifiedSound, notifyingSound, statusSound, requestLimit, noticesSound, countsSound, allZero, stateRestZero, tablesRestZero, tableSound, unusedZero, sound}
 use Rattle.model.specs.Join.{founded}
 use Rattle.model.specs.Lookup.{hopEntry, frontmost, nextHop, veryHopsWithin, lastOf, answerOf, lookup}
 use Rattle.model.specs.Survey.{arrivesIn, isLost, isPair, countPairs, surveyCounts}
 use Rattle.model.specs.Consistency.{howMany, entryWhole, levelWhole, nodeWhole, consistent, firstShort, verdict}
+use Rattle.model.specs.Fill.{isAbsent, lowestAbsent, shortBy, added, fillOnce, fillEntry, fillLevel, fillNode, filling}
 use Rattle.model.specs.Image.{imId, lengthRight, sameEntry, risesFrom, recOrdered, recAllowed, recOwnerFirst, ownHasRecord, ownHaveRecords, imLength, loadedIds, loadRecord, loadedTables, loadedState, loaded}
 use Rattle.model.specs.Traces.{pathStart, traceCountsWrong, placeNamed, among, mayGo, stepAllowed, inPath, firstFault}
-use Rattle.model.specs.Refusals.{firstTrue, foundRefusal, readRefusal, recordPlace, stateRefusal, lookupRefusal, verdictRefusal, traceRefusal, tracePlace}
-use Rattle.model.specs.Calls.{refusedAt, taken, unlessRefused, foundCall, readCall, lookupCall, surveyCall, verdictCall, traceCall}
-use Rattle.worked.specs.Examples.{dirty, founding, reading, verdictOn, lookupOn, surveyOn, traceOn, headOfE1, rec, E1, E1Short, three, deep, Worked, Surveyed, Damaged, Masked, Failed, Traced}
+use Rattle.model.specs.Refusals.{firstTrue, foundRefusal, readRefusal, recordPlace, stateRefusal, lookupRefusal, verdictRefusal, fillRefusal, traceRefusal, tracePlace}
+use Rattle.model.specs.Calls.{refusedAt, taken, unlessRefused, foundCall, readCall, lookupCall, surveyCall, verdictCall, filledBy, fillCall, traceCall}
+use Rattle.worked.specs.Examples.{dirty, founding, reading, verdictOn, lookupOn, surveyOn, traceOn, fillOn, headOfE1, rec, E1, E1Short, three, deepWith, deep, Worked, Surveyed, Damaged, Masked, Failed, Traced, Filled}
 
 -- what the examples compute with
 unfoldable pub computing : Unit {0}
-unfolding allBelow anyBelow countBelow sumBelow firstBelow eachBelow joinBelow settingsInRange digitOf validId commonSuffix lowDigits withNode hasNode setSize tableOf withTable qualified entrySize entry append ownTable hasNewId slotSound entrySound levelSound inSystemSound joiningSound copyingSound waitingSound pendingSound notifiedSound notifyingSound statusSound requestLimit noticesSound countsSound allZero stateRestZero tablesRestZero tableSound unusedZero sound founded hopEntry frontmost nextHop veryHopsWithin lastOf answerOf lookup arrivesIn isLost isPair countPairs surveyCounts howMany entryWhole levelWhole nodeWhole consistent firstShort verdict imId lengthRight sameEntry risesFrom recOrdered recAllowed recOwnerFirst ownHasRecord ownHaveRecords imLength loadedIds loadRecord loadedTables loadedState loaded pathStart traceCountsWrong placeNamed among mayGo stepAllowed inPath firstFault firstTrue foundRefusal readRefusal recordPlace stateRefusal lookupRefusal verdictRefusal traceRefusal tracePlace refusedAt taken unlessRefused foundCall readCall lookupCall surveyCall verdictCall traceCall dirty founding reading verdictOn lookupOn surveyOn traceOn headOfE1 rec E1 E1Short three deep
+unfolding allBelow anyBelow countBelow sumBelow firstBelow eachBelow joinBelow settingsInRange digitOf validId commonSuffix lowDigits withNode hasNode setSize tableOf withTable qualified entrySize entry holds append ownTable hasNewId slotSound entrySound levelSound inSystemSound joiningSound copyingSound waitingSound pendingSound notifiedSound notifyingSound statusSound requestLimit noticesSound countsSound allZero stateRestZero tablesRestZero tableSound unusedZero sound founded hopEntry frontmost nextHop veryHopsWithin lastOf answerOf lookup arrivesIn isLost isPair countPairs surveyCounts howMany entryWhole levelWhole nodeWhole consistent firstShort verdict isAbsent lowestAbsent shortBy added fillOnce fillEntry fillLevel fillNode filling imId lengthRight sameEntry risesFrom recOrdered recAllowed recOwnerFirst ownHasRecord ownHaveRecords imLength loadedIds loadRecord loadedTables loadedState loaded pathStart traceCountsWrong placeNamed among mayGo stepAllowed inPath firstFault firstTrue foundRefusal readRefusal recordPlace stateRefusal lookupRefusal verdictRefusal fillRefusal traceRefusal tracePlace refusedAt taken unlessRefused foundCall readCall lookupCall surveyCall verdictCall filledBy fillCall traceCall dirty founding reading verdictOn lookupOn surveyOn traceOn fillOn headOfE1 rec E1 E1Short three deepWith deep
 computing = tt
 
 pub worked : Worked
@@ -43,3 +44,8 @@ failed = record { whole = refl; none = refl; around = refl; itself = refl; nobod
 pub traced : Traced
 unfolding computing
 traced = record { three-paths = refl; none = refl; past = refl; number-first = refl; counts-first = refl; second = refl; away = refl }
+
+pub filled : Filled
+unfolding computing
+filled =
+    record { answer = refl; listed = refl; passes = refl; short-answer = refl; short-output = refl; whole = refl; rising = refl; behind = refl }

@@ -1,7 +1,6 @@
 -- The worked runs hold: each call of them computes. Assumes nothing.
 use mathlib.Core.Path.{refl}
 use Rattle.model.specs.Memory.{addNode, removeNode}
-use Rattle.model.specs.Tables.{holds}
 use Rattle.model.specs.Learning.{roomFor, learnAt, learn, learnPlace, learnTable}
 use Rattle.model.specs.Join.{settle, begun, withdrawn, outstanding, deliverCopying, deliverSentOn, attachLevel, gather, deliverAttached, deliverWaiting, deliverNotifying, delivery, delivered}
 use Rattle.model.specs.Refusals.{beginRefusal, withdrawRefusal, deliverRefusal}
@@ -12,7 +11,7 @@ use Rattle.worked.proofs.Worked.{computing}
 
 -- what a run computes with
 running : Unit {0}
-unfolding computing addNode removeNode holds roomFor learnAt learn learnPlace learnTable settle begun withdrawn outstanding deliverCopying deliverSentOn attachLevel gather deliverAttached deliverWaiting deliverNotifying delivery delivered beginRefusal withdrawRefusal deliverRefusal beginCall withdrawCall deliverCall step after play history starts goesOn isRun tally tallyFrom start rest events answers wider twoJoins left typedWrong withdrawing
+unfolding computing addNode removeNode roomFor learnAt learn learnPlace learnTable settle begun withdrawn outstanding deliverCopying deliverSentOn attachLevel gather deliverAttached deliverWaiting deliverNotifying delivery delivered beginRefusal withdrawRefusal deliverRefusal beginCall withdrawCall deliverCall step after play history starts goesOn isRun tally tallyFrom start rest events answers wider twoJoins left typedWrong withdrawing
 running = tt
 
 pub worked-run : WorkedRun

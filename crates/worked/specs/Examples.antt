@@ -1,12 +1,12 @@
 -- P1 to P12 of document 01, "Trials at the edges", as one list about the book's definitions; the surveys of its images (document 02, Ticket 1); what
--- reading says of damaged ones (Ticket 2); the nine suffix masks (Ticket 4); lookups around a failed node (Ticket 6); and traces (Ticket 8).
+-- reading says of damaged ones (Ticket 2); the nine suffix masks (Ticket 4); lookups around a failed node (Ticket 6); traces (Ticket 8); and tables filled (Ticket 10).
 use Prim.Native.Nat.{ℕ, _+_, _^_}
 use mathlib.Core.Path.{_≡_}
 use mathlib.Core.List.{List, [], _∷_}
 use lib.ListN.{replicate}
 use Rattle.model.specs.Ids.{commonSuffix, suffixMask}
 use Rattle.model.specs.Memory.{Memory, stateLength, tablesLength}
-use Rattle.model.specs.Calls.{Outcome, foundCall, readCall, lookupCall, surveyCall, verdictCall, traceCall}
+use Rattle.model.specs.Calls.{Outcome, foundCall, readCall, lookupCall, surveyCall, verdictCall, fillCall, traceCall}
 
 -- lent memory with old contents in every place
 unfoldable pub dirty : Memory
@@ -20,7 +20,7 @@ founding b d K id = foundCall dirty b d K id
 unfoldable pub reading : List ℕ → Outcome
 reading im = readCall dirty im
 
--- the verdict, the lookup, the survey and the check of a trace on what a call left
+-- the verdict, the lookup, the survey, the check of a trace and the filling on what a call left
 unfoldable pub verdictOn : Outcome → List ℕ
 verdictOn o = verdictCall (o .memory) .answer
 
@@ -32,6 +32,9 @@ surveyOn o = surveyCall (o .memory) 0 .answer
 
 unfoldable pub traceOn : Outcome → List ℕ → List ℕ
 traceOn o trace = traceCall (o .memory) trace .answer
+
+unfoldable pub fillOn : Outcome → List ℕ → Outcome
+fillOn o out = fillCall (o .memory) out
 
 -- the first sixteen bytes of E1 with this record count, before the records
 unfoldable pub headOfE1 : ℕ → List ℕ → List ℕ
@@ -56,14 +59,20 @@ unfoldable pub three : ℕ → List ℕ → List ℕ
 three count records =
     4 ∷ 1 ∷ 2 ∷ 2 ∷ 1 ∷ 3 ∷ 0 ∷ 0 ∷ 0 ∷ 0 ∷ 1 ∷ 0 ∷ 0 ∷ 0 ∷ 16 ∷ 0 ∷ 0 ∷ 0 ∷ count ∷ 0 ∷ records
 
--- three nodes, 00, 01 and 11, with K 2. The entry of node 1 for digit 1 holds node 2 and behind it node 3.
-unfoldable pub deep : List ℕ
+-- three nodes, 00, 01 and 11, with K 2: so many records, of which the first is node 1's for digit 0 and the last ten are those of level 1 of node 1 and of
+-- nodes 2 and 3
+unfoldable pub deepWith : ℕ → (List ℕ → List ℕ) → List ℕ
 unfolding rec
-deep =
-    4 ∷ 1 ∷ 2 ∷ 2 ∷ 2 ∷ 3 ∷ 0 ∷ 0 ∷ 0 ∷ 0 ∷ 1 ∷ 0 ∷ 0 ∷ 0 ∷ 17 ∷ 0 ∷ 0 ∷ 0 ∷ 14 ∷ 0
-    ∷ rec 1 0 0 1 (rec 1 0 1 2 (rec 1 0 1 3 (rec 1 1 0 1
+deepWith count entry =
+    4 ∷ 1 ∷ 2 ∷ 2 ∷ 2 ∷ 3 ∷ 0 ∷ 0 ∷ 0 ∷ 0 ∷ 1 ∷ 0 ∷ 0 ∷ 0 ∷ 17 ∷ 0 ∷ 0 ∷ 0 ∷ count ∷ 0
+    ∷ rec 1 0 0 1 (entry (rec 1 1 0 1
     (rec 2 0 0 1 (rec 2 0 1 2 (rec 2 0 1 3 (rec 2 1 0 2 (rec 2 1 1 3
-    (rec 3 0 0 1 (rec 3 0 1 3 (rec 3 0 1 2 (rec 3 1 0 2 (rec 3 1 1 3 [])))))))))))))
+    (rec 3 0 0 1 (rec 3 0 1 3 (rec 3 0 1 2 (rec 3 1 0 2 (rec 3 1 1 3 []))))))))))))
+
+-- the entry of node 1 for digit 1 holds node 2 and behind it node 3
+unfoldable pub deep : List ℕ
+unfolding rec deepWith
+deep = deepWith 14 (λ more. rec 1 0 1 2 (rec 1 0 1 3 more))
 
 -- The list. An answer is the refusal and then the call's fields.
 pub record Worked : Type 0 where
@@ -166,3 +175,19 @@ pub record Traced : Type 0 where
   pub second : traceOn (reading deep) (1 ∷ 2 ∷ 1 ∷ 3 ∷ []) ≡ 0 ∷ 0 ∷ 0 ∷ []
   -- from node 2 to node 3 by node 1, which matches node 3 in fewer digits
   pub away : traceOn (reading deep) (1 ∷ 3 ∷ 2 ∷ 1 ∷ 3 ∷ []) ≡ 23 ∷ 1 ∷ 1 ∷ []
+
+-- Filling: what it answers, what stands in the output then, and the verdict after it.
+pub record Filled : Type 0 where
+  -- E1 without a record gets it back. Excluded: a count before the record; a byte past it changed; a list without the tables filled.
+  pub answer : fillOn (reading E1Short) (9 ∷ 9 ∷ 9 ∷ 9 ∷ 9 ∷ []) .answer ≡ 0 ∷ 1 ∷ []
+  pub listed : fillOn (reading E1Short) (9 ∷ 9 ∷ 9 ∷ 9 ∷ 9 ∷ []) .out ≡ 1 ∷ 0 ∷ 1 ∷ 2 ∷ 9 ∷ []
+  pub passes : verdictOn (fillOn (reading E1Short) (9 ∷ 9 ∷ 9 ∷ 9 ∷ 9 ∷ [])) ≡ 0 ∷ 1 ∷ 0 ∷ 0 ∷ 0 ∷ []
+  -- One byte too few. Excluded: what fits written.
+  pub short-answer : fillOn (reading E1Short) (9 ∷ 9 ∷ 9 ∷ []) .answer ≡ 16 ∷ 0 ∷ []
+  pub short-output : fillOn (reading E1Short) (9 ∷ 9 ∷ 9 ∷ []) .out ≡ 9 ∷ 9 ∷ 9 ∷ []
+  -- A whole network needs no memory.
+  pub whole : fillOn (reading E1) [] .answer ≡ 0 ∷ 0 ∷ []
+  -- Two nodes absent, K 2. Excluded: the highest first; one where both must stand.
+  pub rising : fillOn (reading (deepWith 12 (λ more. more))) (9 ∷ 9 ∷ 9 ∷ 9 ∷ 9 ∷ 9 ∷ 9 ∷ 9 ∷ []) .out ≡ rec 1 0 1 2 (rec 1 0 1 3 [])
+  -- Node 3 there already, node 2 behind it then: the lookup from 1 to 3 still takes one hop. Excluded: the lower number put in front.
+  pub behind : lookupOn (fillOn (reading (deepWith 13 (λ more. rec 1 0 1 3 more))) (9 ∷ 9 ∷ 9 ∷ 9 ∷ [])) 1 3 0 ≡ 0 ∷ 1 ∷ 1 ∷ 3 ∷ []

@@ -23,8 +23,8 @@ returns : tie.Need-returns
 returns c =
     let p = c .before .before .before .before .before .before .before in
     let s = c .before .before .before .before .load .ensures in
-    judged-digit _ _ (p .pre .0) (p .args .x) _ _ _ _ (s .depth) (s .base) (c .before .before .before .lent .ensures .0)
-    (c .before .before .tally .ensures) _ _ (p .pre .1 .1 .1) (c .digit .ensures)
+    judged-digit _ _ (p .pre .0) (p .args .x) _ _ _ (s .depth) (c .before .before .before .lent .ensures .0)
+    (c .before .before .tally .ensures) _ (s .base) _ _ (p .pre .1 .1 .1) (c .digit .ensures)
 
 pub short-digit-spec : {M : Type 1} → statement M
 short-digit-spec =

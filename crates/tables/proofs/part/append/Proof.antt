@@ -1,8 +1,8 @@
 -- `append`: one byte of the table memory is stored. Assumes nothing.
-use Rattle.image_loading.proofs.Steps.{append-place, appended}
+use Rattle.tables.proofs.Appended.{append-place, appended}
 use borrow.Author.Needs.{needs}
-use Rattle.image_loading.proofs.append.Statement.{statement}
-use Rattle.image_loading.proofs.append.Tie as tie
+use Rattle.tables.proofs.part.append.Statement.{statement}
+use Rattle.tables.proofs.part.append.Tie as tie
 
 lent-requires : tie.Need-lent-requires
 lent-requires c κs = search needs

@@ -1,0 +1,66 @@
+-- `entries::level`: one entry more each turn. Assumes nothing.
+use Prim.Native.Nat.{_≤_, _-_}
+use mathlib.Core.Path.{_≡_, refl}
+use native.Mathlib.Omega.{arith}
+use lib.ListN.{length}
+use borrow.Author.Needs.{needs}
+use Rattle.model.specs.Loops.{eachBelow}
+use Rattle.model.specs.Fill.{fillEntry, fillLevel}
+use Rattle.filling.specs.Sofar.{sofar, Listed}
+use Rattle.filling.proofs.Listing.{listed-none, listed-goes, listed-ends, level-steady, level-fits}
+use Rattle.filling.proofs.entries.level.Statement.{statement}
+use Rattle.filling.proofs.entries.level.Tie as tie
+
+abbrev Inv-loop : tie.InvT-loop
+Inv-loop state tables₀ counts x i out₀ at base end₀ j₀ tables out end j =
+    (j ≤ base)
+    × (length tables ≡ length tables₀)
+    × (length out ≡ length out₀)
+    × Listed out₀ at (eachBelow j (fillEntry state x i) (sofar tables₀ out₀ at)) tables out end
+
+abbrev μ-loop : tie.MeasureT-loop
+μ-loop state tables₀ counts x i out₀ at base end₀ j₀ tables out end j = base - j
+
+load-requires : tie.Need-load-requires Inv-loop μ-loop
+load-requires c κs = search needs
+
+loop-holds : tie.Need-loop-holds Inv-loop μ-loop
+loop-holds c = (omega arith, refl, refl, search listed-none)
+
+entry-requires : tie.Need-entry-requires Inv-loop μ-loop
+entry-requires c κs = (search level-steady, (search needs, (search needs, search level-fits)))
+
+add-j : tie.Need-add-j Inv-loop μ-loop
+add-j c = omega arith
+
+loop-less : tie.Need-loop-less Inv-loop μ-loop
+loop-less c = omega arith
+
+loop-again : tie.Need-loop-again Inv-loop μ-loop
+loop-again c = (omega arith, omega arith, omega arith, search listed-goes)
+
+same-length : tie.Need-same-length Inv-loop μ-loop
+same-length c = omega arith
+
+same-length-2 : tie.Need-same-length-2 Inv-loop μ-loop
+same-length-2 c = omega arith
+
+returns : tie.Need-returns Inv-loop μ-loop
+unfolding fillLevel
+returns c = search listed-ends
+
+pub level-spec : {M : Type 1} → statement M
+level-spec =
+    tie.close
+    (tie.spec
+    Inv-loop
+    μ-loop
+    load-requires
+    loop-holds
+    entry-requires
+    add-j
+    loop-less
+    loop-again
+    same-length
+    same-length-2
+    returns)

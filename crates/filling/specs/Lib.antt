@@ -1,0 +1,3 @@
+-- What the contracts of filling cite.
+pub mod Sofar
+pub mod Short
