@@ -9,7 +9,7 @@
  *   pointer is not used, and may be NULL. counts comes without a length: it is valid for OVERLAY_SURVEY_COUNTS words, and never NULL. So does the state
  *   of overlay_requests and overlay_notices: it is valid for OVERLAY_STATE_WORDS words, and never NULL.
  * - state and counts are aligned to 8.
- * - No two lent memories overlap: not state and tables, and neither of them an image, the memory for one, a trace, or counts.
+ * - No two lent memories overlap: not state and tables, and neither of them an image, the memory for one, a list of additions, a trace, or counts.
  * - Nobody else writes lent memory during a call, nor reads what the call may write.
  * - The stack has room: overlay_read takes some 38 KB of it.
  *
@@ -34,7 +34,7 @@ extern "C" {
 /* ---- version: of this header and of the archive that comes with it; CHANGES.md has a section for each */
 
 #define OVERLAY_VERSION_MAJOR 1
-#define OVERLAY_VERSION_MINOR 9
+#define OVERLAY_VERSION_MINOR 10
 
 /* ---- lengths */
 
@@ -47,6 +47,8 @@ extern "C" {
 #define OVERLAY_SURVEY_COUNTS 9
 /* No written image is longer, of either version: memory of this length is enough for every network. One of version 1 has at most 23816 bytes. */
 #define OVERLAY_MOST_WRITTEN_BYTES 25226
+/* No list of additions is longer, of any network: memory of this length is enough for every filling. */
+#define OVERLAY_MOST_ADDED_BYTES 21504
 /* The paths of a trace, and the nodes of a path. */
 #define OVERLAY_MOST_PATHS 255
 #define OVERLAY_MOST_PLACES 9
@@ -69,8 +71,8 @@ extern "C" {
 #define OVERLAY_GATEWAY_NOT_IN_SYSTEM 12 /* the gateway isn't in system */
 #define OVERLAY_NOT_OUTSTANDING 13       /* no request from the sender to the receiver is outstanding */
 #define OVERLAY_HELD 14                  /* a waiting sender's receiver isn't in system: the request stays outstanding */
-#define OVERLAY_JOIN_IN_FLIGHT 15        /* a node isn't in system (of a verdict, and of writing version 1) */
-#define OVERLAY_SHORT_OUTPUT 16          /* the memory for the image is too short */
+#define OVERLAY_JOIN_IN_FLIGHT 15        /* a node isn't in system (of a verdict, of filling, and of writing version 1) */
+#define OVERLAY_SHORT_OUTPUT 16          /* the memory for the image, or for the list of additions, is too short */
 #define OVERLAY_RECORD_NEIGHBOR 17       /* a record's neighbour isn't qualified for its entry, is in it already, or finds it full */
 #define OVERLAY_OWN_ENTRY 18             /* an own entry has no record, or doesn't start with its owner */
 #define OVERLAY_NOT_HIGHEST 19           /* the node isn't the highest-numbered one */
@@ -123,6 +125,13 @@ uint64_t overlay_survey(const uint64_t *state, size_t state_len, const uint8_t *
 /* Judges the tables, and changes nothing. Answers whether the network is K-consistent, by overlay_consistent; if not, the first entry that
  * falls short, by overlay_short_node, overlay_short_level and overlay_short_digit. Refusals 1, 2, 15. */
 uint64_t overlay_verdict(const uint64_t *state, size_t state_len, const uint8_t *tables, size_t tables_len);
+
+/* Fills the tables: to each entry that falls short the lowest-numbered node that qualifies and is absent is appended until it holds what it must. Lists each
+ * addition in out, from its start: a record of four bytes, node, level, digit and neighbour, as an image has them and in its order, with no count before
+ * them; what is past them stays. The state does not change. The network passes the verdict then, and a lookup that arrived takes the very same hops as before.
+ * A network that passes already gets no addition. Answers how many nodes were added, by overlay_additions. Refusals 1, 2, 15, 16. */
+uint64_t overlay_fill(const uint64_t *state, size_t state_len, uint8_t *tables, size_t tables_len,
+                      uint8_t *out, size_t out_len);
 
 /* Writes the image of the network, of this version, to out, and changes nothing else: not what is past the image. Version 1 is for
  * networks whose nodes are all in system, and leaves the counts out; version 2 holds any sound state whole. Answers its length, by overlay_image_length.
@@ -192,6 +201,9 @@ static inline unsigned overlay_short_level(uint64_t answer) { return (unsigned)(
 
 /* Of verdict, bits 32 to 39: the first short entry's digit, 0 to 15. */
 static inline unsigned overlay_short_digit(uint64_t answer) { return (unsigned)(answer >> 32 & 0xff); }
+
+/* Of fill, bits 8 to 39: how many nodes were added, each with a record of four bytes in out. */
+static inline uint32_t overlay_additions(uint64_t answer) { return (uint32_t)(answer >> 8 & 0xffffffff); }
 
 /* Of write, bits 8 to 39: the length of the image in bytes. */
 static inline uint32_t overlay_image_length(uint64_t answer) { return (uint32_t)(answer >> 8 & 0xffffffff); }

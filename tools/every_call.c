@@ -10,7 +10,7 @@ static int refused(uint64_t answer)
                       overlay_short_node(answer) | overlay_short_level(answer) | overlay_short_digit(answer) | overlay_trace_path(answer) |
                       overlay_trace_place(answer);
     return overlay_refusal(answer) == OVERLAY_SHORT_MEMORY && fields == 0 && overlay_record(answer) == 0 &&
-           overlay_image_length(answer) == 0;
+           overlay_additions(answer) == 0 && overlay_image_length(answer) == 0;
 }
 
 /* The counts of nodes 1 and 64, and of numbers that are none. */
@@ -42,7 +42,8 @@ int main(void)
     return !(counts_read() && sets_made() && refused(overlay_found(NONE, NONE, 2, 2, 1, 0)) && refused(overlay_read(NONE, NONE, NONE)) &&
              refused(overlay_begin(NONE, NONE, 0, 1)) && refused(overlay_withdraw(NONE, NONE, 2)) &&
              refused(overlay_deliver(NONE, NONE, 2, 1)) && refused(overlay_lookup(NONE, NONE, 1, 1, 0)) &&
-             refused(overlay_verdict(NONE, NONE)) && refused(overlay_write(NONE, NONE, 2, NONE)) &&
-             refused(overlay_sound(NONE, NONE)) && refused(overlay_trace(NONE, NONE, NONE)) &&
+             refused(overlay_verdict(NONE, NONE)) && refused(overlay_fill(NONE, NONE, NONE)) &&
+             refused(overlay_write(NONE, NONE, 2, NONE)) && refused(overlay_sound(NONE, NONE)) &&
+             refused(overlay_trace(NONE, NONE, NONE)) &&
              refused(overlay_survey(NONE, NONE, 0, counts)));
 }

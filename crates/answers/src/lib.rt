@@ -55,6 +55,12 @@ pub struct VerdictAnswer {
     pub digit: u64,
 }
 
+// Filling: how many nodes were added.
+pub struct FillAnswer {
+    pub refusal: u64,
+    pub additions: u64,
+}
+
 // Writing: the length of the image in bytes.
 pub struct WriteAnswer {
     pub refusal: u64,

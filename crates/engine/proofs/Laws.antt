@@ -1,26 +1,28 @@
 -- What the work of each call asks, where nothing refused it, and the fields that it answers. Assumes nothing.
-use Prim.Native.Nat.{ℕ, _≤_, _<_}
+use Prim.Native.Nat.{ℕ, _/_, _≤_, _<_}
 use mathlib.Core.Path.{_≡_, refl, sym, ap, _∙_}
 use mathlib.Core.Logic.{_⊎_, inl, inr}
 use mathlib.Core.Bool.{Bool, true, false, cond}
 use mathlib.Core.List.{List, [], _∷_, _++_}
 use native.Mathlib.Omega.{arith}
 use lib.Dec.{eqb}
-use lib.ListN.{length}
+use lib.ListN.{length, drop}
 use borrow.Author.Tests.{eqb-true, not-false}
 use Rattle.model.specs.Memory.{Memory, stateLength, tablesLength}
 use Rattle.model.specs.Lookup.{Lookup}
 use Rattle.model.specs.Consistency.{Verdict}
-use Rattle.model.specs.Calls.{Outcome, refusedAt, refused, taken, lookupFields, verdictFields, readCall, traceCall, soundCall}
+use Rattle.model.specs.Calls.{Outcome, refusedAt, refused, taken, lookupFields, verdictFields, readCall, filledBy, traceCall, soundCall}
+use Rattle.model.specs.Fill.{Filling, filling}
 use Rattle.model.specs.Image.{imageOf, byteAt, loaded}
-use Rattle.model.specs.Refusals.{Sentence, firstTrue, memoryShort, frameSentences, recordSentences, joinsWrong, foundRefusal, readRefusal, recordPlace, beginRefusal, withdrawRefusal, deliverRefusal, lookupRefusal, verdictRefusal, writeRefusal, stateRefusal, traceRefusal}
+use Rattle.model.specs.Refusals.{Sentence, firstTrue, memoryShort, frameSentences, recordSentences, joinsWrong, foundRefusal, readRefusal, recordPlace, beginRefusal, withdrawRefusal, deliverRefusal, lookupRefusal, verdictRefusal, fillRefusal, writeRefusal, stateRefusal, traceRefusal}
 use Rattle.model.proofs.Bools.{or-cases}
 use Rattle.model.proofs.Calls.{either-end, refused-end, taken-end, work-left}
 use Rattle.model.proofs.Refusals.{numbered, testOf, passed, sentences-refused, sentences-later}
 use Rattle.model.proofs.Sound.{Sound}
 use Rattle.model.proofs.Status.{IsNode}
 use Rattle.model.proofs.Sender.{CanDeliver}
-use Rattle.model.proofs.Taken.{state-taken, found-taken, tables-taken, begin-taken, withdraw-taken, deliver-taken, lookup-taken, verdict-taken, write-taken}
+use Rattle.model.proofs.Filling.{Steady}
+use Rattle.model.proofs.Taken.{state-taken, found-taken, tables-taken, begin-taken, withdraw-taken, deliver-taken, lookup-taken, verdict-taken, fill-taken, write-taken}
 use Rattle.model.proofs.Traces.{trace-place-two, trace-is}
 use Rattle.answers.specs.declared.ReadAnswer.{ReadAnswer}
 use Rattle.answers.specs.declared.TraceAnswer.{TraceAnswer}
@@ -31,7 +33,7 @@ use Rattle.image_judging.proofs.Sentences.{counted-of}
 use Rattle.join.specs.Begins.{Begins}
 use Rattle.image_reading.specs.Reads.{Reads}
 use Rattle.refusals.specs.Refused.{readTablesRefusal}
-use Rattle.engine.specs.Outcomes.{leaves}
+use Rattle.engine.specs.Outcomes.{leaves, writes}
 
 -- the fields of an answer, by what they are of
 pub one-field : (x y : ℕ) → x ≡ y → _≡_ {A = List ℕ} (x ∷ []) (y ∷ [])
@@ -42,6 +44,12 @@ lookup-fields a b e = ap lookupFields e
 
 pub verdict-fields : (a b : Verdict) → a ≡ b → verdictFields a ≡ verdictFields b
 verdict-fields a b e = ap verdictFields e
+
+-- what a filling left: the tables, the output and the length of the list
+pub filled-is : (s t t₁ out out₁ : List ℕ) (n k : ℕ) (f : Filling) → t₁ ≡ f .tables → out₁ ≡ f .list ++ drop (length (f .list)) out → n ≡ length (f .list)
+    → k ≡ n / 4 → writes (memory s t₁) out₁ (0 ∷ k ∷ []) ≡ filledBy (memory s t) out f
+unfolding filledBy taken
+filled-is s t t₁ out out₁ n k f a b c d = cc
 
 -- the check of a state answers its refusal at either end
 pub sound-is : (m : Memory) (r : ℕ) → r ≡ stateRefusal m → leaves m (r ∷ []) ≡ soundCall m
@@ -140,6 +148,9 @@ module _ (m : Memory) (r : ℕ) where
 
   pub judges : r ≡ verdictRefusal m → r ≡ 0 → Sound s t
   judges e z = verdict-taken m (sym e ∙ z) .0
+
+  pub fills : (out : List ℕ) → r ≡ fillRefusal m out → r ≡ 0 → Steady s t × (length (filling s t .list) ≤ length out)
+  fills out e z = fill-taken m out (sym e ∙ z)
 
   pub writes-image : (v : ℕ) (out : List ℕ) → r ≡ writeRefusal m v out → r ≡ 0 → Sound s t × (v < 256) × (length (imageOf v s t) ≤ length out)
   writes-image v out e z = let k = write-taken m v out (sym e ∙ z) in (k .sound, version-byte (or-cases (eqb v 1) (eqb v 2) (k .version)), k .fits)

@@ -2,6 +2,7 @@
 // anything of its caller; the contract of each equates the memory and the answer with the book's call.
 pub mod beginning;
 pub mod delivering;
+pub mod fill;
 pub mod founding;
 pub mod lookup;
 pub mod reading;

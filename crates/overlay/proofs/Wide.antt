@@ -1,4 +1,4 @@
--- The answers of a writing and a reading: a refusal fits a byte, and a length or a place two, so neither reaches into the other and shift and
+-- The answers of a filling, a writing and a reading: a refusal fits a byte, and a number, a length or a place two, so neither reaches into the other and shift and
 -- mask give both back. Assumes nothing.
 use Prim.Native.Nat.{ℕ, _/_, _%_, _≤_, _<_}
 use mathlib.Core.Path.{_≡_, refl, sym, ap, subst, _∙_}
@@ -6,16 +6,17 @@ use mathlib.Core.List.{List, [], _∷_}
 use native.Mathlib.Omega.{arith}
 use lib.ListN.{getD}
 use Rattle.model.specs.Memory.{Memory}
-use Rattle.model.specs.Refusals.{readRefusal, writeRefusal}
-use Rattle.model.specs.Calls.{Outcome, refusedAt, refused, taken, readCall, writeCall}
+use Rattle.model.specs.Refusals.{readRefusal, fillRefusal, writeRefusal}
+use Rattle.model.specs.Calls.{Outcome, refusedAt, refused, taken, readCall, filledBy, fillCall, writeCall}
 use Rattle.model.proofs.Refusals.{numbered, sentences-below}
 use Rattle.model.proofs.Calls.{either-end}
+use Rattle.model.proofs.FillingFew.{filling-few}
 use Rattle.model.proofs.JoinSections.{image-most}
-use Rattle.model.proofs.Taken.{write-taken}
+use Rattle.model.proofs.Taken.{fill-taken, write-taken}
 use Rattle.model.proofs.Places.{place-few}
 use Rattle.engine.specs.Outcomes.{leaves, writes}
 use Rattle.packing.specs.Packed.{packed}
-use Rattle.overlay.specs.Packed.{packing, gives, fills}
+use Rattle.overlay.specs.Packed.{packing, gives, outputs}
 
 -- the two fields of an answer are a refusal and a number of two bytes
 unfoldable pub Short : List ℕ → Type 0
@@ -33,9 +34,9 @@ module _ (o : Outcome) (short : Short (o .answer)) (m : Memory) (after : List �
   unfolding Short
   fits-wide = let h : n ≤ 65535 = both-short .1 in omega arith
 
-  packs : (p : ℕ) → p ≡ packed (r ∷ n ∷ []) → fills m after p ≡ packing o
+  packs : (p : ℕ) → p ≡ packed (r ∷ n ∷ []) → outputs m after p ≡ packing o
   unfolding packing
-  packs p f = ap (λ (p : ℕ). fills m after p) f ∙ ap packing e
+  packs p f = ap (λ (p : ℕ). outputs m after p) f ∙ ap packing e
 
   -- bits 0 to 7 are the refusal
   pub refusal-back : packed (r ∷ n ∷ []) % 256 ≡ r
@@ -46,6 +47,27 @@ module _ (o : Outcome) (short : Short (o .answer)) (m : Memory) (after : List �
   pub wide-back : packed (r ∷ n ∷ []) / 256 % 4294967296 ≡ n
   unfolding packed
   wide-back = omega (arith, fits-byte, fits-wide)
+
+-- ---- filling
+
+pub fill-short : (m : Memory) (out : List ℕ) → Short (fillCall m out .answer)
+unfolding Short fillRefusal fillCall filledBy refusedAt taken numbered
+fill-short m out =
+    either-end (λ (o : Outcome). Short (o .answer)) (fillRefusal m out) (refused m out 1) _
+    (λ nz. (sentences-below _ refl, omega arith))
+    (λ z. let h = filling-few (m .state) (m .tables) (fill-taken m out z .0) in (omega arith, omega (arith, h)))
+
+module _ (m m₁ : Memory) (out after : List ℕ) (r n : ℕ) (e : writes m₁ after (r ∷ n ∷ []) ≡ fillCall m out) where
+  pub filled-refusal : r < 256
+  filled-refusal = fits-byte (fillCall m out) (fill-short m out) m₁ after r n e
+
+  pub filled-number : n < 4294967296
+  filled-number = fits-wide (fillCall m out) (fill-short m out) m₁ after r n e
+
+  pub fill-packs : (p : ℕ) → p ≡ packed (r ∷ n ∷ []) → outputs m₁ after p ≡ packing (fillCall m out)
+  fill-packs = packs (fillCall m out) (fill-short m out) m₁ after r n e
+
+pub ruleset filled-fits = (filled-refusal, filled-number)
 
 -- ---- writing
 
@@ -63,7 +85,7 @@ module _ (m : Memory) (v : ℕ) (out after : List ℕ) (r n : ℕ) (e : writes m
   pub written-length : n < 4294967296
   written-length = fits-wide (writeCall m v out) (write-short m v out) m after r n e
 
-  pub write-packs : (p : ℕ) → p ≡ packed (r ∷ n ∷ []) → fills m after p ≡ packing (writeCall m v out)
+  pub write-packs : (p : ℕ) → p ≡ packed (r ∷ n ∷ []) → outputs m after p ≡ packing (writeCall m v out)
   write-packs = packs (writeCall m v out) (write-short m v out) m after r n e
 
 pub ruleset written-fits = (written-refusal, written-length)

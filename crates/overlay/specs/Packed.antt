@@ -28,6 +28,6 @@ surveying o counts =
 abbrev pub gives : Memory → ℕ → PackedOutcome
 gives m answer = record { memory = m; out = []; answer = answer }
 
--- the memory and the output after a writing or a survey, and its answer
-abbrev pub fills : Memory → List ℕ → ℕ → PackedOutcome
-fills m out answer = record { memory = m; out = out; answer = answer }
+-- the memory and the output after a filling, a writing or a survey, and its answer
+abbrev pub outputs : Memory → List ℕ → ℕ → PackedOutcome
+outputs m out answer = record { memory = m; out = out; answer = answer }

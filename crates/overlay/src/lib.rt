@@ -2,10 +2,10 @@
 // bits; bits 0 to 7 are the refusal. The counts of a survey go to words that the caller lends.
 ghost use mathlib.Core.Path.{_≡_};
 ghost use mathlib.Core.List.{[], _∷_};
-ghost use Rattle.model.specs.Calls.{foundCall, readCall, beginCall, withdrawCall, deliverCall, lookupCall, surveyCall, verdictCall, writeCall, traceCall, soundCall};
+ghost use Rattle.model.specs.Calls.{foundCall, readCall, beginCall, withdrawCall, deliverCall, lookupCall, surveyCall, verdictCall, fillCall, writeCall, traceCall, soundCall};
 ghost use Rattle.state.specs.Lent.{memory};
 ghost use Rattle.engine.specs.Outcomes.{leaves};
-ghost use Rattle.overlay.specs.Packed.{gives, fills, packing, surveying};
+ghost use Rattle.overlay.specs.Packed.{gives, outputs, packing, surveying};
 use packing::delivered::as_numbers;
 use packing::pack::bit;
 use packing::pack::pack;
@@ -90,7 +90,7 @@ pub extern "C" fn overlay_survey(
     failed: u64,
     counts: &mut [u64; 9],
 ) -> u64
-    ensures { λ r. ⌜ fills (memory (now (state .entry)) (now (tables .entry))) (now (counts .exit)) r ≡ surveying (surveyCall (memory (now (state .entry)) (now (tables .entry))) failed) (now (counts .entry)) ⌝ }
+    ensures { λ r. ⌜ outputs (memory (now (state .entry)) (now (tables .entry))) (now (counts .exit)) r ≡ surveying (surveyCall (memory (now (state .entry)) (now (tables .entry))) failed) (now (counts .entry)) ⌝ }
 {
     let surveyed = engine::survey::survey(state, tables, failed);
     if surveyed.refusal != 0 {
@@ -116,10 +116,19 @@ pub extern "C" fn overlay_verdict(state: &[u64], tables: &[u8]) -> u64
     )
 }
 
+// Filling short tables: the additions are listed in out. Answers how many they are, in bits 8 to 39.
+#[no_mangle]
+pub extern "C" fn overlay_fill(state: &[u64], tables: &mut [u8], out: &mut [u8]) -> u64
+    ensures { λ r. ⌜ outputs (memory (now (state .entry)) (now (tables .exit))) (now (out .exit)) r ≡ packing (fillCall (memory (now (state .entry)) (now (tables .entry))) (now (out .entry))) ⌝ }
+{
+    let filled = engine::fill::fill(state, tables, out);
+    pack_wide(filled.refusal, filled.additions)
+}
+
 // Writing the image of this version to out. Answers its length, in bits 8 to 39.
 #[no_mangle]
 pub extern "C" fn overlay_write(state: &[u64], tables: &[u8], version: u64, out: &mut [u8]) -> u64
-    ensures { λ r. ⌜ fills (memory (now (state .entry)) (now (tables .entry))) (now (out .exit)) r ≡ packing (writeCall (memory (now (state .entry)) (now (tables .entry))) version (now (out .entry))) ⌝ }
+    ensures { λ r. ⌜ outputs (memory (now (state .entry)) (now (tables .entry))) (now (out .exit)) r ≡ packing (writeCall (memory (now (state .entry)) (now (tables .entry))) version (now (out .entry))) ⌝ }
 {
     let written = engine::writing::write(state, tables, version, out);
     pack_wide(written.refusal, written.bytes)

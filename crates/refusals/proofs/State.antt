@@ -8,14 +8,15 @@ use lib.ListN.{length}
 use native.Mathlib.Nat.{le-trans}
 use borrow.Author.Tests.{not-false}
 use Rattle.model.specs.Ids.{validId}
-use Rattle.model.specs.Memory.{Memory, stateLength, base, digits, statusOf, inSystem, notifying, isAttached}
-use Rattle.model.specs.Nodes.{isNode}
+use Rattle.model.specs.Memory.{Memory, stateLength, base, digits, statusOf, inSystem, notifying, isInSystem, isAttached}
+use Rattle.model.specs.Nodes.{isNode, allNodes}
 use Rattle.model.specs.Sound.{sound}
 use Rattle.model.specs.Refusals.{Sentence, firstTrue, memoryShort, unsound, stateSentences, stateRefusal}
 use Rattle.model.proofs.Refusals.{numbered, sentence-leaves, sentence-goes, sentence-not-leaves, sentence-not-goes, sentence-none, sentences-refused, sentences-later}
 use Rattle.model.proofs.Sound.{Sound}
 use Rattle.model.proofs.Status.{is-node}
-use Rattle.model.proofs.Taken.{state-taken}
+use Rattle.model.proofs.Filling.{Steady}
+use Rattle.model.proofs.Taken.{state-taken, all-in-system}
 use Rattle.state.specs.Loaded.{Numbered, Placed}
 use Rattle.refusals.specs.Refused.{NodesPlaced}
 
@@ -75,6 +76,10 @@ module _ (m : Memory) (r : ℕ) (e : r ≡ stateRefusal m) where
     -- the records of a sound state's nodes stand in it
     pub counted : NodesPlaced (m .state)
     counted = record { long = state-sound .long .state; few = state-sound .few }
+
+    -- every node is in system, as the code found
+    pub state-steady : (q : Bool) → q ≡ allNodes (m .state) (isInSystem (m .state)) → not q ≡ false → Steady (m .state) (m .tables)
+    state-steady q f h = record { sound = state-sound; settled = all-in-system m (ap not (sym f) ∙ h) }
 
     -- a node's record stands in the state
     pub placed : (x : ℕ) (q : Bool) → q ≡ isNode (m .state) x → not q ≡ false → Placed (m .state) x
