@@ -104,6 +104,15 @@ pub mod interface {
             trace: *const u8,
             trace_len: usize,
         ) -> u64;
+
+        pub fn overlay_fill(
+            state: *const u64,
+            state_len: usize,
+            tables: *mut u8,
+            tables_len: usize,
+            out: *mut u8,
+            out_len: usize,
+        ) -> u64;
     }
 }
 
@@ -191,7 +200,9 @@ impl Engine for Archive {
         }
     }
 
-    fn fill(&self, _: &mut [u64], _: &mut [u8], _: &mut [u8]) -> u64 {
-        unimplemented!("the archive does not have it yet")
+    fn fill(&self, state: &mut [u64], tables: &mut [u8], out: &mut [u8]) -> u64 {
+        let (words, bytes, length) = (state.len(), tables.len(), out.len());
+        let (state, tables, out) = (state.as_mut_ptr(), tables.as_mut_ptr(), out.as_mut_ptr());
+        unsafe { interface::overlay_fill(state, words, tables, bytes, out, length) }
     }
 }

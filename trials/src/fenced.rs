@@ -141,6 +141,15 @@ impl FencedArchive {
         answer
     }
 
+    /// A call that may write the tables, and only looks at the state.
+    fn filling(&self, state: &[u64], tables: &mut [u8], call: Call) -> u64 {
+        let words = Fenced::constant(self.0, state);
+        let bytes = Fenced::new(self.0, tables);
+        let answer = call(words.pointer(), state.len(), bytes.pointer(), tables.len());
+        bytes.put_back(tables);
+        answer
+    }
+
     /// A call that only looks at them.
     fn looking(&self, state: &[u64], tables: &[u8], call: Call) -> u64 {
         let words = Fenced::constant(self.0, state);
@@ -239,7 +248,13 @@ impl Engine for FencedArchive {
         })
     }
 
-    fn fill(&self, _: &mut [u64], _: &mut [u8], _: &mut [u8]) -> u64 {
-        unimplemented!("the archive does not have it yet")
+    fn fill(&self, state: &mut [u64], tables: &mut [u8], out: &mut [u8]) -> u64 {
+        let length = out.len();
+        let fenced = Fenced::new(self.0, out);
+        let answer = self.filling(state, tables, &|words, n, bytes, m| unsafe {
+            interface::overlay_fill(words, n, bytes, m, fenced.pointer(), length)
+        });
+        fenced.put_back(out);
+        answer
     }
 }

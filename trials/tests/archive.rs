@@ -6,6 +6,8 @@ mod edges;
 mod failures;
 #[path = "archive/fenced.rs"]
 mod fenced;
+#[path = "archive/filling.rs"]
+mod filling;
 #[path = "archive/founding.rs"]
 mod founding;
 #[path = "archive/full.rs"]

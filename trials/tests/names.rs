@@ -3,7 +3,7 @@
 use std::fs;
 
 use trials::second::memory::{MOST_NODES, STATE_WORDS, TABLE_BYTES};
-use trials::second::{Refusal, LONGEST_IMAGE, LONGEST_PATH, LONGEST_READ, LOST};
+use trials::second::{Refusal, LONGEST_IMAGE, LONGEST_PATH, LONGEST_READ, LOST, MOST_ADDED_BYTES};
 
 /// What a count byte holds.
 const MOST_PATHS: usize = u8::MAX as usize;
@@ -63,6 +63,7 @@ fn the_header_has_the_lengths_of_the_second_engine() {
         ("MOST_IMAGE_BYTES", LONGEST_READ),
         ("SURVEY_COUNTS", LOST + 1),
         ("MOST_WRITTEN_BYTES", LONGEST_IMAGE),
+        ("MOST_ADDED_BYTES", MOST_ADDED_BYTES),
         ("MOST_PATHS", MOST_PATHS),
         ("MOST_PLACES", LONGEST_PATH as usize),
         (

@@ -75,6 +75,7 @@ fn looks(pair: &mut Pair, rng: &mut Rng, node: u64, met: &mut Met) -> Result<(),
     expect(pair, Call::Sound, 0)?;
     expect(pair, Call::Verdict, 15)?;
     expect(pair, Call::WRITE_1, 15)?;
+    expect(pair, Call::Fill, 15)?;
     expect(pair, Call::Write { version: 3 }, 4)?;
     written_and_read(pair)?;
     expect(pair, Call::Read { image: vec![4] }, 3)?;

@@ -5,7 +5,7 @@ use crate::script::Call;
 use crate::second::network::Network;
 
 /// Arguments mostly good, now and then a bad number. The withdrawal is often of the node that the beginning before it has made.
-pub fn judging_calls(rng: &mut Rng, network: &Network) -> [Call; 9] {
+pub fn judging_calls(rng: &mut Rng, network: &Network) -> [Call; 10] {
     let count = network.count();
     let node = |rng: &mut Rng| match rng.below(8) {
         0 => bad_number(rng, count),
@@ -25,6 +25,7 @@ pub fn judging_calls(rng: &mut Rng, network: &Network) -> [Call; 9] {
         },
         Call::Verdict,
         Call::Write { version },
+        Call::Fill,
         Call::Lookup {
             from: node(rng),
             to: node(rng),

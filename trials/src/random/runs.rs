@@ -1,7 +1,7 @@
 //! Random runs: a founding, then calls in any order with many joins in flight, a quarter of them bad.
 
 use super::{bad_id, bad_number, damaged_image, damaged_trace, failed_set, fresh_id, id};
-use super::{paths, set_up_built, settings, trace_file, Path, Rng};
+use super::{paths, set_up_built, settings, thinned, trace_file, Path, Rng};
 use crate::engine::Second;
 use crate::lent::{Lent, ALL};
 use crate::script::{set_of, Call, Lend, Line, Script};
@@ -118,6 +118,7 @@ impl<'a> Maker<'a> {
             11 => self.survey(),
             12 | 13 => self.withdraw(),
             14 => self.trace(),
+            15 | 16 => self.look(Call::Fill),
             _ => self.deliver(),
         }
     }
@@ -215,11 +216,26 @@ impl<'a> Maker<'a> {
         }
         let place = self.rng.below(self.images.len());
         let image = self.images[place].clone();
+        if self.rng.once_in(2) {
+            return self.read_thinned(&image);
+        }
         self.call(Call::Read { image });
     }
 
+    /// An image with neighbors left out, which is mostly filled.
+    fn read_thinned(&mut self, image: &[u8]) {
+        let times = self.rng.pick(&[1, 2, 8]);
+        let image = thinned(self.rng, image, times);
+        self.call(Call::Read { image });
+        match self.rng.below(4) {
+            0 => self.short_list(),
+            1 => {}
+            _ => self.look(Call::Fill),
+        }
+    }
+
     fn bad_call(&mut self) {
-        match self.rng.below(19) {
+        match self.rng.below(20) {
             0 => self.bad_founding(),
             1 | 17 => self.bad_reading(),
             2..=4 => self.bad_beginning(),
@@ -230,6 +246,7 @@ impl<'a> Maker<'a> {
             12 => self.failed_lookup(),
             13 | 14 => self.bad_trace(),
             18 => self.bad_version(),
+            19 => self.short_list(),
             _ => self.short_memory(),
         }
     }
@@ -323,6 +340,18 @@ impl<'a> Maker<'a> {
         let out = self.rng.pick(&[0, 1, image - 1, image, image + 1]);
         self.obey(Line::Lend(Lend { out, ..ALL }));
         self.write();
+        self.obey(Line::Lend(ALL));
+    }
+
+    /// A filling with too little memory for its list, or with just enough.
+    fn short_list(&mut self) {
+        let bytes = 4 * (self.memory.clone().call(&Second, &Call::Fill) >> 8) as usize;
+        let short = [0, bytes / 2, bytes.saturating_sub(1)];
+        let out = self
+            .rng
+            .pick(&[short, [bytes, bytes + 1, bytes + 4]].concat());
+        self.obey(Line::Lend(Lend { out, ..ALL }));
+        self.look(Call::Fill);
         self.obey(Line::Lend(ALL));
     }
 

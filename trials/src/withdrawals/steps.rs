@@ -40,7 +40,7 @@ pub fn looking(rng: &mut Rng, node: u64) -> Call {
     let bad = bad_number(rng, node as usize);
     let failed = failed_set(rng, node as usize);
     let version = rng.pick(&[1, 2, 3]);
-    match rng.below(13) {
+    match rng.below(14) {
         0 => Call::Sound,
         1 => Call::Survey { failed },
         2 => Call::Verdict,
@@ -72,6 +72,7 @@ pub fn looking(rng: &mut Rng, node: u64) -> Call {
         11 => Call::Trace {
             trace: vec![2, 1, node as u8, 2, node as u8, other as u8],
         },
+        12 => Call::Fill,
         _ => Call::Read { image: vec![4] },
     }
 }

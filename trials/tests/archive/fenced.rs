@@ -7,9 +7,9 @@ use trials::compare::{Difference, Pair};
 use trials::engine::Second;
 use trials::fenced::{Fenced, FencedArchive, Place};
 use trials::lent::{ALL, EXACT};
-use trials::paper::{E1, JOINING};
+use trials::paper::{e1_short, E1, JOINING};
 use trials::random::{cuts, damaged_trace, image, image_2, image_damages, paths, run};
-use trials::random::{run_from_built, seeds, trace_file, Rng};
+use trials::random::{run_from_built, seeds, thinned, trace_file, Rng};
 use trials::records::{by_hand, long, Judged};
 use trials::script::{Call, Lend, Line, Script};
 use trials::second::memory::{COUNT, STATE_WORDS, TABLE_BYTES};
@@ -55,7 +55,7 @@ fn runs_agree_on_exact_memory() {
 }
 
 /// One call of each kind, and of those that take failed nodes one with some; a trace without paths, and one of a path that every network below allows.
-fn each_call() -> [Call; 16] {
+fn each_call() -> [Call; 17] {
     let read = |image: &[u8]| Call::Read {
         image: image.to_vec(),
     };
@@ -86,16 +86,19 @@ fn each_call() -> [Call; 16] {
         Call::Survey { failed: !2 },
         trace(&[0]),
         trace(&[1, 1, 2]),
+        Call::Fill,
     ]
 }
 
-/// Calls that make a network: of two nodes in system, of 64, and of two with a join in flight.
-fn networks() -> [Vec<Call>; 3] {
+/// Calls that make a network: of two nodes in system, of two of which one is to be filled, of 64, and of two with a join in flight.
+fn networks() -> [Vec<Call>; 4] {
     let (settings, id, gateway) = ([4, 4, 2], 1, 1);
     let full = full_image(&mut Rng::new(1));
-    let [two, full] = [E1.to_vec(), full].map(|image| vec![Call::Read { image }]);
+    let images = [E1.to_vec(), e1_short(), full];
+    let [two, short, full] = images.map(|image| vec![Call::Read { image }]);
     let founding = Call::Found { settings, id: 0 };
-    [two, full, vec![founding, Call::Begin { id, gateway }]]
+    let joining = vec![founding, Call::Begin { id, gateway }];
+    [two, short, full, joining]
 }
 
 /// The lengths around a fixed one: none, short, exact and longer.
@@ -105,7 +108,7 @@ fn around(fixed: usize) -> [usize; 6] {
 
 #[test]
 fn each_call_agrees_at_every_length() {
-    let mut taken = [0; 16];
+    let mut taken = [0; 17];
     for network in networks() {
         for state in around(STATE_WORDS) {
             for tables in around(TABLE_BYTES) {
@@ -144,6 +147,28 @@ fn writing_agrees_at_every_length_of_the_output() {
             agree(seed, &script);
         }
     }
+}
+
+#[test]
+fn filling_agrees_at_every_length_of_the_list() {
+    let mut taken = 0;
+    for seed in seeds(500, 30) {
+        let rng = &mut Rng::new(seed);
+        let whole = image(rng);
+        let image = thinned(rng, &whole, 2);
+        let length = whole.len() - image.len();
+        let mut script = Script::default();
+        for out in [0, 1, length / 2, length, length + 1, ALL.out] {
+            script.lines.push(Line::Lend(EXACT));
+            let image = image.clone();
+            script.call(Call::Read { image });
+            script.lines.push(Line::Lend(Lend { out, ..EXACT }));
+            script.call(Call::Fill);
+        }
+        let answers = agree(seed, &script);
+        taken += answers.iter().filter(|&answer| answer >> 8 != 0).count();
+    }
+    assert!(taken > 30, "{taken}");
 }
 
 #[test]

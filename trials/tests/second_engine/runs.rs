@@ -30,6 +30,7 @@ fn calls_on_damaged_states_leave_alone_what_they_must() {
         script.call(Call::Sound);
         script.call(Call::Survey { failed: 0 });
         script.call(Call::Trace { trace: vec![0] });
+        script.call(Call::Fill);
         let node = memory.state[COUNT];
         script.call(Call::Withdraw { node });
         let (other, _) = run(&mut rng, 20);
@@ -50,7 +51,7 @@ fn name(line: &Line) -> String {
 }
 
 /// What the calls of runs are refused by, 0 for a taken one.
-const MET: [(&str, &[u64]); 10] = [
+const MET: [(&str, &[u64]); 11] = [
     ("found", &[0, 1, 5, 7]),
     ("read", &[0, 1, 3, 4, 5, 6, 7, 8, 9, 10, 17, 18, 24]),
     ("begin", &[0, 1, 7, 8, 9, 11, 12]),
@@ -61,6 +62,7 @@ const MET: [(&str, &[u64]); 10] = [
     ("write", &[0, 1, 4, 15, 16]),
     ("survey", &[0, 1]),
     ("trace", &[0, 1, 9, 22, 23]),
+    ("fill", &[0, 1, 15, 16]),
 ];
 
 #[test]
@@ -143,4 +145,33 @@ fn runs_meet_traces() {
     );
     let enough = [accepted, joining, no_node, counts, steps].map(|met| met > 100);
     assert_eq!(enough, [true; 5]);
+}
+
+/// Fillings that add nothing, few and many nodes, and joins after them.
+#[test]
+fn runs_meet_fillings() {
+    let [mut nothing, mut few, mut many, mut joined] = [0; 4];
+    for seed in 6_000..6_200 {
+        let (script, _) = run(&mut Rng::new(seed), 300);
+        let (mut memory, mut filled) = (Lent::noise(), false);
+        for line in &script.lines {
+            let answer = memory.obey(&Second, line);
+            match line {
+                Line::Call(Call::Fill) if answer & 0xff == 0 => {
+                    nothing += usize::from(answer == 0);
+                    few += usize::from((1..10).contains(&(answer >> 8)));
+                    many += usize::from(answer >> 8 >= 10);
+                    filled |= answer != 0;
+                }
+                Line::Call(Call::Found { .. } | Call::Read { .. }) if answer == 0 => filled = false,
+                Line::Call(Call::Deliver { .. }) if answer >> 24 == 1 => {
+                    joined += usize::from(filled);
+                }
+                _ => {}
+            }
+        }
+    }
+    println!("{nothing} add nothing, {few} few, {many} many; {joined} joined after");
+    let enough = [nothing, few, many, joined].map(|met| met > 10);
+    assert_eq!(enough, [true; 4]);
 }
