@@ -4,7 +4,9 @@
 //! surveyed and written, with the counts of its joins, and read back, which in version 1 sets these to zero. Lookups and surveys are also made while every
 //! fourth node has failed. Behind that it is read as version 2, with its counts, and written so: these are the rows `read 2` and `write 2`, which a network
 //! of 64 nodes with joins under way has as well. Traces are checked in a network of their own, in which every path has nine nodes: as many paths as a file
-//! holds, half as many, and none, which leaves the check of the state. The two engines play this in turn for many rounds; a call counts with its shortest
+//! holds, half as many, and none, which leaves the check of the state. A network is filled of which every tenth entry that has somebody beside its owner
+//! lacks the last one, and once more when it is whole: each filling follows a reading, so that it finds fresh tables, and the reading is not counted in
+//! it. The two engines play this in turn for many rounds; a call counts with its shortest
 //! time over the rounds. The share of `sound` in a call is told by further rounds.
 
 use std::hint::black_box;
@@ -14,7 +16,7 @@ use trials::archive::Archive;
 use trials::engine::{Engine, Second};
 use trials::lent::Lent;
 use trials::panel::panels;
-use trials::random::{fresh_id, trace_file, Rng};
+use trials::random::{fresh_id, parts, trace_file, with_records, Rng};
 use trials::script::{set_of, Call};
 use trials::second::memory::{STATE_WORDS, TABLE_BYTES};
 use trials::second::network::Network;
@@ -24,7 +26,7 @@ const ROUNDS: usize = 150;
 const IN_FLIGHT: usize = 4;
 
 /// Calls that judge the state first; those `without` have failed nodes, and a trace is `of` so many paths.
-const JUDGING: [&str; 13] = [
+const JUDGING: [&str; 14] = [
     "begin",
     "withdraw",
     "deliver",
@@ -38,6 +40,7 @@ const JUDGING: [&str; 13] = [
     "trace of 255",
     "trace of 127",
     "trace of 0",
+    "fill",
 ];
 
 /// Nodes 4, 8, 12, ..
@@ -180,6 +183,47 @@ fn round_of_traces() -> Vec<Call> {
     calls
 }
 
+/// The image of version 1 of a network that has grown to so many nodes.
+fn grown_image(settings: [u64; 3], nodes: usize) -> Vec<u8> {
+    let mut memory = Lent::noise();
+    for call in growth(settings, nodes, &mut Rng::new(1)) {
+        memory.call(&Second, &call);
+    }
+    let length = Call::WRITE_1.written(memory.call(&Second, &Call::WRITE_1));
+    memory.out[..length].to_vec()
+}
+
+/// The image without the last of every tenth entry that has somebody beside its owner.
+fn a_tenth_short(image: &[u8]) -> Vec<u8> {
+    let (head, records) = parts(image).expect("it has its counts");
+    let entries = records.chunk_by(|one, next| one[..3] == next[..3]);
+    let mut others = 0;
+    let left = entries.flat_map(|entry| {
+        let [node, _, _, last] = entry[entry.len() - 1];
+        others += usize::from(node != last);
+        let short = node != last && others % 10 == 0;
+        entry[..entry.len() - usize::from(short)].to_vec()
+    });
+    let left: Vec<[u8; 4]> = left.collect();
+    with_records(&head, &left)
+}
+
+/// The calls of a round of fillings: the network is judged, read and filled as often as it has nodes.
+fn round_of_fills(image: &[u8]) -> Vec<Call> {
+    let image = image.to_vec();
+    let once = [Call::Read { image }, Call::Sound, Call::Fill];
+    vec![once; 64].concat()
+}
+
+/// How many nodes a filling adds to the network of this image.
+fn additions(image: &[u8]) -> u64 {
+    let mut memory = Lent::noise();
+    for call in &round_of_fills(image)[..2] {
+        memory.call(&Second, call);
+    }
+    memory.call(&Second, &Call::Fill) >> 8
+}
+
 /// An engine's shortest time for each call so far, in nanoseconds.
 struct Clock<'a> {
     engine: &'a dyn Engine,
@@ -320,4 +364,11 @@ fn main() {
         bench(settings, &nodes, &round_of_joins(settings));
     }
     bench([2, 8, 4], "64 nodes", &round_of_traces());
+    for (settings, nodes) in [([16, 8, 4], 64), ([4, 4, 2], 64), ([4, 4, 2], 5)] {
+        let whole = grown_image(settings, nodes);
+        for image in [a_tenth_short(&whole), whole] {
+            let filled = format!("{nodes} nodes, {} to add", additions(&image));
+            bench(settings, &filled, &round_of_fills(&image));
+        }
+    }
 }
