@@ -6,6 +6,7 @@
 //! - `in_order`: which refusal wins.
 //! - `lengths`: memory for the list that is too short, exact and longer.
 //! - `every_entry`: networks from empty entries to full ones: the verdict passes, nothing but entries has grown, and a second filling adds nothing.
+//! - `every_table`: every table that small networks may have.
 //! - `hops`: the very hops of lookups that arrived before.
 //! - `sample`: joins at once that end short, and are filled.
 //! - `among_joins`: fillings at any point of runs with joins and withdrawals.
@@ -17,6 +18,7 @@
 mod among_joins;
 mod by_hand;
 mod every_entry;
+mod every_table;
 mod expected;
 mod hops;
 mod in_order;
@@ -32,6 +34,7 @@ mod steps;
 pub use among_joins::among_joins;
 pub use by_hand::by_hand;
 pub use every_entry::every_entry;
+pub use every_table::every_table;
 pub use expected::{is_filled, with_additions};
 pub use hops::hops;
 pub use in_order::in_order;

@@ -146,7 +146,7 @@ fn random_and_damaged_images_print_the_same() {
         count(|lines| lines.starts_with("refusal 24\n")),
     ];
     println!("{counts:?}");
-    assert!(counts.iter().all(|&met| met > 10), "{counts:?}");
+    assert!(counts.iter().all(|&met| met > 4), "{counts:?}");
     let refused = printed
         .iter()
         .filter(|lines| !lines.starts_with("refusal 0\n"));

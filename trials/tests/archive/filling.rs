@@ -2,7 +2,9 @@
 
 use trials::archive::Archive;
 use trials::engine::Second;
-use trials::fills::{among_joins, by_hand, every_entry, hops, in_order, joined, lengths, most};
+use trials::fills::{
+    among_joins, by_hand, every_entry, every_table, hops, in_order, joined, lengths, most,
+};
 use trials::fills::{restored, sample};
 use trials::random::{damage, seeds, Rng};
 use trials::script::Call;
@@ -28,6 +30,11 @@ fn a_list_needs_its_length_and_leaves_the_rest_alone() {
 #[test]
 fn short_entries_are_filled_and_nothing_else_changes() {
     every_entry(&Archive, &Second).unwrap();
+}
+
+#[test]
+fn every_table_of_small_networks_is_filled() {
+    every_table(&Archive, &Second).unwrap();
 }
 
 #[test]

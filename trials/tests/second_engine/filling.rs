@@ -1,7 +1,9 @@
 //! Fillings by the second engine.
 
 use trials::engine::Second;
-use trials::fills::{among_joins, by_hand, every_entry, hops, in_order, joined, lengths, most};
+use trials::fills::{
+    among_joins, by_hand, every_entry, every_table, hops, in_order, joined, lengths, most,
+};
 use trials::fills::{restored, sample, settled};
 use trials::met::met_enough;
 use trials::plain::plain_sound;
@@ -33,6 +35,15 @@ fn short_entries_are_filled_and_nothing_else_changes() {
     let all = ["nothing added", "few added", "many added"];
     assert!(met_enough(&met, 20, &all) && met_enough(&met, 3, &["more than 999 added"]));
     assert!(met_enough(&met, 20, &["passed before", "short before"]));
+}
+
+/// 6 to the power of 4, twice 8 times 8 times 5, and 4 to the power of 3.
+#[test]
+fn every_table_of_small_networks_is_filled() {
+    let met = every_table(&Second, &Second).unwrap();
+    println!("{met:?}");
+    assert_eq!(met.values().sum::<usize>(), 1_296 + 2 * 320 + 64);
+    assert_eq!(met["nothing added"], 16 + 2 * 2 + 1);
 }
 
 #[test]

@@ -1,7 +1,9 @@
 //! Engines that fill wrong: what they are made of, and the trials that must see them, also where two engines are wrong together.
 
 use trials::engine::{Engine, Second};
-use trials::fills::{among_joins, by_hand, every_entry, hops, in_order, joined, lengths, most};
+use trials::fills::{
+    among_joins, by_hand, every_entry, every_table, hops, in_order, joined, lengths, most,
+};
 use trials::fills::{restored, sample};
 use trials::second::digit;
 use trials::second::memory::{record, State, COUNT};
@@ -10,11 +12,12 @@ use trials::second::network::Network;
 use crate::seen::{is_seen, Sees};
 use crate::spoiled::{AfterFilling, SpoilFilling, Spoiled, UNSPOILED};
 
-const TRIALS: [Sees; 10] = [
+const TRIALS: [Sees; 11] = [
     ("by hand", |a, b| by_hand(a, b).is_err()),
     ("in order", |a, b| in_order(a, b).is_err()),
     ("lengths", |a, b| lengths(a, b).is_err()),
     ("every entry", |a, b| every_entry(a, b).is_err()),
+    ("every table", |a, b| every_table(a, b).is_err()),
     ("hops", |a, b| hops(a, b).is_err()),
     ("among joins", |a, b| among_joins(a, b).is_err()),
     ("joined", |a, b| joined(a, b).is_err()),
@@ -23,10 +26,10 @@ const TRIALS: [Sees; 10] = [
     ("most", |a, b| most(a, b).is_err()),
 ];
 pub const ALL: &str =
-    "by hand, in order, lengths, every entry, hops, among joins, joined, restored, sample, most";
+    "by hand, in order, lengths, every entry, every table, hops, among joins, joined, restored, sample, most";
 /// E1 has entries of one, and lacks one node of one.
 pub const ALL_BUT_IN_ORDER: &str =
-    "by hand, lengths, every entry, hops, among joins, joined, restored, most";
+    "by hand, lengths, every entry, every table, hops, among joins, joined, restored, most";
 
 /// What goes wrong, and by which of the trials it must be seen.
 pub type Wrong = (&'static str, SpoilFilling, &'static str);
