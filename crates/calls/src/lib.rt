@@ -15,6 +15,8 @@ pub enum Call {
     // the set of failed nodes
     Survey(u64),
     Verdict,
+    // the list to the memory that is lent for output
+    Fill,
     // the version, to the memory that is lent for output
     Write(u64),
     // of the trace that is lent with the call

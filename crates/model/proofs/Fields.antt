@@ -1,5 +1,5 @@
--- How large the fields of an answer are: below 256, but for the length of a written image and the counts of a survey, which are at most
--- 4,096. Assumes nothing.
+-- How large the fields of an answer are: below 256, but for the length of a written image, the number of additions of a filling, and the
+-- counts of a survey, which are at most 4,096. Assumes nothing.
 use Prim.Native.Nat.{ℕ, zero, suc, _*_, _≤_, _<_}
 use mathlib.Core.Path.{_≡_, refl, sym, subst}
 use mathlib.Core.Logic.{_⊎_, inl, inr}
@@ -8,7 +8,7 @@ use mathlib.Core.List.{List, [], _∷_, _++_}
 use native.Mathlib.Nat.{mul-le-mul}
 use native.Mathlib.Omega.{arith}
 use lib.Dec.{eqb}
-use lib.ListN.{getD, replicate}
+use lib.ListN.{length, getD, replicate}
 use borrow.Author.Tests.{eq-eqb}
 use Rattle.model.specs.Loops.{firstBelow, node}
 use Rattle.model.specs.Nodes.{firstNode}
@@ -18,8 +18,8 @@ use Rattle.model.specs.Lookup.{lookup}
 use Rattle.model.specs.Survey.{countPairs, surveyCounts}
 use Rattle.model.specs.Consistency.{consistent, nodeShort, levelShort, entryShort, firstShort, verdict}
 use Rattle.model.specs.Traces.{pathCount, placeCount, stepCount, placeNamed, stepAllowed, inPaths, firstFault}
-use Rattle.model.specs.Refusals.{Sentence, firstTrue, stateSentences, traceSentences, stateRefusal, beginRefusal, deliverRefusal, lookupRefusal, verdictRefusal, traceRefusal, tracePlace}
-use Rattle.model.specs.Calls.{Outcome, refusedAt, refused, taken, unlessRefused, verdictFields, beginCall, deliverCall, lookupCall, surveyCall, verdictCall, traceCall}
+use Rattle.model.specs.Refusals.{Sentence, firstTrue, stateSentences, traceSentences, stateRefusal, beginRefusal, deliverRefusal, lookupRefusal, verdictRefusal, fillRefusal, traceRefusal, tracePlace}
+use Rattle.model.specs.Calls.{Outcome, refusedAt, refused, taken, unlessRefused, verdictFields, beginCall, deliverCall, lookupCall, surveyCall, verdictCall, filledBy, fillCall, traceCall}
 use Rattle.model.proofs.Refusals.{numbered, sentences-below}
 use Rattle.model.proofs.Calls.{either-end, taken-zero}
 use Rattle.model.proofs.Loops.{first-le}
@@ -28,7 +28,7 @@ use Rattle.model.proofs.Sound.{Sound}
 use Rattle.model.proofs.DeliveryDid.{delivery-small}
 use Rattle.model.proofs.Lookup.{arrives-is, loses-is, lookup-hop, hops-bound, walk}
 use Rattle.model.proofs.Survey.{one-or-none, pairs-most}
-use Rattle.model.proofs.Taken.{state-taken, begin-taken, deliver-taken, lookup-taken, verdict-taken}
+use Rattle.model.proofs.Taken.{state-taken, begin-taken, deliver-taken, lookup-taken, verdict-taken, fill-taken}
 use Rattle.model.proofs.Traces.{trace-counts, fault, refused-9, refused-23, by-refusal, trace-place-none, trace-answer}
 
 -- each field is below n
@@ -183,3 +183,12 @@ module _ (m : Memory) (failed : ℕ) where
   pub survey-sound : getD (surveyCall m failed .answer) 0 0 ≡ 0 → Sound (m .state) (m .tables)
   unfolding surveyCall
   survey-sound e = state-taken m (taken-zero m (stateRefusal m) [] _ _ (eq-eqb _ 0 e))
+
+-- ---- filling
+
+-- four bytes for each addition that it answers fit the output
+pub additions-fit : (m : Memory) (out : List ℕ) → 4 * getD (fillCall m out .answer) 1 0 ≤ length out
+unfolding fillCall filledBy refusedAt taken
+additions-fit m out =
+    either-end (λ (o : Outcome). 4 * getD (o .answer) 1 0 ≤ length out) (fillRefusal m out) (refused m out 1) _ (λ nz. omega arith)
+    (λ z. let l = fill-taken m out z .1 in omega (arith, l))

@@ -10,7 +10,7 @@ use Rattle.promise.proofs.Promise.{play-append, promise}
 use Rattle.replay_calls.specs.Called.{called}
 use Rattle.script.specs.Commands.{commandOf}
 use Rattle.script.specs.declared.command.Command.{Command}
-use Rattle.script.specs.declared.command.Command.the-variants.{Nothing, Unknown, Call, Save, Load, Trace, Panel, Table}
+use Rattle.script.specs.declared.command.Command.the-variants.{Nothing, Unknown, Call, Fill, Save, Load, Trace, Panel, Table}
 use Rattle.replay.specs.Script.{Turn, Follows, Calls, AllCalls, RunKept}
 
 -- calls of this kind lead from one memory to another
@@ -26,6 +26,7 @@ unfolding Reached play
 turn Nothing m m₁ e = none m m₁ e
 turn Unknown m m₁ e = none m m₁ e
 turn (Call c) m m₁ e = (called [] [] c ∷ [], refl, e)
+turn Fill m m₁ (out, e) = (book.fill out ∷ [], (out, refl), e)
 turn (Save version) m m₁ (out, e) = (book.write version out ∷ [], (out, refl), e)
 turn Load m m₁ (inl e) = ([], inl refl, e)
 turn Load m m₁ (inr (image, e)) = (book.read image ∷ [], inr (image, refl), e)

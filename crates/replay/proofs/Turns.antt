@@ -1,9 +1,9 @@
 -- What one line does to the network, and what is said of it. Assumes nothing.
-use Prim.Native.Nat.{ℕ, _+_, _<_}
+use Prim.Native.Nat.{ℕ, _+_, _*_, _≤_, _<_}
 use mathlib.Core.Path.{_≡_, refl, sym, ap, ap₂, subst, _∙_}
 use mathlib.Core.List.{List, []}
 use native.Mathlib.Omega.{arith}
-use lib.ListN.{getD, drop}
+use lib.ListN.{length, getD, drop}
 use lib.Seq.{getD-drop}
 use borrow.Author.Tests.{eq-eqb, ne-eqb}
 use Rattle.model.specs.Memory.{Memory, digits}
@@ -14,7 +14,7 @@ use Rattle.model.specs.Run.{step, after}
 use Rattle.model.proofs.Status.{IsNode}
 use Rattle.model.proofs.Sound.{Sound}
 use Rattle.model.proofs.Taken.{state-taken, lookup-taken}
-use Rattle.model.proofs.Fields.{below-at, survey-few, survey-sound}
+use Rattle.model.proofs.Fields.{below-at, survey-few, survey-sound, additions-fit}
 use Rattle.putting.specs.Put.{Put}
 use Rattle.putting.proofs.Putting.{put-none, put-then}
 use Rattle.text.specs.Ascii.{ascii}
@@ -32,7 +32,7 @@ use Rattle.script.specs.Commands.{commandOf}
 use Rattle.script.specs.declared.command.Command.{Command}
 use Rattle.script.specs.declared.command.Command.the-variants as is
 use Rattle.replay.specs.Said.{orRefused, panelSaid, tableSaid, unknownSaid, commandSaid, commandAfter}
-use Rattle.replay.specs.Script.{Saved, Loaded, Traced, Turn}
+use Rattle.replay.specs.Script.{Filled, Saved, Loaded, Traced, Turn}
 
 -- ---- a call, played
 
@@ -49,6 +49,13 @@ module _ (m m₁ : Memory) (w : Words) (c : book.Call) (e : shown m₁ w ≡ pla
       → Put o 0 (said (digits (m .state)) file call (padded (step m c .answer))) p g
   played-words call d file o p g f P =
       subst (λ (text : List ℕ). Put o 0 text p g) (ap₂ (λ (d : ℕ) (l : List ℕ). said d file call l) f played-answer) P
+
+-- ---- a filling, played
+
+-- the records that it answers fit the memory for the list
+pub list-fits : (m : Memory) (w : Words) (list : List ℕ) → listed w ≡ padded (step m (book.fill list) .answer) → 4 * getD (w .fields) 0 0 ≤ length list
+unfolding step
+list-fits m w list e = subst (λ (n : ℕ). 4 * n ≤ length list) (sym (ap (λ (l : List ℕ). getD l 1 0) e)) (additions-fit m list)
 
 -- ---- a survey, played
 
@@ -115,6 +122,9 @@ module _ (m : Memory) (number : ℕ) (command : Command) where
   pub unknown-leaves : command ≡ is.Unknown → m ≡ commandAfter m command
   unknown-leaves e = leaves is.Unknown e m refl
 
+  pub fill-leaves : command ≡ is.Fill → m ≡ commandAfter m command
+  fill-leaves e = leaves is.Fill e m refl
+
   pub save-leaves : (v : ℕ) → command ≡ is.Save v → m ≡ commandAfter m command
   save-leaves v e = leaves (is.Save v) e m refl
 
@@ -148,6 +158,9 @@ module _ (m : Memory) (number : ℕ) (command : Command) where
     pub nothing-says : command ≡ is.Nothing → Put o 0 (commandSaid m number command) o 0
     nothing-says e = says is.Nothing e o o 0 (put-none o 0 (omega arith))
 
+    pub fill-says : command ≡ is.Fill → Put o 0 (commandSaid m number command) o 0
+    fill-says e = says is.Fill e o o 0 (put-none o 0 (omega arith))
+
     pub save-says : (v : ℕ) → command ≡ is.Save v → Put o 0 (commandSaid m number command) o 0
     save-says v e = says (is.Save v) e o o 0 (put-none o 0 (omega arith))
 
@@ -160,6 +173,9 @@ module _ (m : Memory) (number : ℕ) (command : Command) where
 module _ (line : List ℕ) (m m₁ : Memory) (command : Command) (e : command ≡ commandOf line) where
   by-command : (c : Command) → command ≡ c → Turn c m m₁ → Turn (commandOf line) m m₁
   by-command c f turn = subst (λ (c : Command). Turn c m m₁) (sym f ∙ e) turn
+
+  pub line-fill : command ≡ is.Fill → Filled m m₁ → Turn (commandOf line) m m₁
+  line-fill f h = by-command is.Fill f h
 
   pub line-save : (v : ℕ) → command ≡ is.Save v → Saved v m m₁ → Turn (commandOf line) m m₁
   line-save v f h = by-command (is.Save v) f h

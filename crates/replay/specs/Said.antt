@@ -1,4 +1,4 @@
--- What is said of a line that needs no file, and what such a line does to the network.
+-- What is said of a line that needs no file and no list, and what such a line does to the network.
 use Prim.Native.Nat.{ℕ}
 use mathlib.Core.Bool.{cond}
 use mathlib.Core.List.{List, [], _++_}
@@ -15,7 +15,7 @@ use Rattle.replay_refusals.specs.Refused.{refusedText}
 use Rattle.replay_words.specs.Said.{said}
 use Rattle.model.specs.Run.{step, after}
 use Rattle.script.specs.declared.command.Command.{Command}
-use Rattle.script.specs.declared.command.Command.the-variants.{Nothing, Unknown, Call, Save, Load, Trace, Panel, Table}
+use Rattle.script.specs.declared.command.Command.the-variants.{Nothing, Unknown, Call, Fill, Save, Load, Trace, Panel, Table}
 
 -- what is shown where nothing refuses it; else the refusal in words
 unfoldable pub orRefused : ℕ → List ℕ → List ℕ
@@ -33,11 +33,12 @@ tableSaid m x = orRefused (lookupRefusal m x x 0) (tableText (m .state) (m .tabl
 unfoldable pub unknownSaid : ℕ → List ℕ
 unknownSaid number = labelled (ascii "line ") number ++ ascii ": not understood\n"
 
--- what is said of a line with this number, where it needs no file: m is the network before it
+-- what is said of a line with this number, where it needs no file and no list: m is the network before it
 abbrev pub commandSaid : Memory → ℕ → Command → List ℕ
 commandSaid m number Nothing = []
 commandSaid m number Unknown = unknownSaid number
 commandSaid m number (Call c) = said (digits (m .state)) [] c (padded (step m (called [] [] c) .answer))
+commandSaid m number Fill = []
 commandSaid m number (Save version) = []
 commandSaid m number Load = []
 commandSaid m number Trace = []
@@ -49,6 +50,7 @@ abbrev pub commandAfter : Memory → Command → Memory
 commandAfter m Nothing = m
 commandAfter m Unknown = m
 commandAfter m (Call c) = after m (called [] [] c)
+commandAfter m Fill = m
 commandAfter m (Save version) = m
 commandAfter m Load = m
 commandAfter m Trace = m

@@ -15,7 +15,7 @@ use Rattle.calls.specs.declared.Call.the-variants as call
 use Rattle.replay_calls.specs.Called.{called}
 use Rattle.script.specs.Commands.{commandOf}
 use Rattle.script.specs.declared.command.Command.{Command}
-use Rattle.script.specs.declared.command.Command.the-variants.{Nothing, Unknown, Call, Save, Load, Trace, Panel, Table}
+use Rattle.script.specs.declared.command.Command.the-variants.{Nothing, Unknown, Call, Fill, Save, Load, Trace, Panel, Table}
 
 -- one byte more at the start of the first line
 abbrev pub inFront : ℕ → List (List ℕ) → List (List ℕ)
@@ -26,6 +26,10 @@ inFront b (line ∷ lines) = (b ∷ line) ∷ lines
 unfoldable pub linesOf : List ℕ → List (List ℕ)
 linesOf [] = []
 linesOf (b ∷ bs) = let more = linesOf bs in cond (eqb b 10) ([] ∷ more) (inFront b more)
+
+-- the additions were listed to some memory
+abbrev pub Filled : Memory → Memory → Type 0
+Filled m m₁ = (out : List ℕ) × (m₁ ≡ after m (book.fill out))
 
 -- the image was written to some memory
 abbrev pub Saved : ℕ → Memory → Memory → Type 0
@@ -48,6 +52,7 @@ abbrev pub Turn : Command → Memory → Memory → Type 0
 Turn Nothing m m₁ = m₁ ≡ m
 Turn Unknown m m₁ = m₁ ≡ m
 Turn (Call c) m m₁ = m₁ ≡ after m (called [] [] c)
+Turn Fill m m₁ = Filled m m₁
 Turn (Save version) m m₁ = Saved version m m₁
 Turn Load m m₁ = Loaded m m₁
 Turn Trace m m₁ = Traced m m₁
@@ -66,6 +71,7 @@ abbrev pub Calls : Command → List book.Call → Type 0
 Calls Nothing cs = cs ≡ []
 Calls Unknown cs = cs ≡ []
 Calls (Call c) cs = cs ≡ called [] [] c ∷ []
+Calls Fill cs = (out : List ℕ) × (cs ≡ book.fill out ∷ [])
 Calls (Save version) cs = (out : List ℕ) × (cs ≡ book.write version out ∷ [])
 Calls Load cs = (cs ≡ []) ⊎ ((image : List ℕ) × (cs ≡ book.read image ∷ []))
 Calls Trace cs = (cs ≡ []) ⊎ ((trace : List ℕ) × (cs ≡ book.trace trace ∷ []))

@@ -5,6 +5,7 @@ ghost use Rattle.state.specs.Lent.{memory};
 ghost use Rattle.replay.specs.Script.{linesOf, Follows};
 
 mod files;
+mod fills;
 mod said;
 mod turn;
 
@@ -27,7 +28,7 @@ fn lines(state: &mut [u64], tables: &mut [u8], script: &[u8])
     }
 }
 
-// The memory for the script. One that fills it is not played.
+// Memory for a script, of which one that fills it is not played, or for the lines of a list.
 fn room() -> [u8; 1048576]
     ensures { λ r. ⌜ 1048576 ≡ length r ⌝ }
 {

@@ -96,7 +96,7 @@ fn unknown(number: u64, words: &mut [u8]) -> usize
     piece(words, end, b": not understood\n")
 }
 
-// The command of a line that has this number: does it, where it needs no file, and puts what is said of it at the start of words.
+// The command of a line that has this number: does it, where it needs no file and no list, and puts what is said of it at the start of words.
 pub fn command(
     state: &mut [u64],
     tables: &mut [u8],
@@ -113,6 +113,7 @@ pub fn command(
         Command::Nothing => return 0,
         Command::Unknown => return unknown(number, words),
         Command::Call(c) => return call(state, tables, c, words),
+        Command::Fill => return 0,
         Command::Save(_) => return 0,
         Command::Load => return 0,
         Command::Trace => return 0,

@@ -5,13 +5,14 @@ ghost use Rattle.script.specs.Commands.{commandOf};
 ghost use Rattle.replay.specs.Said.{commandAfter};
 ghost use Rattle.replay.specs.Script.{Turn};
 use crate::files;
+use crate::fills;
 use crate::said;
 use libc::STDOUT_FILENO;
 use script::command;
 use script::command::Command;
 use script::words;
 
-// A command that needs no file: done, and what is said of it printed.
+// A command that needs no file and no list: done, and what is said of it printed.
 fn plain(state: &mut [u64], tables: &mut [u8], command: Command, number: u64)
     ensures { λ r. ⌜ memory (now (state .exit)) (now (tables .exit)) ≡ commandAfter (memory (now (state .entry)) (now (tables .entry))) command ⌝ }
 {
@@ -29,6 +30,7 @@ pub fn line(state: &mut [u64], tables: &mut [u8], text: &[u8], number: u64)
         Command::Nothing => return plain(state, tables, command, number),
         Command::Unknown => return plain(state, tables, command, number),
         Command::Call(_) => return plain(state, tables, command, number),
+        Command::Fill => return fills::fill(state, tables),
         Command::Save(version) => {
             return files::save(state, tables, words::word(text, 1), version);
         }

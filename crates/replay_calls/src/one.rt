@@ -1,7 +1,7 @@
 // One call, played by the public call of its kind.
 ghost use mathlib.Core.Path.{_≡_};
 ghost use mathlib.Core.List.{[], _∷_};
-ghost use Rattle.model.specs.Calls.{foundCall, readCall, beginCall, withdrawCall, deliverCall, lookupCall, surveyCall, verdictCall, writeCall, traceCall, soundCall};
+ghost use Rattle.model.specs.Calls.{foundCall, readCall, beginCall, withdrawCall, deliverCall, lookupCall, surveyCall, verdictCall, fillCall, writeCall, traceCall, soundCall};
 ghost use Rattle.model.specs.Run.{step};
 ghost use Rattle.state.specs.Lent.{memory};
 ghost use Rattle.replay_calls.specs.Called.{called, outAfter};
@@ -92,6 +92,14 @@ fn read(state: &mut [u64], tables: &mut [u8], image: &[u8]) -> Words
     first_fields(r.refusal, r.place, 0, 0, 0)
 }
 
+fn fill(state: &[u64], tables: &mut [u8], out: &mut [u8]) -> Words
+    ensures { λ r. ⌜ shown (memory (now (state .entry)) (now (tables .exit))) r ≡ playing (fillCall (memory (now (state .entry)) (now (tables .entry))) (now (out .entry))) ⌝ }
+    ensures { λ r. ⌜ now (out .exit) ≡ fillCall (memory (now (state .entry)) (now (tables .entry))) (now (out .entry)) .out ⌝ }
+{
+    let r = engine::fill::fill(state, tables, out);
+    first_fields(r.refusal, r.additions, 0, 0, 0)
+}
+
 fn write(state: &[u64], tables: &[u8], version: u64, out: &mut [u8]) -> Words
     ensures { λ r. ⌜ shown (memory (now (state .entry)) (now (tables .entry))) r ≡ playing (writeCall (memory (now (state .entry)) (now (tables .entry))) version (now (out .entry))) ⌝ }
     ensures { λ r. ⌜ now (out .exit) ≡ writeCall (memory (now (state .entry)) (now (tables .entry))) version (now (out .entry)) .out ⌝ }
@@ -113,7 +121,7 @@ fn sound(state: &[u64], tables: &[u8]) -> Words
     first_fields(engine::sound::sound(state, tables), 0, 0, 0, 0)
 }
 
-// Plays the call on the lent memory: reading and tracing are of `file`, and writing to `out`.
+// Plays the call on the lent memory: reading and tracing are of `file`, and filling and writing to `out`.
 pub fn play(state: &mut [u64], tables: &mut [u8], file: &[u8], out: &mut [u8], call: Call) -> Words
     ensures { λ w. ⌜ shown (memory (now (state .exit)) (now (tables .exit))) w ≡ playing (step (memory (now (state .entry)) (now (tables .entry))) (called (now (file .entry)) (now (out .entry)) call)) ⌝ }
     ensures { λ w. ⌜ now (out .exit) ≡ outAfter (memory (now (state .entry)) (now (tables .entry))) (now (out .entry)) call ⌝ }
@@ -129,6 +137,7 @@ pub fn play(state: &mut [u64], tables: &mut [u8], file: &[u8], out: &mut [u8], c
         Call::Lookup(from, to, failed) => return lookup(state, tables, from, to, failed),
         Call::Survey(failed) => return survey(state, tables, failed),
         Call::Verdict => return verdict(state, tables),
+        Call::Fill => return fill(state, tables, out),
         Call::Write(version) => return write(state, tables, version, out),
         Call::Trace => return trace(state, tables, file),
         Call::Sound => return sound(state, tables),

@@ -1,5 +1,5 @@
 -- What was put is what is said, by the number or the call that decides it. Assumes nothing.
-use Prim.Native.Nat.{ℕ, _%_}
+use Prim.Native.Nat.{ℕ}
 use mathlib.Core.Path.{_≡_, refl, sym, ap, subst}
 use mathlib.Core.List.{List, [], _∷_}
 use native.Mathlib.Omega.{arith}
@@ -7,9 +7,8 @@ use lib.ListN.{length, getD}
 use borrow.Author.Tests.{eq-eqb, ne-eqb}
 use Rattle.model.specs.Traces.{pathCount}
 use Rattle.putting.specs.Put.{Put}
-use Rattle.putting.proofs.Putting.{put-then, three-pieces}
+use Rattle.putting.proofs.Putting.{put-then}
 use Rattle.text.specs.Ascii.{ascii}
-use Rattle.text.specs.Numbers.{hexDigit, hexadecimal}
 use Rattle.text.specs.Lines.{labelled}
 use Rattle.text.proofs.Pieces.{by-key}
 use Rattle.calls.specs.declared.Call.{Call}
@@ -17,6 +16,7 @@ use Rattle.calls.specs.declared.Call.the-variants.{Survey}
 use Rattle.replay_calls.specs.Answered.{listed}
 use Rattle.replay_calls.specs.declared.answer.Words.{Words}
 use Rattle.replay_survey.specs.Showable.{Showable}
+use Rattle.replay_entries.specs.EntryText.{placeText}
 use Rattle.replay_refusals.specs.Refused.{refusedText}
 use Rattle.replay_words.specs.Said.{bytesText, kindText, settledText, deliverText, endText, countText, hopsText, lookupText, shortText, judgedText, pathsText, takenText, said}
 use Rattle.replay_words.specs.Sayable.{Sayable}
@@ -78,20 +78,10 @@ module _ (w : Words) (o : List ℕ) (a : ℕ) (p : List ℕ) (g : ℕ) (q : List
   unfolding lookupText
   looked-up-put P Q = put-then o a _ p g _ q h P Q
 
--- a digit is shown by its last four bits
-one-digit : (j : ℕ) → hexadecimal 1 (j % 16) ≡ hexadecimal 1 j
-unfolding hexadecimal
-one-digit j =
-    let e : j % 16 % 16 ≡ j % 16 = omega arith in
-    ap (λ (d : ℕ). hexDigit d ∷ []) e
-
-pub short-put : (x i j : ℕ) (o : List ℕ) (a : ℕ) (p : List ℕ) (g : ℕ) (q : List ℕ) (h : ℕ) (r : List ℕ) (k : ℕ) (v : List ℕ) (l : ℕ) (y : List ℕ) (m : ℕ)
-    → Put o a (labelled (ascii "verdict: node ") x) p g → Put p g (labelled (ascii " level ") i) q h → Put q h (ascii " digit ") r k
-    → Put r k (hexadecimal 1 (j % 16)) v l → Put v l (ascii " falls short\n") y m → Put o a (shortText x i j) y m
+pub short-put : (x i j : ℕ) (o : List ℕ) (a : ℕ) (p : List ℕ) (g : ℕ) (q : List ℕ) (h : ℕ) → Put o a (placeText (ascii "verdict: node ") x i j) p g
+    → Put p g (ascii " falls short\n") q h → Put o a (shortText x i j) q h
 unfolding shortText
-short-put x i j o a p g q h r k v l y m P Q R W Y =
-    three-pieces o a _ p g _ q h P Q _ y m
-    (three-pieces q h _ r k _ v l R (subst (λ (d : List ℕ). Put r k d v l) (one-digit j) W) _ y m Y)
+short-put x i j o a p g q h P Q = put-then o a _ p g _ q h P Q
 
 -- ---- a trace that was accepted
 

@@ -7,11 +7,11 @@ use lib.ListN.{length, getD, drop}
 use Rattle.model.specs.Join.{kindCopied, kindSentOn, kindAttached}
 use Rattle.model.specs.Traces.{pathCount}
 use Rattle.calls.specs.declared.Call.{Call}
-use Rattle.calls.specs.declared.Call.the-variants.{Found, Read, Begin, Withdraw, Deliver, Lookup, Survey, Verdict, Write, Trace, Sound}
+use Rattle.calls.specs.declared.Call.the-variants.{Found, Read, Begin, Withdraw, Deliver, Lookup, Survey, Verdict, Fill, Write, Trace, Sound}
 use Rattle.text.specs.Ascii.{ascii}
-use Rattle.text.specs.Numbers.{hexadecimal}
 use Rattle.text.specs.Lines.{labelled, line}
 use Rattle.replay_survey.specs.SurveyText.{surveySaid}
+use Rattle.replay_entries.specs.EntryText.{placeText}
 use Rattle.replay_refusals.specs.Refused.{refusedText}
 
 -- a label, how many bytes, and the line's end
@@ -45,15 +45,16 @@ hopsText hops = countText (ascii " in ") hops (ascii " hop\n") (ascii " hops\n")
 unfoldable pub lookupText : List ℕ → List ℕ
 lookupText w = labelled (endText (getD w 1 0)) (getD w 3 0) ++ hopsText (getD w 2 0)
 
--- the place of an entry that falls short; its digit is hexadecimal
+-- an entry that falls short
 unfoldable pub shortText : ℕ → ℕ → ℕ → List ℕ
-shortText x i j =
-    labelled (ascii "verdict: node ") x
-    ++ (labelled (ascii " level ") i ++ (ascii " digit " ++ (hexadecimal 1 j ++ ascii " falls short\n")))
+shortText x i j = placeText (ascii "verdict: node ") x i j ++ ascii " falls short\n"
 
 unfoldable pub judgedText : List ℕ → List ℕ
 judgedText w =
     cond (eqb (getD w 1 0) 1) (ascii "verdict: consistent\n") (shortText (getD w 2 0) (getD w 3 0) (getD w 4 0))
+
+abbrev pub additionsText : ℕ → List ℕ
+additionsText n = countText (ascii "fill: ") n (ascii " addition\n") (ascii " additions\n")
 
 abbrev pub pathsText : ℕ → List ℕ
 pathsText paths = countText (ascii "trace: ") paths (ascii " path accepted\n") (ascii " paths accepted\n")
@@ -68,6 +69,7 @@ takenText d file (Deliver x y) w = deliverText w
 takenText d file (Lookup u z failed) w = lookupText w
 takenText d file (Survey failed) w = surveySaid d (drop 1 w)
 takenText d file Verdict w = judgedText w
+takenText d file Fill w = additionsText (getD w 1 0)
 takenText d file (Write version) w = bytesText (ascii "save: ") (getD w 1 0)
 takenText d file Trace w = pathsText (pathCount file)
 takenText d file Sound w = ascii "sound: the state is sound\n"

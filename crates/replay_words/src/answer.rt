@@ -6,7 +6,7 @@ ghost use Rattle.model.specs.Traces.{pathCount};
 ghost use Rattle.putting.specs.Put.{Put};
 ghost use Rattle.replay_calls.specs.Answered.{listed};
 ghost use Rattle.text.specs.Lines.{labelled};
-ghost use Rattle.replay_words.specs.Said.{bytesText, kindText, settledText, deliverText, endText, countText, lookupText, shortText, judgedText, pathsText, takenText, said};
+ghost use Rattle.replay_words.specs.Said.{bytesText, kindText, settledText, deliverText, endText, countText, lookupText, shortText, judgedText, additionsText, pathsText, takenText, said};
 ghost use Rattle.replay_words.specs.Sayable.{Sayable};
 use calls::Call;
 use putting::piece;
@@ -94,11 +94,8 @@ fn short(out: &mut [u8], x: u64, i: u64, j: u64) -> usize
     ensures { λ r. ⌜ Put (now (out .entry)) 0 (shortText x i j) (now (out .exit)) r ⌝ }
     ensures { λ r. ⌜ r ≤ 82 ⌝ }
 {
-    let second = text::labelled(out, 0, b"verdict: node ", x);
-    let third = text::labelled(out, second, b" level ", i);
-    let fourth = piece(out, third, b" digit ");
-    let fifth = text::hex(out, fourth, j % 16, 1);
-    piece(out, fifth, b" falls short\n")
+    let end = replay_entries::place(out, 0, b"verdict: node ", x, i, j);
+    piece(out, end, b" falls short\n")
 }
 
 fn judged(out: &mut [u8], w: Words) -> usize
@@ -138,6 +135,14 @@ fn traced(out: &mut [u8], trace: &[u8]) -> usize
     )
 }
 
+fn filled(out: &mut [u8], n: u64) -> usize
+    requires { ⌜ 37 ≤ length (now out) ⌝ }
+    ensures { λ r. ⌜ Put (now (out .entry)) 0 (additionsText n) (now (out .exit)) r ⌝ }
+    ensures { λ r. ⌜ r ≤ 37 ⌝ }
+{
+    count(out, 0, b"fill: ", n, b" addition\n", b" additions\n")
+}
+
 fn taken(out: &mut [u8], digits: usize, file: &[u8], call: Call, w: Words) -> usize
     requires { ⌜ Sayable digits call (listed w) ⌝ }
     requires { ⌜ w .refusal ≡ 0 ⌝ }
@@ -154,6 +159,7 @@ fn taken(out: &mut [u8], digits: usize, file: &[u8], call: Call, w: Words) -> us
         Call::Lookup(_, _, _) => return looked_up(out, w),
         Call::Survey(_) => return replay_survey::put(out, digits, w.fields),
         Call::Verdict => return judged(out, w),
+        Call::Fill => return filled(out, w.fields[0]),
         Call::Write(_) => return bytes(out, b"save: ", w.fields[0]),
         Call::Trace => return traced(out, file),
         Call::Sound => return piece(out, 0, b"sound: the state is sound\n"),

@@ -8,7 +8,7 @@ use Rattle.script.specs.Words.{isBlank, isSolid, isHash, until, beforeCo
 use Rattle.script.specs.Numbers.{digit, areDigits, valueFrom, isNumber, valueOf, numberOf, hexadecimalOf}
 use Rattle.script.specs.Failed.{addNumber, addWords, failedIn, failedOf}
 use Rattle.script.specs.Commands.{endsWith, ofNode, ofFile, found, begin, deliver, lookup, survey, save, fileOrShown, commandOf}
-use Rattle.script.specs.declared.command.Command.the-variants.{Nothing, Unknown, Call, Save, Trace, Panel, Table}
+use Rattle.script.specs.declared.command.Command.the-variants.{Nothing, Unknown, Call, Fill, Save, Trace, Panel, Table}
 
 unfoldable computing : Unit {0}
 unfolding isBlank isSolid isHash until beforeComment fromWord toBlank fromBlank firstWord behindWord isEmpty wordless sameText starts afterWords behind digit areDigits valueFrom isNumber valueOf numberOf hexadecimalOf hasNode addNode addNumber addWords failedIn failedOf endsWith ofNode ofFile found begin deliver lookup survey save fileOrShown commandOf
@@ -77,6 +77,10 @@ number-of-64-bits = refl
 pub number-of-65-bits : commandOf (ascii "table 18446744073709551616") ≡ Unknown
 unfolding computing
 number-of-65-bits = refl
+
+pub filling : commandOf (ascii "fill # what falls short") ≡ Fill
+unfolding computing
+filling = refl
 
 pub file : commandOf (ascii "save network") ≡ Save 1
 unfolding computing

@@ -14,7 +14,7 @@ use Rattle.script.specs.declared.numbers.Number.the-variants as number
 use Rattle.script.specs.declared.numbers.Id.{Id}
 use Rattle.script.specs.declared.numbers.Id.the-variants as ident
 use Rattle.script.specs.declared.command.Command.{Command}
-use Rattle.script.specs.declared.command.Command.the-variants.{Nothing, Unknown, Call, Save, Load, Trace, Panel}
+use Rattle.script.specs.declared.command.Command.the-variants.{Nothing, Unknown, Call, Fill, Save, Load, Trace, Panel}
 
 -- ---- how a line ends
 
@@ -142,34 +142,39 @@ module _ (line text : List ℕ) (f : Number) (e : text ≡ behind 1 line) (p : f
 -- ---- the name of a command
 
 module _ (line : List ℕ) where
-  module _ (a : Bool) (p : a ≡ named line (ascii "save")) where
-    pub save-named : (x : Command) → a ≡ true → x ≡ save line → x ≡ fileOrShown line
+  module _ (z : Bool) (p₀ : z ≡ named line (ascii "fill")) where
+    pub fill-named : (x : Command) → z ≡ true → x ≡ endsWith 1 line Fill → x ≡ fileOrShown line
     unfolding fileOrShown
-    save-named x h e = rw (sym p ∙ h) e
+    fill-named x h e = rw (sym p₀ ∙ h) e
 
-    module _ (q : a ≡ false) (b : Bool) (p₂ : b ≡ named line (ascii "load")) where
-      pub load-is : (x : Command) → b ≡ true → x ≡ ofFile line Load → x ≡ fileOrShown line
+    module _ (q₀ : z ≡ false) (a : Bool) (p : a ≡ named line (ascii "save")) where
+      pub save-named : (x : Command) → a ≡ true → x ≡ save line → x ≡ fileOrShown line
       unfolding fileOrShown
-      load-is x h e = rw (sym p ∙ q, sym p₂ ∙ h) e
+      save-named x h e = rw (sym p₀ ∙ q₀, sym p ∙ h) e
 
-      module _ (q₂ : b ≡ false) (c : Bool) (p₃ : c ≡ named line (ascii "trace")) where
-        pub trace-is : (x : Command) → c ≡ true → x ≡ ofFile line Trace → x ≡ fileOrShown line
+      module _ (q : a ≡ false) (b : Bool) (p₂ : b ≡ named line (ascii "load")) where
+        pub load-is : (x : Command) → b ≡ true → x ≡ ofFile line Load → x ≡ fileOrShown line
         unfolding fileOrShown
-        trace-is x h e = rw (sym p ∙ q, sym p₂ ∙ q₂, sym p₃ ∙ h) e
+        load-is x h e = rw (sym p₀ ∙ q₀, sym p ∙ q, sym p₂ ∙ h) e
 
-        module _ (q₃ : c ≡ false) (d : Bool) (p₄ : d ≡ named line (ascii "panel")) where
-          pub panel-named : (x : Command) → d ≡ true → x ≡ endsWith 1 line Panel → x ≡ fileOrShown line
+        module _ (q₂ : b ≡ false) (c : Bool) (p₃ : c ≡ named line (ascii "trace")) where
+          pub trace-is : (x : Command) → c ≡ true → x ≡ ofFile line Trace → x ≡ fileOrShown line
           unfolding fileOrShown
-          panel-named x h e = rw (sym p ∙ q, sym p₂ ∙ q₂, sym p₃ ∙ q₃, sym p₄ ∙ h) e
+          trace-is x h e = rw (sym p₀ ∙ q₀, sym p ∙ q, sym p₂ ∙ q₂, sym p₃ ∙ h) e
 
-          module _ (q₄ : d ≡ false) (t : Bool) (p₅ : t ≡ named line (ascii "table")) where
-            pub table-named : (x : Command) → t ≡ true → x ≡ table line → x ≡ fileOrShown line
+          module _ (q₃ : c ≡ false) (d : Bool) (p₄ : d ≡ named line (ascii "panel")) where
+            pub panel-named : (x : Command) → d ≡ true → x ≡ endsWith 1 line Panel → x ≡ fileOrShown line
             unfolding fileOrShown
-            table-named x h e = rw (sym p ∙ q, sym p₂ ∙ q₂, sym p₃ ∙ q₃, sym p₄ ∙ q₄, sym p₅ ∙ h) e
+            panel-named x h e = rw (sym p₀ ∙ q₀, sym p ∙ q, sym p₂ ∙ q₂, sym p₃ ∙ q₃, sym p₄ ∙ h) e
 
-            pub none-named : t ≡ false → Unknown ≡ fileOrShown line
-            unfolding fileOrShown
-            none-named h = rw (sym p ∙ q, sym p₂ ∙ q₂, sym p₃ ∙ q₃, sym p₄ ∙ q₄, sym p₅ ∙ h)
+            module _ (q₄ : d ≡ false) (t : Bool) (p₅ : t ≡ named line (ascii "table")) where
+              pub table-named : (x : Command) → t ≡ true → x ≡ table line → x ≡ fileOrShown line
+              unfolding fileOrShown
+              table-named x h e = rw (sym p₀ ∙ q₀, sym p ∙ q, sym p₂ ∙ q₂, sym p₃ ∙ q₃, sym p₄ ∙ q₄, sym p₅ ∙ h) e
+
+              pub none-named : t ≡ false → Unknown ≡ fileOrShown line
+              unfolding fileOrShown
+              none-named h = rw (sym p₀ ∙ q₀, sym p ∙ q, sym p₂ ∙ q₂, sym p₃ ∙ q₃, sym p₄ ∙ q₄, sym p₅ ∙ h)
 
   module _ (z : Bool) (e₀ : z ≡ ends 0 line) where
     pub nothing-is : z ≡ true → Nothing ≡ commandOf line

@@ -11,7 +11,7 @@ use Rattle.script.specs.declared.numbers.Number.{Number}
 use Rattle.script.specs.declared.numbers.Id.{Id}
 use Rattle.script.specs.declared.numbers.Id.the-variants as ident
 use Rattle.script.specs.declared.command.Command.{Command}
-use Rattle.script.specs.declared.command.Command.the-variants.{Nothing, Unknown, Call, Save, Load, Trace, Panel, Table}
+use Rattle.script.specs.declared.command.Command.the-variants.{Nothing, Unknown, Call, Fill, Save, Load, Trace, Panel, Table}
 
 -- what is made of a number or an id; where there is none, the line is not understood
 
@@ -73,14 +73,15 @@ ofFile line c = cond (ends 1 line) Unknown (endsWith 2 line c)
 unfoldable pub save : List ℕ → Command
 save line = cond (ends 2 line) (ofFile line (Save 1)) (withNumber 2 line (λ version. endsWith 3 line (Save version)))
 
--- the commands that need a file, and those that show records
+-- the commands that are more than a call: filling, which lists, those that need a file, and those that show records
 unfoldable pub fileOrShown : List ℕ → Command
 fileOrShown line =
-    cond (named line (ascii "save")) (save line)
+    cond (named line (ascii "fill")) (endsWith 1 line Fill)
+    (cond (named line (ascii "save")) (save line)
     (cond (named line (ascii "load")) (ofFile line Load)
     (cond (named line (ascii "trace")) (ofFile line Trace)
     (cond (named line (ascii "panel")) (endsWith 1 line Panel)
-    (cond (named line (ascii "table")) (table line) Unknown))))
+    (cond (named line (ascii "table")) (table line) Unknown)))))
 
 -- a line's command, by its first word
 unfoldable pub commandOf : List ℕ → Command

@@ -17,6 +17,8 @@ pub enum Command {
     // not understood
     Unknown,
     Call(Call),
+    // a call that lists what it adds
+    Fill,
     // the version; of this and the next two the file is the line's word 1
     Save(u64),
     Load,
@@ -142,10 +144,13 @@ fn save(line: &[u8]) -> Command
     ends_with(line, 3, Command::Save(version))
 }
 
-// The commands that need a file, and those that show records.
+// The commands that are more than a call: filling, which lists, those that need a file, and those that show records.
 fn file_or_shown(line: &[u8]) -> Command
     ensures { λ r. ⌜ r ≡ fileOrShown (now (line .entry)) ⌝ }
 {
+    if named(line, b"fill") {
+        return ends_with(line, 1, Command::Fill);
+    }
     if named(line, b"save") {
         return save(line);
     }

@@ -133,11 +133,11 @@ returns-8 : tie.Need-returns-8
 unfolding step
 returns-8 c = (search plays, search output)
 
-enum-known-call-7 : tie.Need-enum-known-call-7
-enum-known-call-7 c = search needs
+enum-told-3 : tie.Need-enum-told-3
+enum-told-3 c = search needs
 
-write-requires : tie.Need-write-requires
-write-requires c κs = search needs
+fill-requires : tie.Need-fill-requires
+fill-requires c κs = search needs
 
 same-length-17 : tie.Need-same-length-17
 same-length-17 c = search needs
@@ -152,17 +152,20 @@ returns-9 : tie.Need-returns-9
 unfolding step
 returns-9 c = (search plays, search output)
 
-enum-told-3 : tie.Need-enum-told-3
-enum-told-3 c = search needs
+enum-known-call-7 : tie.Need-enum-known-call-7
+enum-known-call-7 c = search needs
 
-trace-requires : tie.Need-trace-requires
-trace-requires c κs = search needs
+write-requires : tie.Need-write-requires
+write-requires c κs = search needs
 
 same-length-20 : tie.Need-same-length-20
 same-length-20 c = search needs
 
 same-length-21 : tie.Need-same-length-21
 same-length-21 c = search needs
+
+same-length-22 : tie.Need-same-length-22
+same-length-22 c = search needs
 
 returns-10 : tie.Need-returns-10
 unfolding step
@@ -171,18 +174,34 @@ returns-10 c = (search plays, search output)
 enum-told-4 : tie.Need-enum-told-4
 enum-told-4 c = search needs
 
-sound-requires : tie.Need-sound-requires
-sound-requires c κs = search needs
-
-same-length-22 : tie.Need-same-length-22
-same-length-22 c = search needs
+trace-requires : tie.Need-trace-requires
+trace-requires c κs = search needs
 
 same-length-23 : tie.Need-same-length-23
 same-length-23 c = search needs
 
+same-length-24 : tie.Need-same-length-24
+same-length-24 c = search needs
+
 returns-11 : tie.Need-returns-11
 unfolding step
 returns-11 c = (search plays, search output)
+
+enum-told-5 : tie.Need-enum-told-5
+enum-told-5 c = search needs
+
+sound-requires : tie.Need-sound-requires
+sound-requires c κs = search needs
+
+same-length-25 : tie.Need-same-length-25
+same-length-25 c = search needs
+
+same-length-26 : tie.Need-same-length-26
+same-length-26 c = search needs
+
+returns-12 : tie.Need-returns-12
+unfolding step
+returns-12 c = (search plays, search output)
 
 pub play-spec : {M : Type 1} → statement M
 play-spec =
@@ -228,19 +247,25 @@ play-spec =
     same-length-15
     same-length-16
     returns-8
-    enum-known-call-7
-    write-requires
+    enum-told-3
+    fill-requires
     same-length-17
     same-length-18
     same-length-19
     returns-9
-    enum-told-3
-    trace-requires
+    enum-known-call-7
+    write-requires
     same-length-20
     same-length-21
+    same-length-22
     returns-10
     enum-told-4
-    sound-requires
-    same-length-22
+    trace-requires
     same-length-23
-    returns-11)
+    same-length-24
+    returns-11
+    enum-told-5
+    sound-requires
+    same-length-25
+    same-length-26
+    returns-12)

@@ -128,14 +128,11 @@ returns-8 c = (search by-call, omega arith)
 enum-told-8 : tie.Need-enum-told-8
 enum-told-8 c = search needs
 
-slice-aggregate-bytes-2 : tie.Need-slice-aggregate-bytes-2
-slice-aggregate-bytes-2 c = search needs
+element-copy-out-filled : tie.Need-element-copy-out-filled
+element-copy-out-filled c = search needs
 
-element-copy-out-bytes : tie.Need-element-copy-out-bytes
-element-copy-out-bytes c = search needs
-
-bytes-requires-2 : tie.Need-bytes-requires-2
-bytes-requires-2 c κs = search needs
+filled-requires : tie.Need-filled-requires
+filled-requires c κs = search needs
 
 same-length-9 : tie.Need-same-length-9
 same-length-9 c = search needs
@@ -147,8 +144,14 @@ returns-9 c = (search by-call, omega arith)
 enum-told-9 : tie.Need-enum-told-9
 enum-told-9 c = search needs
 
-traced-requires : tie.Need-traced-requires
-traced-requires c κs = search needs
+slice-aggregate-bytes-2 : tie.Need-slice-aggregate-bytes-2
+slice-aggregate-bytes-2 c = search needs
+
+element-copy-out-bytes : tie.Need-element-copy-out-bytes
+element-copy-out-bytes c = search needs
+
+bytes-requires-2 : tie.Need-bytes-requires-2
+bytes-requires-2 c κs = search needs
 
 same-length-10 : tie.Need-same-length-10
 same-length-10 c = search needs
@@ -160,11 +163,8 @@ returns-10 c = (search by-call, omega arith)
 enum-told-10 : tie.Need-enum-told-10
 enum-told-10 c = search needs
 
-slice-aggregate-piece-2 : tie.Need-slice-aggregate-piece-2
-slice-aggregate-piece-2 c = search needs
-
-piece-requires-2 : tie.Need-piece-requires-2
-piece-requires-2 c κs = search needs
+traced-requires : tie.Need-traced-requires
+traced-requires c κs = search needs
 
 same-length-11 : tie.Need-same-length-11
 same-length-11 c = search needs
@@ -172,6 +172,22 @@ same-length-11 c = search needs
 returns-11 : tie.Need-returns-11
 unfolding takenText
 returns-11 c = (search by-call, omega arith)
+
+enum-told-11 : tie.Need-enum-told-11
+enum-told-11 c = search needs
+
+slice-aggregate-piece-2 : tie.Need-slice-aggregate-piece-2
+slice-aggregate-piece-2 c = search needs
+
+piece-requires-2 : tie.Need-piece-requires-2
+piece-requires-2 c κs = search needs
+
+same-length-12 : tie.Need-same-length-12
+same-length-12 c = search needs
+
+returns-12 : tie.Need-returns-12
+unfolding takenText
+returns-12 c = (search by-call, omega arith)
 
 pub taken-spec : {M : Type 1} → statement M
 taken-spec =
@@ -215,17 +231,22 @@ taken-spec =
     same-length-8
     returns-8
     enum-told-8
-    slice-aggregate-bytes-2
-    element-copy-out-bytes
-    bytes-requires-2
+    element-copy-out-filled
+    filled-requires
     same-length-9
     returns-9
     enum-told-9
-    traced-requires
+    slice-aggregate-bytes-2
+    element-copy-out-bytes
+    bytes-requires-2
     same-length-10
     returns-10
     enum-told-10
+    traced-requires
+    same-length-11
+    returns-11
+    enum-told-11
     slice-aggregate-piece-2
     piece-requires-2
-    same-length-11
-    returns-11)
+    same-length-12
+    returns-12)

@@ -1,0 +1,2 @@
+-- What the contracts of a list of additions cite.
+pub mod Listed

@@ -1,0 +1,2 @@
+-- The laws of the program's lines.
+pub mod Texts

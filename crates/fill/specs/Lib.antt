@@ -1,0 +1,2 @@
+-- The fill program's output.
+pub mod Lines

@@ -1,0 +1,2 @@
+-- The laws of entries in words.
+pub mod Texts

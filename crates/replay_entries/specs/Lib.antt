@@ -1,0 +1,2 @@
+-- What the contracts of entries in words cite.
+pub mod EntryText
