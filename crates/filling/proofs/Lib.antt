@@ -1,4 +1,8 @@
 -- Laws of filling, for the functions that fill and measure.
 mod Shorts
-mod Downward
 mod Listing
+mod SetLaws
+mod Lacking
+mod Gathering
+mod Alone
+mod Longest

@@ -9,7 +9,7 @@ use lib.ListN.{length, take, drop, length-append, take-append-drop}
 use lib.Seq.{length-take-le, take-at, drop-at, drop-drop}
 use Rattle.model.specs.Loops.{eachBelow, node}
 use Rattle.model.specs.Memory.{base, digits, depth, nodeCount, tableOf, withTable}
-use Rattle.model.specs.Tables.{entrySize, append}
+use Rattle.model.specs.Tables.{append}
 use Rattle.model.specs.Fill.{Filling, lowestAbsent, shortBy, added, fillOnce, fillEntry, fillLevel, fillNode, filling}
 use Rattle.model.proofs.Loops.{each-step}
 use Rattle.model.proofs.Status.{IsNode}
@@ -48,7 +48,7 @@ module _ (o : List ℕ) (at : ℕ) (step : ℕ → Filling → Filling) where
             ∙ ap (λ (n : ℕ). drop n o) (sym w)
 
     -- what it adds fits; m is n as the code has read it
-    pub listed-fits : ((k : ℕ) (f : Filling) → length (f .list) ≤ length (step k f .list)) → (m n : ℕ) → m ≡ n → k < m → Fits (eachBelow n step f) o at
+    listed-fits : ((k : ℕ) (f : Filling) → length (f .list) ≤ length (step k f .list)) → (m n : ℕ) → m ≡ n → k < m → Fits (eachBelow n step f) o at
         → Fits (step k (sofar t p r)) p r
     listed-fits longer m n e l F = record {
       start = P .within;
@@ -66,7 +66,7 @@ module _ (o : List ℕ) (at : ℕ) (step : ℕ → Filling → Filling) where
     listed-ends m n e l g = subst (λ (n : ℕ). Listed o at (eachBelow n step f) t p r) (le-antisymm l g ∙ e) P
 
 -- what comes of steady tables by additions is steady
-pub still-steady : (s : List ℕ) (f g : Filling) (o : List ℕ) (at : ℕ) (t p : List ℕ) (r : ℕ) → Listed o at g t p r → Fills s f g → Steady s t
+still-steady : (s : List ℕ) (f g : Filling) (o : List ℕ) (at : ℕ) (t p : List ℕ) (r : ℕ) → Listed o at g t p r → Fills s f g → Steady s t
 still-steady s f g o at t p r P F = subst (λ (g : Filling). Steady s (g .tables)) (sym (P .is)) (F .steady)
 
 -- ---- one addition

@@ -11,7 +11,7 @@ use Rattle.model.proofs.Loops.{sum-same}
 use Rattle.model.proofs.Sums.{sum-step}
 use Rattle.model.proofs.Filling.{Steady}
 use Rattle.model.proofs.FillingLength.{shortSum, filling-length}
-use Rattle.consistency.specs.Counted.{EntryCounts, shortOf}
+use Rattle.consistency.specs.Counted.{EntryCounts}
 use Rattle.consistency.proofs.Judged.{judged-short}
 use Rattle.filling.specs.Short.{levelShortOf}
 

@@ -1,57 +1,59 @@
 // The node that an entry is filled with next.
 ghost use mathlib.Core.Path.{_≡_};
 ghost use mathlib.Core.Bool.{not, _&&_};
-ghost use Prim.Native.Nat.{_≤_, _<_, _^_};
-ghost use Rattle.model.specs.Memory.{idOf};
-ghost use Rattle.model.specs.Tables as book;
-ghost use Rattle.model.specs.Fill.{lowestAbsent};
+ghost use Prim.Native.Nat.{ℕ, _≤_};
+ghost use lib.Dec.{eqb};
+ghost use Rattle.model.specs.Memory.{hasNode};
+ghost use Rattle.model.specs.Fill.{lowestAbsent, shortBy};
 ghost use Rattle.model.proofs.Filling.{Steady, EntryOf};
-ghost use Rattle.state.specs.Loaded.{Placed};
-ghost use Rattle.tables.specs.Places.{Entry};
-use ident::qualified;
-use state::record;
+ghost use Rattle.tables.specs.Places.{Entry, Numbers};
+ghost use Rattle.filling.specs.NodeSets.{Qualify, Rest, First};
+use state::sets::remove;
 use state::settings;
-use tables::entry;
 use tables::part;
 
-// Node y qualifies for entry (i, j) of the owner of the table and does not stand in it. Few qualify, so the id is asked first.
-fn is_absent(
-    state: &[u64],
-    table: &[u8],
-    depth: usize,
-    owner: u32,
-    i: usize,
-    j: usize,
-    y: usize,
-) -> bool
-    requires { ⌜ Placed (now state) y ⌝ }
-    requires { ⌜ idOf (now state) y < 2 ^ 32 ⌝ }
-    requires { ⌜ Entry (now table) depth i j ⌝ }
-    ensures { λ r. ⌜ r ≡ (book.qualified owner (idOf (now (state .entry)) y) i j && not (book.holds depth (now (table .entry)) i j y)) ⌝ }
+// The set without the node in a slot, which may be empty.
+fn without(nodes: u64, u: usize) -> u64
+    requires { ⌜ u ≤ 64 ⌝ }
+    ensures { λ r. ⌜ ((y : ℕ) → 1 ≤ y → hasNode r y ≡ (hasNode nodes y && not (eqb u y))) ⌝ }
 {
-    if !qualified(owner, record::id(state, y) as u32, i, j) {
-        return false;
+    if u == 0 {
+        return nodes;
     }
-    !entry::holds(table, depth, i, j, y)
+    remove(nodes, u)
 }
 
-// The lowest-numbered node that qualifies for entry (i, j) of x and is absent from it; a number above the nodes where there is none. The
-// nodes are looked at from 1 on; so many are left.
-pub fn lowest(state: &[u64], tables: &[u8], x: usize, i: usize, j: usize) -> usize
+// The nodes of the set that do not stand in entry (i, j).
+fn absent(table: &[u8], depth: usize, i: usize, j: usize, nodes: u64) -> u64
+    requires { ⌜ Entry (now table) depth i j ⌝ }
+    requires { ⌜ Numbers (now table) depth i j ⌝ }
+    ensures { λ r. ⌜ Rest depth (now (table .entry)) i j nodes r ⌝ }
+{
+    let entry = 64 * i + 4 * j;
+    let mut rest = nodes;
+    let mut k = 0;
+    while k < depth {
+        rest = without(rest, table[entry + k] as usize);
+        k += 1;
+    }
+    rest
+}
+
+// The lowest node of a set; 65 where it has none.
+fn first(nodes: u64) -> usize
+    ensures { λ r. ⌜ First nodes r ⌝ }
+{
+    u64::trailing_zeros(nodes) as usize + 1
+}
+
+// The lowest-numbered node that is absent from entry (i, j) of x, which is short, of those that qualify.
+pub fn lowest(state: &[u64], tables: &[u8], qualified: u64, x: usize, i: usize, j: usize) -> usize
     requires { ⌜ Steady (now state) (now tables) ⌝ }
     requires { ⌜ EntryOf (now state) x i j ⌝ }
+    requires { ⌜ Qualify (now state) x i j qualified ⌝ }
+    requires { ⌜ 1 ≤ shortBy (now state) (now tables) x i j ⌝ }
     ensures { λ r. ⌜ (r ≡ lowestAbsent (now (state .entry)) (now (tables .entry)) x i j) × (r ≤ 65) ⌝ }
 {
-    let s = settings::load(state);
-    let owner = record::id(state, x) as u32;
-    let above = s.nodes + 1;
-    let mut left = s.nodes;
-    while 0 < left {
-        let y = above - left;
-        if is_absent(state, part::lent(tables, x), s.depth, owner, i, j, y) {
-            return y;
-        }
-        left -= 1;
-    }
-    above
+    let depth = settings::load(state).depth;
+    first(absent(part::lent(tables, x), depth, i, j, qualified))
 }

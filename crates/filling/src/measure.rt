@@ -1,11 +1,11 @@
 // How long the list of additions is: four bytes for each node that an entry is short.
 ghost use mathlib.Core.Path.{_≡_};
 ghost use Prim.Native.Nat.{_≤_, _<_};
+ghost use lib.Dec.{ltb};
 ghost use lib.ListN.{length};
 ghost use Rattle.model.specs.Loops.{sumBelow};
 ghost use Rattle.model.specs.Fill.{filling};
 ghost use Rattle.model.proofs.Filling.{Steady};
-ghost use Rattle.consistency.specs.Counted.{shortOf};
 ghost use Rattle.filling.specs.Short.{Shape, levelShortOf};
 use consistency::short;
 use consistency::tally::level_0;
@@ -40,6 +40,9 @@ fn node(table: &[u8], counts: &[u8; 128], digits: usize, base: usize, depth: usi
     total
 }
 
+// No list is longer: each addition becomes a record of the filled tables, which have 5888 at most.
+const LONGEST: usize = 23552;
+
 // How many bytes the list of additions takes.
 pub fn list(state: &[u64], tables: &[u8]) -> usize
     requires { ⌜ Steady (now state) (now tables) ⌝ }
@@ -60,4 +63,15 @@ pub fn list(state: &[u64], tables: &[u8]) -> usize
         k += 1;
     }
     4 * total
+}
+
+// It takes more bytes than there is room for. Where the longest list fits nothing is counted.
+pub fn exceeds(state: &[u64], tables: &[u8], room: usize) -> bool
+    requires { ⌜ Steady (now state) (now tables) ⌝ }
+    ensures { λ r. ⌜ r ≡ ltb room (length (filling (now (state .entry)) (now (tables .entry)) .list)) ⌝ }
+{
+    if LONGEST <= room {
+        return false;
+    }
+    room < list(state, tables)
 }

@@ -15,7 +15,7 @@ pub fn refusal(state: &[u64], tables: &[u8], out: &[u8]) -> u64
     if !sentences::all_in_system(state) {
         return Refusal::JOIN_IN_FLIGHT;
     }
-    if out.len() < filling::measure::list(state, tables) {
+    if filling::measure::exceeds(state, tables, out.len()) {
         return Refusal::SHORT_OUTPUT;
     }
     0

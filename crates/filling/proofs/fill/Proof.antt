@@ -13,20 +13,20 @@ use Rattle.filling.proofs.fill.Statement.{statement}
 use Rattle.filling.proofs.fill.Tie as tie
 
 abbrev Inv-loop : tie.InvT-loop
-Inv-loop state tables₀ out₀ nodes level-0 end₀ k₀ tables out end k =
+Inv-loop state tables₀ out₀ nodes having end₀ k₀ tables out end k =
     (k ≤ nodes)
     × (length tables ≡ length tables₀)
     × (length out ≡ length out₀)
     × Listed out₀ 0 (eachBelow k (node (fillNode state)) (sofar tables₀ out₀ 0)) tables out end
 
 abbrev μ-loop : tie.MeasureT-loop
-μ-loop state tables₀ out₀ nodes level-0 end₀ k₀ tables out end k = nodes - k
+μ-loop state tables₀ out₀ nodes having end₀ k₀ tables out end k = nodes - k
 
 load-requires : tie.Need-load-requires Inv-loop μ-loop
 load-requires c κs = search needs
 
-level-0-requires : tie.Need-level-0-requires Inv-loop μ-loop
-level-0-requires c κs = search readable
+having-requires : tie.Need-having-requires Inv-loop μ-loop
+having-requires c κs = search readable
 
 loop-holds : tie.Need-loop-holds Inv-loop μ-loop
 loop-holds c = (omega arith, refl, refl, listed-none _ _ _ _ (omega arith))
@@ -35,7 +35,20 @@ add-node : tie.Need-add-node Inv-loop μ-loop
 add-node c = omega arith
 
 node-requires : tie.Need-node-requires Inv-loop μ-loop
-node-requires c κs = (search all-steady, (search needs, (search needs, search all-fits)))
+node-requires c κs =
+    let p = c .before .before .before .before .before .before .before .before .before .before .pre in
+    let l = c .before .before .before .before .loop in
+    let n = c .before .before .before .before .before .before .load .ensures .nodes in
+    let test = c .before .before .before .loop-test .taken in (
+      all-steady _ _ _ (l .k) _ _ _ _ (l .inv .3) n test (p .0),
+      (
+        c .before .before .before .before .before .having .ensures,
+        (
+          record { low = omega arith; high = omega arith },
+          all-fits _ _ _ (l .k) _ _ _ _ (l .inv .3) n test (p .1),
+        ),
+      ),
+    )
 
 add-k : tie.Need-add-k Inv-loop μ-loop
 add-k c = omega arith
@@ -62,7 +75,7 @@ fill-spec =
     Inv-loop
     μ-loop
     load-requires
-    level-0-requires
+    having-requires
     loop-holds
     add-node
     node-requires

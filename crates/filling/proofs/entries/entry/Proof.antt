@@ -6,14 +6,14 @@ use lib.ListN.{length}
 use borrow.Author.Needs.{needs}
 use Rattle.model.specs.Loops.{eachBelow}
 use Rattle.model.specs.Fill.{shortBy, fillOnce}
-use Rattle.consistency.proofs.Judged.{judged-short}
 use Rattle.filling.specs.Sofar.{sofar, Listed}
+use Rattle.filling.proofs.Lacking.{slot-gaps, lack-is}
 use Rattle.filling.proofs.Listing.{listed-none, once-steady, once-short, once-fits, once-goes, once-ends}
 use Rattle.filling.proofs.entries.entry.Statement.{statement}
 use Rattle.filling.proofs.entries.entry.Tie as tie
 
 abbrev Inv-loop : tie.InvT-loop
-Inv-loop state tables₀ counts x i j out₀ at depth many end₀ k₀ tables out end k =
+Inv-loop state tables₀ qualified x i j out₀ at depth many end₀ k₀ tables out end k =
     (k ≤ many)
     × (length tables ≡ length tables₀)
     × (length out ≡ length out₀)
@@ -21,7 +21,7 @@ Inv-loop state tables₀ counts x i j out₀ at depth many end₀ k₀ tables ou
     × Listed out₀ at (eachBelow k (fillOnce state x i j) (sofar tables₀ out₀ at)) tables out end
 
 abbrev μ-loop : tie.MeasureT-loop
-μ-loop state tables₀ counts x i j out₀ at depth many end₀ k₀ tables out end k = many - k
+μ-loop state tables₀ qualified x i j out₀ at depth many end₀ k₀ tables out end k = many - k
 
 load-requires : tie.Need-load-requires Inv-loop μ-loop
 load-requires c κs = search needs
@@ -29,21 +29,14 @@ load-requires c κs = search needs
 lent-requires : tie.Need-lent-requires Inv-loop μ-loop
 lent-requires c κs = search needs
 
-by-requires : tie.Need-by-requires Inv-loop μ-loop
-by-requires c κs = search needs
+lack-requires : tie.Need-lack-requires Inv-loop μ-loop
+lack-requires c κs = (search needs, (search slot-gaps, omega arith))
 
 loop-holds : tie.Need-loop-holds Inv-loop μ-loop
-loop-holds c =
-    let p = c .before .before .before .before .before .before .before in (
-      omega arith,
-      refl,
-      refl,
-      search judged-short,
-      listed-none _ _ _ _ (p .pre .1 .1 .1 .start),
-    )
+loop-holds c = (omega arith, refl, refl, search lack-is, search listed-none)
 
 once-requires : tie.Need-once-requires Inv-loop μ-loop
-once-requires c κs = (search once-steady, (search needs, (search once-short, search once-fits)))
+once-requires c κs = (search once-steady, (search needs, (search needs, (search once-short, search once-fits))))
 
 add-k : tie.Need-add-k Inv-loop μ-loop
 add-k c = omega arith
@@ -71,7 +64,7 @@ entry-spec =
     μ-loop
     load-requires
     lent-requires
-    by-requires
+    lack-requires
     loop-holds
     once-requires
     add-k

@@ -7,19 +7,20 @@ use borrow.Author.Needs.{needs}
 use Rattle.model.specs.Loops.{eachBelow}
 use Rattle.model.specs.Fill.{fillEntry, fillLevel}
 use Rattle.filling.specs.Sofar.{sofar, Listed}
+use Rattle.filling.proofs.Gathering.{qualify-of}
 use Rattle.filling.proofs.Listing.{listed-none, listed-goes, listed-ends, level-steady, level-fits}
 use Rattle.filling.proofs.entries.level.Statement.{statement}
 use Rattle.filling.proofs.entries.level.Tie as tie
 
 abbrev Inv-loop : tie.InvT-loop
-Inv-loop state tables₀ counts x i out₀ at base end₀ j₀ tables out end j =
+Inv-loop state tables₀ having sharing x i out₀ at base end₀ j₀ tables out end j =
     (j ≤ base)
     × (length tables ≡ length tables₀)
     × (length out ≡ length out₀)
     × Listed out₀ at (eachBelow j (fillEntry state x i) (sofar tables₀ out₀ at)) tables out end
 
 abbrev μ-loop : tie.MeasureT-loop
-μ-loop state tables₀ counts x i out₀ at base end₀ j₀ tables out end j = base - j
+μ-loop state tables₀ having sharing x i out₀ at base end₀ j₀ tables out end j = base - j
 
 load-requires : tie.Need-load-requires Inv-loop μ-loop
 load-requires c κs = search needs
@@ -27,8 +28,29 @@ load-requires c κs = search needs
 loop-holds : tie.Need-loop-holds Inv-loop μ-loop
 loop-holds c = (omega arith, refl, refl, search listed-none)
 
+mul-qualified : tie.Need-mul-qualified Inv-loop μ-loop
+mul-qualified c = omega arith
+
+add-qualified : tie.Need-add-qualified Inv-loop μ-loop
+add-qualified c = omega arith
+
+mul-qualified-2 : tie.Need-mul-qualified-2 Inv-loop μ-loop
+mul-qualified-2 c = omega arith
+
+element-copy-out-qualified : tie.Need-element-copy-out-qualified Inv-loop μ-loop
+element-copy-out-qualified c = omega arith
+
 entry-requires : tie.Need-entry-requires Inv-loop μ-loop
-entry-requires c κs = (search level-steady, (search needs, (search needs, search level-fits)))
+entry-requires c κs = (
+  search level-steady,
+  (
+    search needs,
+    (
+      (let p = c .before .before .before .before .before .before .before .before .before in qualify-of _ _ _ _ _ (p .pre .1 .1 .0) (p .pre .1 .0) (p .pre .1 .1 .1 .1 .0) _ (p .pre .0) _ _ (c .before .before .before .before .before .load .ensures .base) (c .before .before .before .loop-test .taken)),
+      search level-fits,
+    ),
+  ),
+)
 
 add-j : tie.Need-add-j Inv-loop μ-loop
 add-j c = omega arith
@@ -57,6 +79,10 @@ level-spec =
     μ-loop
     load-requires
     loop-holds
+    mul-qualified
+    add-qualified
+    mul-qualified-2
+    element-copy-out-qualified
     entry-requires
     add-j
     loop-less

@@ -20,8 +20,8 @@ returns-2 : tie.Need-returns-2
 unfolding fillRefusal
 returns-2 c = search (state-later, sentences, comparisons)
 
-list-requires : tie.Need-list-requires
-list-requires c κs =
+exceeds-requires : tie.Need-exceeds-requires
+exceeds-requires c κs =
     state-steady _ _ (c .before .before .before .state-refusal .ensures) (c .before .before .if1 .left) _ (c .before .all-in-system .ensures) (c .if2 .left)
 
 returns-3 : tie.Need-returns-3
@@ -40,6 +40,6 @@ refusal-spec =
     returns
     all-in-system-requires
     returns-2
-    list-requires
+    exceeds-requires
     returns-3
     returns-4)
