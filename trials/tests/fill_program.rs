@@ -22,7 +22,7 @@ use trials::script::Call;
 
 const FILL: ImageProgram = ImageProgram {
     name: "fill",
-    ending: None,
+    ending: "fill",
     lines,
     refused: |_| String::new(),
 };
@@ -98,7 +98,7 @@ fn these_images_print_these_lines() {
 }
 
 #[test]
-fn samples_print_the_same() {
+fn samples_print_what_stands_beside_them() {
     FILL.samples_print_what_stands_beside_them();
 }
 

@@ -17,7 +17,7 @@ use trials::second::{Counts, LOST};
 
 const SURVEY: ImageProgram = ImageProgram {
     name: "survey",
-    ending: Some("survey"),
+    ending: "survey",
     lines,
     refused: |_| String::new(),
 };

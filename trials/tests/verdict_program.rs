@@ -14,7 +14,7 @@ use trials::script::Call;
 
 const VERDICT: ImageProgram = ImageProgram {
     name: "verdict",
-    ending: Some("out"),
+    ending: "out",
     lines,
     refused,
 };

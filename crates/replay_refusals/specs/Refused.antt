@@ -26,7 +26,7 @@ sentenceFrom9 n =
     (cond (eqb n 13) (ascii "no request from the first node to the second is outstanding")
     (cond (eqb n 14) (ascii "the receiver of a wait request is not settled")
     (cond (eqb n 15) (ascii "a node is not settled")
-    (cond (eqb n 16) (ascii "the memory for the image is too short") [])))))))
+    (cond (eqb n 16) (ascii "the memory for the output is too short") [])))))))
 
 -- of an own entry: it has no record, where no place is given, or another node is first there
 unfoldable pub ownEntry : ℕ → List ℕ

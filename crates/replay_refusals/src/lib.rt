@@ -69,7 +69,7 @@ fn from_9(out: &mut [u8], at: usize, number: u64) -> usize
         }
         Refusal::HELD => return piece(out, at, b"the receiver of a wait request is not settled"),
         Refusal::JOIN_IN_FLIGHT => return piece(out, at, b"a node is not settled"),
-        Refusal::SHORT_OUTPUT => return piece(out, at, b"the memory for the image is too short"),
+        Refusal::SHORT_OUTPUT => return piece(out, at, b"the memory for the output is too short"),
         _ => return at,
     }
 }

@@ -29,8 +29,8 @@ const WHOLE: usize = 65_536;
 /// A program, and what it must print.
 pub struct ImageProgram {
     pub name: &'static str,
-    /// What stands behind a sample's name in that of the file with its lines, if there is one.
-    pub ending: Option<&'static str>,
+    /// What stands behind a sample's name in that of the file with its lines.
+    pub ending: &'static str,
     /// The lines after the first, of an image that was read into this memory, or the answer by which the program refuses it still.
     pub lines: fn(&mut Lent) -> Result<String, u64>,
     /// The lines after the first, of an image that is refused with this answer.
@@ -71,10 +71,8 @@ impl ImageProgram {
             let beside = |ending: &str| root().join("samples").join(format!("{name}.{ending}"));
             let image = fs::read(beside("image")).expect(name);
             let printed = self.agree(&image, WHOLE, 0);
-            if let Some(ending) = self.ending {
-                let lines = fs::read_to_string(beside(ending)).expect(name);
-                assert_eq!(printed, lines, "{name}");
-            }
+            let lines = fs::read_to_string(beside(self.ending)).expect(name);
+            assert_eq!(printed, lines, "{name}");
         }
     }
 
