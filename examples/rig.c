@@ -1,7 +1,8 @@
 /* A small rig: founds a network, lets seven nodes join it at the same time, is switched off and on with those joins under way, delivers until all are in
  * system, withdraws the join of one more that began by the wrong gateway and begins it again, says what each join cost, looks nodes up, asks for the verdict
  * and the hop survey, does both once more around a node that has failed, has the trace of a router of its own checked, saves the network as an image and reads
- * it into other memory, after a look whether that holds a network already. README.md has the line that builds it; examples/rig.out is what it prints. */
+ * it into other memory, after a look whether that holds a network already; there a node forgets another, and the tables are filled. README.md has the line
+ * that builds it; examples/rig.out is what it prints. */
 #include <stdio.h>
 #include <stdlib.h>
 #include <string.h>
@@ -37,7 +38,7 @@ static const char *const refusals[] = {
     [OVERLAY_NOT_OUTSTANDING] = "nothing is outstanding",
     [OVERLAY_HELD] = "the request is held",
     [OVERLAY_JOIN_IN_FLIGHT] = "a join is in flight",
-    [OVERLAY_SHORT_OUTPUT] = "the memory for the image is too short",
+    [OVERLAY_SHORT_OUTPUT] = "the output is too short",
     [OVERLAY_RECORD_NEIGHBOR] = "a record's neighbour may not stand there",
     [OVERLAY_OWN_ENTRY] = "an own entry is absent or another's",
     [OVERLAY_NOT_HIGHEST] = "the node is not the highest-numbered",
@@ -256,6 +257,24 @@ static void switch_off_and_on(struct network *network)
     printf("switched off and on: %s\n", memcmp(network, &before, sizeof before) == 0 ? "the same state" : "another state");
 }
 
+/* A node forgets the last node of its first entry that has two, as a damaged table does; then the tables are filled. */
+static void forget_and_fill(struct network *network, unsigned node)
+{
+    static uint8_t list[OVERLAY_MOST_ADDED_BYTES];
+    uint8_t *table = network->tables + 512 * (node - 1);
+    unsigned place = 1;
+    while (table[place] == 0)
+        place += 4;
+    printf("node %u forgets node %u\n", node, table[place]);
+    table[place] = 0;
+    print_verdict(network);
+    print_refusal("filled with no memory for the list", overlay_fill(LENT(network), NULL, 0));
+    uint32_t additions = overlay_additions(taken("fill", overlay_fill(LENT(network), list, sizeof list)));
+    for (uint32_t i = 0; i < additions; i++)
+        printf("filled: node %u, level %u, digit %u gains node %u\n", list[4 * i], list[4 * i + 1], list[4 * i + 2], list[4 * i + 3]);
+    print_verdict(network);
+}
+
 /* Exchanges a record of an image with the next. */
 static void exchange(uint8_t *record)
 {
@@ -308,5 +327,6 @@ int main(void)
     trace_router(&first, nodes);
     save_and_read(&first, &second, nodes);
     print_verdict(&second);
+    forget_and_fill(&second, 3);
     return 0;
 }

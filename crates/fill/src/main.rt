@@ -11,6 +11,17 @@ use libc::STDOUT_FILENO;
 use state::lent::STATE_LENGTH;
 use state::lent::TABLES_LENGTH;
 
+// Writes the bytes to a file of this name, which is made or emptied first, and answers whether that went well.
+fn keep(path: &[u8], image: &[u8]) -> bool {
+    let fd = os::open_overwrite(path);
+    if fd < 0 {
+        return false;
+    }
+    let is_written = io::write_all(fd, image);
+    libc::close(fd);
+    is_written
+}
+
 // Writes the image of this version to the file that the argument names.
 fn save(state: &[u64], tables: &[u8], version: u64) {
     let mut path = [0u8; 4096];
@@ -18,7 +29,7 @@ fn save(state: &[u64], tables: &[u8], version: u64) {
     let mut image = [0u8; 25226];
     let written = engine::writing::write(state, tables, version, &mut image);
     let length = written.bytes as usize;
-    if !image_program::keep(&path[..n], &image[..length]) {
+    if !keep(&path[..n], &image[..length]) {
         io::write_all(STDOUT_FILENO, b"the file cannot be written\n");
     }
 }

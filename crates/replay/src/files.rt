@@ -3,9 +3,19 @@ ghost use Rattle.state.specs.Lent.{memory};
 ghost use Rattle.replay.specs.Script.{Saved, FilePlayed, Loaded, Traced};
 use crate::said::played;
 use calls::Call;
-use image_program::keep;
 use libc::STDOUT_FILENO;
 use script::words::part;
+
+// Writes the bytes to a file of this name, which is made or emptied first, and answers whether that went well.
+fn keep(path: &[u8], image: &[u8]) -> bool {
+    let fd = os::open_overwrite(path);
+    if fd < 0 {
+        return false;
+    }
+    let is_written = io::write_all(fd, image);
+    libc::close(fd);
+    is_written
+}
 
 pub fn save(state: &mut [u64], tables: &mut [u8], path: &[u8], version: u64)
     ensures { λ r. ⌜ Saved version (memory (now (state .entry)) (now (tables .entry))) (memory (now (state .exit)) (now (tables .exit))) ⌝ }
