@@ -1,3 +1,6 @@
--- Laws that the proofs of the check of K-consistency cite.
-mod Passed
-pub mod Judged
+-- Laws that the proofs of the check of K-consistency, and of filling, cite.
+mod SetLaws
+pub mod Gathering
+pub mod Lacking
+pub mod Alone
+mod Judged

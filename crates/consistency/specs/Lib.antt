@@ -1,3 +1,3 @@
 -- What the contracts of the check of K-consistency cite.
 pub mod Answer
-pub mod Counted
+pub mod NodeSets

@@ -2,7 +2,5 @@
 mod Shorts
 mod Listing
 mod SetLaws
-mod Lacking
-mod Gathering
+mod LowestAbsent
 mod Alone
-mod Longest

@@ -1,17 +1,13 @@
--- What the entries of a table T are short of the counts C, by the settings b and K alone.
-use Prim.Native.Nat.{ℕ, _≤_}
+-- How many nodes the entries of node x are short.
+use Prim.Native.Nat.{ℕ}
 use mathlib.Core.List.{List}
-use lib.ListN.{length}
 use Rattle.model.specs.Loops.{sumBelow}
-use Rattle.consistency.specs.Counted.{shortOf}
+use Rattle.model.specs.Memory.{base, digits}
+use Rattle.model.specs.Fill.{shortBy}
 
--- the entries of level i together
-unfoldable pub levelShortOf : ℕ → ℕ → List ℕ → List ℕ → ℕ → ℕ
-levelShortOf b K T C i = sumBelow b (shortOf K T C i)
+-- those of level i together
+abbrev pub levelShortBy : List ℕ → List ℕ → ℕ → ℕ → ℕ
+levelShortBy s t x i = sumBelow (base s) (shortBy s t x i)
 
--- a table and settings that can be
-pub record Shape (T : List ℕ) (d b K : ℕ) : Type 0 where
-  pub long : 512 ≤ length T
-  pub digits : d ≤ 8
-  pub base : b ≤ 16
-  pub depth : K ≤ 4
+abbrev pub nodeShortBy : List ℕ → List ℕ → ℕ → ℕ
+nodeShortBy s t x = sumBelow (digits s) (levelShortBy s t x)

@@ -4,19 +4,18 @@ ghost use Rattle.model.specs.Memory as memory;
 ghost use Rattle.model.specs.Fill.{lowestAbsent, shortBy, added, fillEntry, fillLevel, fillNode};
 ghost use Rattle.model.proofs.Status.{IsNode};
 ghost use Rattle.model.proofs.Filling.{Steady, EntryOf};
-ghost use Rattle.filling.specs.NodeSets.{Having, Sharing, Qualify};
+ghost use Rattle.consistency.specs.NodeSets.{Having, Sharing, Qualify};
 ghost use Rattle.filling.specs.Sofar.{sofar, Fits, Listed};
-use crate::lack::lack;
 use crate::lowest::lowest;
+use consistency::having::ALL;
+use consistency::having::among;
+use consistency::lack::lack;
 use ident::digit;
 use state::record;
 use state::sets::EMPTY;
 use state::sets::add;
 use state::settings;
 use tables::part;
-
-// The set that has every node.
-const ALL: u64 = 18446744073709551615;
 
 // One addition to entry (i, j) of x, which is short, of those that qualify.
 fn once(
@@ -92,7 +91,7 @@ fn level(
     let mut end = at;
     let mut j = 0;
     while j < base {
-        let qualified = sharing & having[16 * i + j];
+        let qualified = among(having, sharing, i, j);
         end = entry(state, tables, qualified, x, i, j, out, end);
         j += 1;
     }
@@ -122,7 +121,7 @@ pub fn node(
     let mut i = 0;
     while i < digits {
         end = level(state, tables, having, sharing, x, i, out, end);
-        sharing &= having[16 * i + digit(id, i)];
+        sharing = among(having, sharing, i, digit(id, i));
         if sharing == alone {
             return end;
         }

@@ -11,11 +11,11 @@ use Rattle.consistency.proofs.whole_nodes.Statement.{statement}
 use Rattle.consistency.proofs.whole_nodes.Tie as tie
 
 abbrev Inv-loop : tie.InvT-loop
-Inv-loop state tables level-0 s k₀ k =
+Inv-loop state tables having s k₀ k =
     (k ≤ nodeCount state) × (k ≤ firstBelow (nodeCount state) (node (nodeShort state tables)))
 
 abbrev μ-loop : tie.MeasureT-loop
-μ-loop state tables level-0 s k₀ k = nodeCount state - k
+μ-loop state tables having s k₀ k = nodeCount state - k
 
 load-requires : tie.Need-load-requires Inv-loop μ-loop
 load-requires c κs = search needs

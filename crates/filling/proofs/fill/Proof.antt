@@ -6,21 +6,21 @@ use lib.ListN.{length}
 use borrow.Author.Needs.{needs}
 use Rattle.model.specs.Loops.{eachBelow, node}
 use Rattle.model.specs.Fill.{fillNode}
-use Rattle.consistency.proofs.Judged.{readable}
+use Rattle.consistency.proofs.Gathering.{readable}
 use Rattle.filling.specs.Sofar.{sofar, Listed}
 use Rattle.filling.proofs.Listing.{listed-none, listed-goes, all-steady, all-fits, all-tables, all-list, all-length}
 use Rattle.filling.proofs.fill.Statement.{statement}
 use Rattle.filling.proofs.fill.Tie as tie
 
 abbrev Inv-loop : tie.InvT-loop
-Inv-loop state tables₀ out₀ nodes having end₀ k₀ tables out end k =
+Inv-loop state tables₀ out₀ nodes sets end₀ k₀ tables out end k =
     (k ≤ nodes)
     × (length tables ≡ length tables₀)
     × (length out ≡ length out₀)
     × Listed out₀ 0 (eachBelow k (node (fillNode state)) (sofar tables₀ out₀ 0)) tables out end
 
 abbrev μ-loop : tie.MeasureT-loop
-μ-loop state tables₀ out₀ nodes having end₀ k₀ tables out end k = nodes - k
+μ-loop state tables₀ out₀ nodes sets end₀ k₀ tables out end k = nodes - k
 
 load-requires : tie.Need-load-requires Inv-loop μ-loop
 load-requires c κs = search needs

@@ -30,8 +30,7 @@ returns : tie.Need-returns
 returns c =
     let fill = c .before .before .before .before .before .before .before .before .fill in
     let room = c .before .before .before .before .before .before .before .before .before .before .before .blank in
-    let put = c .before .before .filled in
-    (
+    let put = c .before .before .filled in (
       filled-put _ _ _ _ _ _ (room .ensures .0) (fill .ensures) _ _ _ (put .ensures .0),
       (filled-memory _ _ _ _ _ _ (room .ensures .0) (fill .ensures), (filled-number _ _ _ _ _ _ (room .ensures .0) (fill .ensures), omega arith)),
     )

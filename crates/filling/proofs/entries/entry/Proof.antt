@@ -7,7 +7,7 @@ use borrow.Author.Needs.{needs}
 use Rattle.model.specs.Loops.{eachBelow}
 use Rattle.model.specs.Fill.{shortBy, fillOnce}
 use Rattle.filling.specs.Sofar.{sofar, Listed}
-use Rattle.filling.proofs.Lacking.{slot-gaps, lack-is}
+use Rattle.consistency.proofs.Lacking.{slot-gaps, lack-is}
 use Rattle.filling.proofs.Listing.{listed-none, once-steady, once-short, once-fits, once-goes, once-ends}
 use Rattle.filling.proofs.entries.entry.Statement.{statement}
 use Rattle.filling.proofs.entries.entry.Tie as tie

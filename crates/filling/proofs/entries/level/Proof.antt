@@ -7,7 +7,7 @@ use borrow.Author.Needs.{needs}
 use Rattle.model.specs.Loops.{eachBelow}
 use Rattle.model.specs.Fill.{fillEntry, fillLevel}
 use Rattle.filling.specs.Sofar.{sofar, Listed}
-use Rattle.filling.proofs.Gathering.{qualify-of}
+use Rattle.consistency.proofs.Gathering.{qualify-of}
 use Rattle.filling.proofs.Listing.{listed-none, listed-goes, listed-ends, level-steady, level-fits}
 use Rattle.filling.proofs.entries.level.Statement.{statement}
 use Rattle.filling.proofs.entries.level.Tie as tie
@@ -28,17 +28,8 @@ load-requires c κs = search needs
 loop-holds : tie.Need-loop-holds Inv-loop μ-loop
 loop-holds c = (omega arith, refl, refl, search listed-none)
 
-mul-qualified : tie.Need-mul-qualified Inv-loop μ-loop
-mul-qualified c = omega arith
-
-add-qualified : tie.Need-add-qualified Inv-loop μ-loop
-add-qualified c = omega arith
-
-mul-qualified-2 : tie.Need-mul-qualified-2 Inv-loop μ-loop
-mul-qualified-2 c = omega arith
-
-element-copy-out-qualified : tie.Need-element-copy-out-qualified Inv-loop μ-loop
-element-copy-out-qualified c = omega arith
+among-requires : tie.Need-among-requires Inv-loop μ-loop
+among-requires c κs = search needs
 
 entry-requires : tie.Need-entry-requires Inv-loop μ-loop
 entry-requires c κs = (
@@ -46,7 +37,7 @@ entry-requires c κs = (
   (
     search needs,
     (
-      (let p = c .before .before .before .before .before .before .before .before .before in qualify-of _ _ _ _ _ (p .pre .1 .1 .0) (p .pre .1 .0) (p .pre .1 .1 .1 .1 .0) _ (p .pre .0) _ _ (c .before .before .before .before .before .load .ensures .base) (c .before .before .before .loop-test .taken)),
+      (let p = c .before .before .before .before .before .before .before .before .before in qualify-of _ _ _ _ _ (p .pre .1 .1 .0) (p .pre .1 .0) (p .pre .1 .1 .1 .1 .0) _ (p .pre .0 .sound) _ _ _ (c .before .before .before .before .before .load .ensures .base) (c .before .before .before .loop-test .taken) (c .before .before .among .ensures)),
       search level-fits,
     ),
   ),
@@ -79,10 +70,7 @@ level-spec =
     μ-loop
     load-requires
     loop-holds
-    mul-qualified
-    add-qualified
-    mul-qualified-2
-    element-copy-out-qualified
+    among-requires
     entry-requires
     add-j
     loop-less

@@ -7,9 +7,9 @@ use borrow.Author.Needs.{needs}
 use Rattle.model.specs.Loops.{eachBelow}
 use Rattle.model.specs.Fill.{fillLevel, fillNode}
 use Rattle.model.proofs.Sound.{id-fits}
-use Rattle.filling.specs.NodeSets.{Sharing}
+use Rattle.consistency.specs.NodeSets.{Sharing}
 use Rattle.filling.specs.Sofar.{sofar, Listed}
-use Rattle.filling.proofs.Gathering.{sharing-start, sharing-goes}
+use Rattle.consistency.proofs.Gathering.{sharing-start, sharing-goes}
 use Rattle.filling.proofs.Alone.{node-alone}
 use Rattle.filling.proofs.Listing.{listed-none, listed-goes, listed-ends, node-steady, node-fits}
 use Rattle.filling.proofs.entries.node.Statement.{statement}
@@ -44,20 +44,11 @@ loop-holds c = (omega arith, refl, refl, search sharing-start, search listed-non
 level-requires : tie.Need-level-requires Inv-loop μ-loop
 level-requires c κs = (search node-steady, (search needs, (search needs, (search needs, (omega arith, search node-fits)))))
 
-mul-sharing : tie.Need-mul-sharing Inv-loop μ-loop
-mul-sharing c = omega arith
-
 digit-requires : tie.Need-digit-requires Inv-loop μ-loop
 digit-requires c κs = search needs
 
-add-sharing : tie.Need-add-sharing Inv-loop μ-loop
-add-sharing c = omega arith
-
-mul-sharing-2 : tie.Need-mul-sharing-2 Inv-loop μ-loop
-mul-sharing-2 c = omega arith
-
-element-copy-out-sharing : tie.Need-element-copy-out-sharing Inv-loop μ-loop
-element-copy-out-sharing c = omega arith
+among-requires : tie.Need-among-requires Inv-loop μ-loop
+among-requires c κs = search needs
 
 same-length : tie.Need-same-length Inv-loop μ-loop
 same-length c = omega arith
@@ -69,7 +60,7 @@ returns : tie.Need-returns Inv-loop μ-loop
 returns c =
     let p = c .before .before .before .before .before .before .before .before .before .before .before .before .before .before .before .before .before .before in
     let l = c .before .before .before .before .before .before .before .before .before .before .before .loop in
-    node-alone _ _ (p .pre .1 .1 .0) (l .i) _ (sharing-goes _ _ _ _ _ (l .inv .3) (p .pre .1 .0) (omega arith) _ _ (c .before .before .before .before .before .before .before .before .before .before .before .before .before .id .ensures) (c .before .before .digit .ensures .0)) (c .if1 .taken ∙ c .before .before .before .before .before .before .before .before .before .before .before .before .add .ensures) _ (p .pre .0) (omega arith) _ _ _ _ _
+    node-alone _ _ (p .pre .1 .1 .0) (l .i) _ (sharing-goes _ _ _ _ _ (l .inv .3) (p .pre .1 .0) (omega arith) _ _ _ (c .before .before .before .before .before .before .before .before .before .before .before .before .before .id .ensures) (c .before .before .digit .ensures .0) (c .before .among .ensures)) (c .if1 .taken ∙ c .before .before .before .before .before .before .before .before .before .before .before .before .add .ensures) _ (p .pre .0) (omega arith) _ _ _ _ _
     (listed-goes _ _ (fillLevel (p .args .state .now) (p .args .x)) _ (l .i) _ _ _ (l .inv .4) _ _ _ (c .before .before .before .before .before .before .before .level .ensures))
 
 add-i : tie.Need-add-i Inv-loop μ-loop
@@ -83,7 +74,7 @@ loop-again c = (
   omega arith,
   omega arith,
   omega arith,
-  (let p = c .before .before .before .before .before .before .before .before .before .before .before .before .before .before .before .before .before .before in let l = c .before .before .before .before .before .before .before .before .before .before .before .loop in sharing-goes _ _ _ _ _ (l .inv .3) (p .pre .1 .0) (omega arith) _ _ (c .before .before .before .before .before .before .before .before .before .before .before .before .before .id .ensures) (c .before .before .digit .ensures .0)),
+  (let p = c .before .before .before .before .before .before .before .before .before .before .before .before .before .before .before .before .before .before in let l = c .before .before .before .before .before .before .before .before .before .before .before .loop in sharing-goes _ _ _ _ _ (l .inv .3) (p .pre .1 .0) (omega arith) _ _ _ (c .before .before .before .before .before .before .before .before .before .before .before .before .before .id .ensures) (c .before .before .digit .ensures .0) (c .before .among .ensures)),
   search listed-goes,
 )
 
@@ -109,11 +100,8 @@ node-spec =
     add-requires
     loop-holds
     level-requires
-    mul-sharing
     digit-requires
-    add-sharing
-    mul-sharing-2
-    element-copy-out-sharing
+    among-requires
     same-length
     same-length-2
     returns

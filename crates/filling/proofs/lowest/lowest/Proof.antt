@@ -1,7 +1,7 @@
 -- `lowest::lowest`: the lowest of those that qualify without those that the entry holds. Assumes nothing.
 use native.Mathlib.Omega.{arith}
 use borrow.Author.Needs.{needs}
-use Rattle.filling.proofs.Lacking.{slot-numbers, lowest-is}
+use Rattle.filling.proofs.LowestAbsent.{slot-numbers, lowest-is}
 use Rattle.filling.proofs.lowest.lowest.Statement.{statement}
 use Rattle.filling.proofs.lowest.lowest.Tie as tie
 

@@ -2,7 +2,7 @@
 use mathlib.Core.Path.{ap}
 use lib.Dec.{ltb}
 use borrow.Author.Needs.{needs}
-use Rattle.filling.proofs.Longest.{never-exceeds}
+use Rattle.filling.proofs.Shorts.{never-exceeds}
 use Rattle.filling.proofs.measure.exceeds.Statement.{statement}
 use Rattle.filling.proofs.measure.exceeds.Tie as tie
 

@@ -23,10 +23,9 @@ use Rattle.model.proofs.Nodes.{nodes-at}
 use Rattle.model.proofs.Ids.{digit-lt, low-zero, low-join, low-digit, low-rest}
 use Rattle.model.proofs.Sets.{has-none, has-added, has-add-other}
 use Rattle.model.proofs.Status.{IsNode}
-use Rattle.model.proofs.Filling.{Steady}
-use Rattle.consistency.specs.Counted.{place}
-use Rattle.filling.specs.NodeSets.{noteAt, Having, Sharing, Qualify}
-use Rattle.filling.proofs.SetLaws.{has-both}
+use Rattle.model.proofs.Sound.{Sound, id-fits}
+use Rattle.consistency.specs.NodeSets.{IdsReadable, place, noteAt, Having, Sharing, Qualify}
+use Rattle.consistency.proofs.SetLaws.{has-both}
 
 -- ---- one node
 
@@ -80,6 +79,9 @@ note-step X id y i g v e q = ap (set X (place i g)) q ∙ ap (λ (g : ℕ). set 
 
 -- ---- node by node
 
+pub readable : (s t : List ℕ) → Sound s t → IdsReadable s
+readable s t S = record { long = S .long .state; few = S .few; digits = S .settings .digits-most; ids = id-fits s t S }
+
 pub having-start : (s : List ℕ) → digits s ≤ 8 → Having s 0 (replicate 128 0)
 having-start s few = record {
   long = refl;
@@ -131,29 +133,29 @@ everyone : allBelow 64 (node (hasNode 18446744073709551615)) ≡ true
 unfolding allBelow hasNode
 everyone = refl
 
-module _ (s : List ℕ) (x : ℕ) where
-  -- with no digits everyone does
-  pub sharing-start : (t : List ℕ) → Steady s t → Sharing s x 0 18446744073709551615
-  sharing-start t w = record {
-    is = λ y n.
-        nodes-at 64 (hasNode 18446744073709551615) everyone y (n .low) (omega (arith, n .high, w .sound .few))
-        ∙ sym (eq-eqb _ _ (low-zero (idOf s y) ∙ sym (low-zero (idOf s x))));
-  }
+-- with no digits everyone does
+pub sharing-start : (s : List ℕ) (x : ℕ) → nodeCount s ≤ 64 → Sharing s x 0 18446744073709551615
+sharing-start s x few = record {
+  is = λ y n.
+      nodes-at 64 (hasNode 18446744073709551615) everyone y (n .low) (omega (arith, n .high, few))
+      ∙ sym (eq-eqb _ _ (low-zero (idOf s y) ∙ sym (low-zero (idOf s x))));
+}
 
 module _ (s : List ℕ) (x i S : ℕ) (H : List ℕ) (sh : Sharing s x i S) (w : Having s (nodeCount s) H) (hi : i < digits s) where
   both : (j y : ℕ) → j < 16 → IsNode s y
       → hasNode (bitAnd S (getD H (place i j) 0)) y ≡ (eqb (lowDigits (idOf s y) i) (lowDigits (idOf s x) i) && eqb (digitOf (idOf s y) i) j)
   both j y hj n = has-both S (getD H (place i j) 0) y ∙ ap₂ _&&_ (sh .is y n) (w .is i j y hi hj (n .low) (n .high))
 
-  pub qualify-of : (t : List ℕ) → Steady s t → (b j : ℕ) → b ≡ base s → j < b → Qualify s x i j (bitAnd S (getD H (place i j) 0))
+  pub qualify-of : (t : List ℕ) → Sound s t → (b j Q : ℕ) → b ≡ base s → j < b → Q ≡ bitAnd S (getD H (place i j) 0) → Qualify s x i j Q
   unfolding qualified
-  qualify-of t v b j e l =
-      let hj : j < 16 = omega (arith, v .sound .settings .base-most) in
-      record {
+  qualify-of t v b j Q e l q =
+      let hj : j < 16 = omega (arith, v .settings .base-most) in
+      subst (Qualify s x i j) (sym q)
+      (record {
         is = λ y n. both j y hj n;
         none = λ y low high.
             has-both S (getD H (place i j) 0) y ∙ ap (λ (b : Bool). hasNode S y && b) (w .none i j y hi hj low high) ∙ and-false (hasNode S y);
-      }
+      })
 
   -- one digit more
   longer : (y z : ℕ) → (eqb (lowDigits y i) (lowDigits z i) && eqb (digitOf y i) (digitOf z i)) ≡ eqb (lowDigits y (i + 1)) (lowDigits z (i + 1))
@@ -167,10 +169,14 @@ module _ (s : List ℕ) (x i S : ℕ) (H : List ℕ) (sh : Sharing s x i S) (w :
       let q : lowDigits y (suc i) ≡ lowDigits z (suc i) = eqb-true _ _ h in
       and-intro low digit (eq-eqb _ _ (low-rest y z i q)) (eq-eqb _ _ (low-digit y z i q))))
 
-  pub sharing-goes : (id v : ℕ) → id ≡ idOf s x → v ≡ digitOf id i → Sharing s x (i + 1) (bitAnd S (getD H (place i v) 0))
-  sharing-goes id v p q = let e = q ∙ ap (λ (id : ℕ). digitOf id i) p in record {
+  pub sharing-goes : (id v r : ℕ) → id ≡ idOf s x → v ≡ digitOf id i → r ≡ bitAnd S (getD H (place i v) 0) → Sharing s x (i + 1) r
+  sharing-goes id v r p q f = let e = q ∙ ap (λ (id : ℕ). digitOf id i) p in record {
     is = λ y n.
-        both v y (omega (arith, digit-lt (idOf s x) i)) n
+        ap (λ (r : ℕ). hasNode r y) f
+        ∙ both v y (omega (arith, digit-lt (idOf s x) i)) n
         ∙ ap (λ (v : ℕ). eqb (lowDigits (idOf s y) i) (lowDigits (idOf s x) i) && eqb (digitOf (idOf s y) i) v) e
         ∙ longer (idOf s y) (idOf s x);
   }
+
+pub sharing-ends : (s : List ℕ) (x k i S : ℕ) → Sharing s x k S → k ≤ i → i ≤ k → Sharing s x i S
+sharing-ends s x k i S w l g = subst (λ (k : ℕ). Sharing s x k S) (le-antisymm l g) w

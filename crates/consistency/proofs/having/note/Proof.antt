@@ -5,10 +5,10 @@ use native.Mathlib.Omega.{arith}
 use borrow.Author.Needs.{needs}
 use Rattle.model.specs.Loops.{eachBelow}
 use Rattle.model.proofs.Loops.{each-loop}
-use Rattle.filling.specs.NodeSets.{noteAt}
-use Rattle.filling.proofs.Gathering.{note-step}
-use Rattle.filling.proofs.having.note.Statement.{statement}
-use Rattle.filling.proofs.having.note.Tie as tie
+use Rattle.consistency.specs.NodeSets.{noteAt}
+use Rattle.consistency.proofs.Gathering.{note-step}
+use Rattle.consistency.proofs.having.note.Statement.{statement}
+use Rattle.consistency.proofs.having.note.Tie as tie
 
 abbrev Inv-loop : tie.InvT-loop
 Inv-loop sets₀ digits id y i₀ sets i = (i ≤ digits) × (sets ≡ eachBelow i (noteAt id y) sets₀)

@@ -1,9 +1,9 @@
 -- `lack::lack`: one slot tells that nothing is lacking, or how much it is. Assumes nothing.
 use native.Mathlib.Omega.{arith}
 use borrow.Author.Needs.{needs}
-use Rattle.filling.proofs.Lacking.{lack-none, most-some, lack-full, lack-whole, lack-within}
-use Rattle.filling.proofs.lack.lack.Statement.{statement}
-use Rattle.filling.proofs.lack.lack.Tie as tie
+use Rattle.consistency.proofs.Lacking.{lack-none, most-some, lack-full, lack-whole, lack-within}
+use Rattle.consistency.proofs.lack.lack.Statement.{statement}
+use Rattle.consistency.proofs.lack.lack.Tie as tie
 
 mul-start : tie.Need-mul-start
 mul-start c = search needs

@@ -2,10 +2,10 @@
 use Prim.Native.Nat.{_+_, _≤_, _-_}
 use native.Mathlib.Omega.{arith}
 use borrow.Author.Needs.{needs}
-use Rattle.filling.specs.NodeSets.{Having}
-use Rattle.filling.proofs.Gathering.{having-start, having-goes, having-ends}
-use Rattle.filling.proofs.having.having.Statement.{statement}
-use Rattle.filling.proofs.having.having.Tie as tie
+use Rattle.consistency.specs.NodeSets.{Having}
+use Rattle.consistency.proofs.Gathering.{having-start, having-goes, having-ends}
+use Rattle.consistency.proofs.having.having.Statement.{statement}
+use Rattle.consistency.proofs.having.having.Tie as tie
 
 abbrev Inv-loop : tie.InvT-loop
 Inv-loop state s sets₀ k₀ sets k = (k ≤ s .nodes) × Having state k sets
