@@ -97,7 +97,7 @@ uint64_t overlay_read(uint64_t *state, size_t state_len, uint8_t *tables, size_t
 /* Adds a node that is to join by the gateway: it gets the next number and its first request goes to the gateway. Answers the new node,
  * by overlay_new_node. Where the network passes the verdict and one node joins by itself, it settles after at most as many deliveries as an id has digits and
  * there were nodes before it, together, and the verdict passes again. Nodes that join at the same time settle too, if their requests are delivered, but the
- * verdict may be no then: overlay_verdict says. Refusals 1, 2, 7, 8, 9, 11, 12. */
+ * verdict may be no then: overlay_verdict says, and overlay_fill makes it a yes once all have settled. Refusals 1, 2, 7, 8, 9, 11, 12. */
 uint64_t overlay_begin(uint64_t *state, size_t state_len, uint8_t *tables, size_t tables_len,
                        uint32_t id, uint64_t gateway);
 

@@ -11,7 +11,7 @@ use Rattle.state.specs.Lent.{memory}
 use Rattle.text.specs.Ascii.{ascii}
 use Rattle.text.specs.Lines.{labelled, line}
 use Rattle.additions.specs.Listed.{blank}
-use Rattle.image_program.specs.Printed.{lineOne, answerText, imageText}
+use Rattle.image_program.specs.Printed.{answerText, refusedLine, imageText}
 
 -- `record` and its numbers: node, level, digit and neighbour
 unfoldable pub recordLine : ℕ → ℕ → ℕ → ℕ → List ℕ
@@ -36,13 +36,9 @@ fillsTo m = fillCall m blank
 abbrev pub fillOf : Memory → List ℕ
 fillOf m = fillText (fillsTo m .answer) (fillsTo m .out)
 
--- a refused reading's answer as text: line one alone
-abbrev pub refusedLines : List ℕ → List ℕ
-refusedLines answer = lineOne (getD answer 0 0)
-
 -- the output for an image that is read into this memory
 abbrev pub fillLines : List ℕ → List ℕ → List ℕ → List ℕ
-fillLines s t im = imageText refusedLines fillOf (memory s t) im
+fillLines s t im = imageText refusedLine fillOf (memory s t) im
 
 -- reading, and where that is taken filling
 unfoldable pub readAndFilled : Memory → List ℕ → Outcome

@@ -5,7 +5,6 @@ ghost use mathlib.Core.List.{[], _∷_};
 ghost use Prim.Native.Nat.{_+_, _*_, _≤_};
 ghost use lib.ListN.{length, getD};
 ghost use Rattle.model.specs.Loops.{joinBelow};
-ghost use Rattle.model.specs.Calls.{readCall};
 ghost use Rattle.state.specs.Lent.{memory};
 ghost use Rattle.putting.specs.Put.{Put};
 ghost use Rattle.fill.specs.Lines.{recordLine, recordAt, addedLines, fillText, fillsTo, fillOf, fillLines, readAndFilled};

@@ -17,6 +17,10 @@ lineOne number = line (ascii "refusal ") number
 unfoldable pub answerText : List ℕ → List ℕ → List ℕ
 answerText answer lines = cond (eqb (getD answer 0 0) 0) (lineOne 0 ++ lines) (lineOne (getD answer 0 0))
 
+-- line one alone, of a refused reading's answer
+abbrev pub refusedLine : List ℕ → List ℕ
+refusedLine answer = lineOne (getD answer 0 0)
+
 -- the output for an image that is read into memory m: where reading refuses it, the text of its answer, else the text of what was read
 unfoldable pub imageText : (List ℕ → List ℕ) → (Memory → List ℕ) → Memory → List ℕ → List ℕ
 imageText refusal text m im =

@@ -56,7 +56,7 @@ filling s t = eachBelow (nodeCount s) (node (fillNode s)) (record { tables = t; 
 
 -- ---- records appended to their entries (what the ticket says of the result; filling itself does not go by this)
 
--- the neighbour of record r of a list, which counts from 0, behind those of its entry; K is the depth
+-- record r of a list, counted from 0: its neighbour appended to its entry; K is the depth
 unfoldable pub withRecord : ℕ → List ℕ → ℕ → List ℕ → List ℕ
 withRecord K list r t =
     let x = getD list (4 * r) 0 in

@@ -2,7 +2,7 @@
 -- unchanged hops of a run go on through it too is demand 3, whose lists of calls have fillings among them.
 use Prim.Native.Nat.{ℕ, _*_, _≤_, _<_}
 use mathlib.Core.Path.{_≡_}
-use mathlib.Core.Bool.{true, false}
+use mathlib.Core.Bool.{true}
 use mathlib.Core.List.{List, [], _∷_, _++_}
 use lib.ListN.{length, getD, take, drop}
 use Rattle.model.specs.Memory.{Memory, base, digits, depth}
@@ -37,7 +37,7 @@ pub record Filled (m : Memory) (out : List ℕ) : Type 0 where
       → neighbors (m .state) (after m (fill out) .tables) x i j ≡ neighbors (m .state) (m .tables) x i j ++ listedFor (listed m out) x i j
   -- the bytes past the list stay
   pub rest : drop (4 * additions m out) (step m (fill out) .out) ≡ drop (4 * additions m out) out
-  -- the result passes the verdict
+  -- the result passes the verdict, so the state is sound
   pub passes : Passes (after m (fill out))
   -- whatever the verdict said before: a lookup that arrived, around any failed nodes, takes the very same hops and has the same answer
   pub kept : (u z failed : ℕ) → Arrives m u z failed

@@ -8,7 +8,7 @@ use Rattle.model.specs.Calls.{surveyCall}
 use Rattle.state.specs.Lent.{memory}
 use Rattle.text.specs.Ascii.{ascii}
 use Rattle.text.specs.Lines.{labelled, line}
-use Rattle.image_program.specs.Printed.{lineOne, answerText, imageText}
+use Rattle.image_program.specs.Printed.{answerText, refusedLine, imageText}
 
 -- `hops`, their number, and how many pairs arrive in so many
 unfoldable pub hopLine : ℕ → ℕ → List ℕ
@@ -29,10 +29,6 @@ surveyText d answer = answerText answer (countLines d (drop 1 answer))
 abbrev pub surveyOf : Memory → List ℕ
 surveyOf m = surveyText (digits (m .state)) (surveyCall m 0 .answer)
 
--- a refused reading's answer as text: line one alone
-abbrev pub refusedLines : List ℕ → List ℕ
-refusedLines answer = lineOne (getD answer 0 0)
-
 -- the output for an image that is read into this memory
 abbrev pub surveyLines : List ℕ → List ℕ → List ℕ → List ℕ
-surveyLines s t im = imageText refusedLines surveyOf (memory s t) im
+surveyLines s t im = imageText refusedLine surveyOf (memory s t) im

@@ -54,8 +54,8 @@ fn join_watched(pair: &mut Pair, rng: &mut Rng, met: &mut Met) -> Result<(), Str
     same_network(["alone", "looked at"], &alone, pair.memory())
 }
 
-/// Lookups, with failed nodes too, which may be refused, and surveys; traces, accepted and refused; a verdict and writings, which are refused, but for that of
-/// version 2; a founding out of range and a reading of no image.
+/// Lookups, with failed nodes too, which may be refused, and surveys; traces, accepted and refused; a verdict, a filling and writings, which are refused, but for the
+/// writing of version 2; a founding out of range and a reading of no image.
 fn looks(pair: &mut Pair, rng: &mut Rng, node: u64, met: &mut Met) -> Result<(), String> {
     for failed in [0, rng.word() & rng.word()] {
         for (from, to) in [(1, node), (node, 1), (rng.between(1, node), node)] {
