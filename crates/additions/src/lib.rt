@@ -1,4 +1,6 @@
 // The list that filling gives: a record of four bytes for each addition, node, level, digit and neighbour, one behind another.
+#![tactic(auto)]
+
 ghost use Rattle.std.specs.Prelude.{◌≡◌, ◌+◌, ◌*◌, ◌≤◌, length};
 ghost use Rattle.additions.specs.Listed.{blank, AdditionOf};
 
@@ -15,7 +17,7 @@ pub fn blank() -> [u8; LONGEST]
 }
 
 // The four bytes as numbers.
-#[derive(Drop)]
+#[derive(Clone, Copy)]
 pub struct Addition {
     pub node: u64,
     pub level: u64,

@@ -1,5 +1,5 @@
 // The refusals by name: document 01, "What a call declines", and document 02, Tickets 2, 5, 6, 8, 9 and 10. include/overlay.h has the same names behind OVERLAY_.
-#[derive(Drop)]
+#[derive(Clone, Copy)]
 pub struct Refusal {
     pub number: u64,
 }

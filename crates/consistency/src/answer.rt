@@ -1,5 +1,5 @@
 // The verdict: yes with zeros, or no with node, level and digit of the first entry that falls short.
-#[derive(Drop)]
+#[derive(Clone, Copy)]
 pub struct Verdict {
     pub consistent: bool,
     pub node: usize,

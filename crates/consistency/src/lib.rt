@@ -1,4 +1,6 @@
 // The check of K-consistency, on a sound state. An entry lacks nodes where it holds fewer than there are for it, K at most.
+#![tactic(auto)]
+
 pub mod answer;
 pub mod having;
 pub mod lack;

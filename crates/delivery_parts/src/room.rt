@@ -19,7 +19,7 @@ fn has_room(sender: Learner, theirs: &[u8], i: usize) -> bool
 }
 
 // The paper's E, y's entry for x at level h before the step: whether it has room, and its first node.
-#[derive(Drop)]
+#[derive(Clone, Copy)]
 pub struct SuffixEntry {
     pub room: bool,
     pub first: usize,

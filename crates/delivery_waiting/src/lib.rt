@@ -1,4 +1,6 @@
 // A wait request to a node in system: where E, y's entry for x, is full, x learns y's table and goes on to the first node of E; else x attaches.
+#![tactic(auto)]
+
 ghost use Rattle.std.specs.Prelude.{◌≡◌, true};
 ghost use Rattle.model.specs.Memory.{node_of, notices_of, with_node, add_node, table_of};
 ghost use Rattle.model.specs.Nodes.{suffix_of};

@@ -12,7 +12,7 @@ use engine::reading;
 use image_program::line_one;
 
 // What was printed: its length in bytes, and the refusal in its first line.
-#[derive(Drop)]
+#[derive(Clone, Copy)]
 pub struct Printed {
     pub end: usize,
     pub refusal: u64,

@@ -1,4 +1,6 @@
 // Filling short tables: document 02, ticket 10. How long the list of additions is, and the filled tables with that list.
+#![tactic(auto)]
+
 mod entries;
 mod lowest;
 pub mod measure;

@@ -1,6 +1,8 @@
 // The hop survey of a sound state: one pass over the ordered pairs of different nodes, neither of them failed, each counted by its lookup. Place
 // h − 1 of the counts is for the pairs that arrive in h hops, place 8 for the lost ones. Each of 64 nodes adds at most 64 to a count: none passes
 // 4,096 before a node's pairs, nor 4,160 among them.
+#![tactic(auto)]
+
 ghost use Rattle.std.specs.Prelude.{◌≡◌, ◌<◌, ◌≢◌};
 ghost use Rattle.model.specs.Lookup.{lookup};
 ghost use Rattle.model.specs.Survey.{is_pair, survey_counts};

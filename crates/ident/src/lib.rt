@@ -1,5 +1,7 @@
 // Identifiers as numbers: settings, digits, suffix masks, common suffixes. Every contract is an equation with the book
 // (`crates/model/specs/Ids.antt` and `Tables.antt`) for all arguments; no function asks anything of its caller.
+#![tactic(auto)]
+
 ghost use Rattle.std.specs.Prelude.{◌≡◌, ◌<◌, ◌≤◌, min, eqb};
 ghost use Rattle.model.specs.Ids.{settings_in_range, digit_of, low_digits, suffix_mask, common_suffix, valid_id};
 ghost use Rattle.model.specs.Tables as tables;

@@ -9,7 +9,7 @@ ghost use Rattle.image_fields.specs.Parts.{CountsRight, Headed};
 const LONGEST: usize = 65535;
 
 // The settings and the counts.
-#[derive(Drop)]
+#[derive(Clone, Copy)]
 pub struct Header {
     pub base: usize,
     pub digits: usize,

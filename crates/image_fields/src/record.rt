@@ -9,7 +9,7 @@ use crate::ids::id;
 use ident::digit;
 
 // The four bytes as numbers.
-#[derive(Drop)]
+#[derive(Clone, Copy)]
 pub struct Record {
     pub node: usize,
     pub level: usize,

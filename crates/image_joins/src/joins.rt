@@ -15,7 +15,7 @@ use state::record;
 use state::record::Node;
 use state::status::Status;
 
-#[derive(Drop)]
+#[derive(Clone, Copy)]
 pub struct Join {
     pub node: usize,
     pub status: u64,

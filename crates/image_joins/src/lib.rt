@@ -1,5 +1,7 @@
 // Sections four and five of an image of version 2, the joins under way and the counts: whether they are listed as they must be, and loaded into a state
 // that holds the settings and the ids.
+#![tactic(auto)]
+
 ghost use Rattle.std.specs.Prelude.{◌≡◌, true, ◌≤◌, length};
 ghost use Rattle.model.specs.Memory.{state_length};
 ghost use Rattle.model.specs.Image.{has_joins, im_version, joins_listed, loaded_joins};

@@ -7,7 +7,7 @@ ghost use Rattle.image_joins.specs.Sections.{SectionsOf};
 use image_fields::header::{Header, byte};
 
 // Where the first join stands, how many joins there are, and where the count of the counts stands, behind the last join.
-#[derive(Drop)]
+#[derive(Clone, Copy)]
 pub struct Sections {
     pub first: usize,
     pub joins: usize,

@@ -17,7 +17,7 @@ use state::sets;
 
 // The next record; the entry of the record before it, by its key, with how many records of this entry are read and whom they name; and the places
 // of the first record that is not allowed and of the first that begins an own entry with another than its owner, 0 for none.
-#[derive(Drop)]
+#[derive(Clone, Copy)]
 pub struct Cursor {
     pub next: usize,
     pub key: usize,

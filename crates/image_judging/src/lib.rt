@@ -1,5 +1,7 @@
 // Judging an image of bytes, sentence by sentence: document 01, "The image" and "What a call declines", and document 02, Tickets 2 and 9. Nothing is
 // asked of the bytes or of their number; the time is in proportion to the number of records.
+#![tactic(auto)]
+
 ghost use Rattle.std.specs.Prelude.{◌≡◌, ◌<◌, length};
 ghost use Rattle.model.specs.Image.{is_version, im_version};
 ghost use Rattle.model.specs.Refusals.{other_version};

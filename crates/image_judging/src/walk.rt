@@ -11,7 +11,7 @@ use image_fields::header::Header;
 use image_fields::record;
 
 // Where the first record of each fault stands, counted from 1, and 0 where the walk met none.
-#[derive(Drop)]
+#[derive(Clone, Copy)]
 pub struct Faults {
     // Its level or digit is not one of the settings', or it is below the record before it.
     pub disordered: usize,

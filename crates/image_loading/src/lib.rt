@@ -1,4 +1,6 @@
 // Loading an image that nothing but 24 can refuse: the state that it gives, in every word and byte of the fixed lengths.
+#![tactic(auto)]
+
 ghost use Rattle.std.specs.Prelude.{◌≡◌, true, ◌≤◌, length};
 ghost use Rattle.model.specs.Loops.{each_below};
 ghost use Rattle.model.specs.Memory.{state_length};

@@ -1,5 +1,7 @@
 // What the programs over images share: line one; what is printed for an answer and for an image (`specs/Printed.antt`, `proofs/Printing.antt`); and
 // that an input of which only the first 65,536 bytes are kept is read as the whole of it would be (`proofs/Overlong.antt`).
+#![tactic(auto)]
+
 ghost use Rattle.std.specs.Prelude.{◌≤◌, length};
 ghost use Rattle.putting.specs.Put.{Put};
 ghost use Rattle.image_program.specs.Printed.{line_one};

@@ -1,4 +1,6 @@
 // The image of a sound state in lent memory: document 01, "The image", and of version 2 document 02, ticket 9. How long it is, and its bytes.
+#![tactic(auto)]
+
 mod measure;
 
 ghost use Rattle.std.specs.Prelude.{◌≡◌, ◌++◌, ◌+◌, ◌≤◌, ◌<◌, length, drop};

@@ -6,7 +6,7 @@ ghost use Rattle.learning.specs.Learners.{NodeReadable, LearnerOf};
 use ident::common_suffix;
 use state::{record, settings};
 
-#[derive(Drop)]
+#[derive(Clone, Copy)]
 pub struct Learner {
     pub number: usize,
     pub id: u32,

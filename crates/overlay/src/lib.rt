@@ -1,5 +1,7 @@
 // The C interface: see include/overlay.h. Each function is one public call of the engine on lent memory, with its answer packed into 64
 // bits; bits 0 to 7 are the refusal. The counts of a survey go to words that the caller lends.
+#![tactic(auto)]
+
 ghost use Rattle.std.specs.Prelude.{◌≡◌, [], ◌∷◌};
 ghost use Rattle.model.specs.Calls.{found_call, read_call, begin_call, withdraw_call, deliver_call, lookup_call, survey_call, verdict_call, fill_call, write_call, trace_call, sound_call};
 ghost use Rattle.state.specs.Lent.{memory};

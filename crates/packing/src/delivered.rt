@@ -7,7 +7,7 @@ ghost use Rattle.packing.specs.Numbers.{listed, taken_fields};
 use crate::pack::bit;
 use answers::{DeliverAnswer, Kind};
 
-#[derive(Drop)]
+#[derive(Clone, Copy)]
 pub struct Numbers {
     pub refusal: u64,
     pub kind: u64,

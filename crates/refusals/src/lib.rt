@@ -1,4 +1,6 @@
 // What refuses each public call: its sentences, in the paper's order. Every `refusal` answers the number of the first that holds, or 0.
+#![tactic(auto)]
+
 pub mod beginning;
 pub mod delivering;
 pub mod fill;

@@ -18,7 +18,7 @@ use script::command::Command;
 use state::{sets, settings};
 
 // A played call: how many bytes its words have, and its answer.
-#[derive(Drop)]
+#[derive(Clone, Copy)]
 pub struct Answered {
     pub end: usize,
     pub answer: Words,

@@ -1,5 +1,5 @@
 // An answer in ten words: the refusal, the answer's other fields, and zeros behind them.
-#[derive(Drop)]
+#[derive(Clone, Copy)]
 pub struct Words {
     pub refusal: u64,
     pub fields: [u64; 9],

@@ -1,5 +1,7 @@
 // What `replay` says of an entry, and of the additions to entries, put into lent memory. A number is given room for 20 digits: a line of an addition has at
 // most 90 bytes.
+#![tactic(auto)]
+
 ghost use Rattle.std.specs.Prelude.{◌≡◌, ◌+◌, ◌*◌, ◌≤◌, length};
 ghost use Rattle.model.specs.Loops.{join_below};
 ghost use Rattle.putting.specs.Put.{Put};

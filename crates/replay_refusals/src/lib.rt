@@ -1,4 +1,6 @@
 // A refusal in words: what `replay` says of its number and of the answer's next two fields.
+#![tactic(auto)]
+
 ghost use Rattle.std.specs.Prelude.{◌+◌, ◌≤◌, length};
 ghost use Rattle.putting.specs.Put.{Put};
 ghost use Rattle.replay_refusals.specs.Refused.{sentence_to_8, sentence_from_9, own_entry, sentence_from_17, sentence as sentence_text, path_text, place_text, refused_text};

@@ -1,4 +1,6 @@
 // A survey in words, in lent memory.
+#![tactic(auto)]
+
 ghost use Rattle.std.specs.Prelude.{◌≤◌, length};
 ghost use Rattle.putting.specs.Put.{Put};
 ghost use Rattle.replay_survey.specs.SurveyText.{survey_said};

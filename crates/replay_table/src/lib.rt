@@ -1,4 +1,6 @@
 // A node's record and table in words, in lent memory. The first line has at most 112 bytes, the entries 15,616.
+#![tactic(auto)]
+
 ghost use Rattle.std.specs.Prelude.{◌≤◌, length};
 ghost use Rattle.model.proofs.Status.{IsNode};
 ghost use Rattle.model.proofs.Sound.{Sound};

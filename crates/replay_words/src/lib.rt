@@ -1,2 +1,4 @@
 // What `replay` says of an answer, put into lent memory.
+#![tactic(auto)]
+
 pub mod answer;

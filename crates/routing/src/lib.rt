@@ -1,4 +1,6 @@
 // Lookup by suffix routing, and the steps that a path of another router may go, on a sound state. `failed` is the set of failed nodes; a number in it that no node has means nothing.
+#![tactic(auto)]
+
 pub mod answer;
 
 ghost use Rattle.std.specs.Prelude.{◌≡◌, ◌≢◌};
@@ -17,7 +19,7 @@ use tables::entry::NextHop;
 use tables::{entry, part};
 
 // An entry of a table.
-#[derive(Drop)]
+#[derive(Clone, Copy)]
 struct Entry {
     level: usize,
     digit: usize,

@@ -7,7 +7,7 @@ use crate::numbers::{Id, Number, decimal, hexadecimal};
 use crate::words::{behind, ends, named};
 use calls::Call;
 
-#[derive(Drop)]
+#[derive(Clone, Copy)]
 pub enum Command {
     // an empty line or a comment
     Nothing,

@@ -5,13 +5,13 @@ ghost use Rattle.script.specs.Numbers.{digit, with_digit, number_of, decimal_of,
 
 use crate::words::word;
 
-#[derive(Drop)]
+#[derive(Clone, Copy)]
 pub enum Number {
     Is(u64),
     Not,
 }
 
-#[derive(Drop)]
+#[derive(Clone, Copy)]
 pub enum Id {
     Is(u32),
     Not,

@@ -1,5 +1,7 @@
 // The exact check of a state: document 01, "Identifiers and tables", last paragraph, and of the counts document 02, ticket 3, in the order of the
 // book's clauses.
+#![tactic(auto)]
+
 ghost use Rattle.std.specs.Prelude.{◌≡◌, not, ◌&&◌, ◌≤◌, length};
 ghost use Rattle.model.specs.Sound as book;
 ghost use Rattle.model.specs.Refusals.{memory_short};

@@ -1,5 +1,7 @@
 // The rules of the two counts of each node: document 02, ticket 3. They are asked where the statuses are sound: the target of a copying or waiting
 // node is a node.
+#![tactic(auto)]
+
 ghost use Rattle.std.specs.Prelude.{◌≡◌, ◌+◌, ◌≤◌, eqb};
 ghost use Rattle.model.specs.Memory.{node_of, set_size};
 ghost use Rattle.model.specs.Nodes.{all_nodes, suffix_of};

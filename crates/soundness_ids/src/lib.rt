@@ -1,4 +1,6 @@
 // The ids of the nodes: each is valid, and no two are equal.
+#![tactic(auto)]
+
 ghost use Rattle.std.specs.Prelude.{◌≡◌};
 ghost use Rattle.model.specs.Sound.{has_valid_id, has_new_id};
 ghost use Rattle.state.specs.Loaded.{SettingsOf};

@@ -1,4 +1,6 @@
 // The rules of a notifying node: it has no target, an attach level below d and somebody pending; and what its two sets may name.
+#![tactic(auto)]
+
 ghost use Rattle.std.specs.Prelude.{◌≡◌};
 ghost use Rattle.model.specs.Memory.{node_of};
 ghost use Rattle.model.specs.Sound.{notifying_sound};

@@ -1,4 +1,6 @@
 // The rules of each status: document 01, "Identifiers and tables", last paragraph.
+#![tactic(auto)]
+
 ghost use Rattle.std.specs.Prelude.{◌≡◌};
 ghost use Rattle.model.specs.Sound.{status_sound};
 ghost use Rattle.state.specs.Loaded.{SettingsOf, book_node};

@@ -1,4 +1,6 @@
 // The rules of the tables: document 01, "Identifiers and tables". Each node's table is handed on as one run of the lent table memory.
+#![tactic(auto)]
+
 ghost use Rattle.std.specs.Prelude.{◌≡◌, ◌+◌, ◌<◌, ◌≤◌, length};
 ghost use Rattle.model.specs.Loops.{node};
 ghost use Rattle.model.specs.Memory.{node_count, tables_length};

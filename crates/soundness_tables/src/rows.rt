@@ -10,7 +10,7 @@ use state::node::Owner;
 use state::record;
 
 // A level of the owner's table: the number that the owner's low digits make, the weight of the level's digit, and the mask of both.
-#[derive(Drop)]
+#[derive(Clone, Copy)]
 pub struct Row {
     pub owner: usize,
     pub level: usize,

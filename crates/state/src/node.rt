@@ -8,7 +8,7 @@ use crate::record;
 use crate::status::Status;
 
 // Whose table or record is looked at: a node's number and its id.
-#[derive(Drop)]
+#[derive(Clone, Copy)]
 pub struct Owner {
     pub number: usize,
     pub id: u32,

@@ -5,7 +5,7 @@ ghost use Rattle.model.specs.Memory.{state_length, digits};
 ghost use Rattle.model.specs.Nodes.{is_node};
 ghost use Rattle.state.specs.Loaded.{SettingsOf};
 
-#[derive(Drop)]
+#[derive(Clone, Copy)]
 pub struct Settings {
     pub base: usize,
     pub digits: usize,

@@ -2,7 +2,7 @@
 ghost use Rattle.std.specs.Prelude.{◌≡◌, cond, ◌||◌, eqb};
 ghost use Rattle.model.specs.Memory.{in_system, copying, waiting, notifying};
 
-#[derive(Drop)]
+#[derive(Clone, Copy)]
 pub struct Status {
     pub number: u64,
 }

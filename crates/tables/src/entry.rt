@@ -50,7 +50,7 @@ pub fn first(table: &[u8], i: usize, j: usize) -> usize
 }
 
 // The frontmost node of the entry that has not failed, 0 where none is left, and how many failed ones stand in front of it.
-#[derive(Drop)]
+#[derive(Clone, Copy)]
 pub struct NextHop {
     pub node: usize,
     pub passed_over: usize,

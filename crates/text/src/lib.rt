@@ -1,4 +1,6 @@
 // Text put together in lent memory: pieces one behind the other, each answered by the place behind it. A number has at most 20 digits.
+#![tactic(auto)]
+
 ghost use Rattle.std.specs.Prelude.{◌≡◌, ◌+◌, ◌^◌, ◌≤◌, ◌<◌, length};
 ghost use Rattle.putting.specs.Put.{Put};
 ghost use Rattle.text.specs.Numbers.{decimal, hexadecimal};

@@ -1,4 +1,6 @@
 // Reading a trace: how many places the path has that starts at a byte of it.
+#![tactic(auto)]
+
 pub mod reader;
 
 ghost use Rattle.std.specs.Prelude.{◌≡◌};
@@ -7,7 +9,7 @@ ghost use Rattle.trace_reading.specs.Read.{count_at};
 use crate::reader::Reader;
 
 // A path's count.
-#[derive(Drop)]
+#[derive(Clone, Copy)]
 pub enum Count {
     // from 1 to 9, and the trace holds as many bytes behind it
     Places(usize),

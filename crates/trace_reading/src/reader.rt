@@ -4,7 +4,7 @@ ghost use Rattle.trace_reading.specs.Read.{count_at};
 
 use crate::{Count, count_at};
 
-#[derive(Drop)]
+#[derive(Clone, Copy)]
 pub struct Reader<'a> {
     pub trace: &'a [u8],
     pub at: usize,

@@ -12,7 +12,7 @@ ghost use Rattle.traces.specs.Walked.{started, Walked};
 use crate::fault::{Fault, at_index, none};
 use crate::path::Path;
 
-#[derive(Drop)]
+#[derive(Clone, Copy)]
 pub struct Cursor {
     // how many paths it has passed, and where the next starts
     pub path: usize,

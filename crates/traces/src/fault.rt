@@ -6,7 +6,7 @@ ghost use Rattle.traces.specs.Judged.{answer};
 use answers::TraceAnswer;
 
 // Path and place, counted from 1, or zeros where there is none.
-#[derive(Drop)]
+#[derive(Clone, Copy)]
 pub struct Fault {
     pub path: usize,
     pub place: usize,

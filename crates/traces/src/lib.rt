@@ -1,5 +1,7 @@
 // The check of a trace, on a sound state: one walk over its paths, from front to back, by a cursor. It goes on past a place without a node and a step that
 // is not allowed, and keeps the first of each, but ends at the first count that is wrong. The time is in proportion to the trace's bytes.
+#![tactic(auto)]
+
 ghost use Rattle.std.specs.Prelude.{◌≡◌};
 ghost use Rattle.model.proofs.Sound.{Sound};
 ghost use Rattle.traces.specs.Judged.{sentences_refusal, answer_of};

@@ -9,7 +9,7 @@ use routing::may_go;
 use state::settings;
 
 // Which path it is, from 0, where its count stands, and how many places it has.
-#[derive(Drop)]
+#[derive(Clone, Copy)]
 pub struct Path {
     pub number: usize,
     pub at: usize,
