@@ -1,23 +1,23 @@
 -- Filling: each addition goes to an entry that is short, so there is a node to add, the state stays sound, tables only gain nodes, and in the end every entry
 -- holds what it must. Assumes nothing.
-use Prim.Native.Nat.{ℕ, zero, suc, ◌+◌, ◌-◌, ◌≤◌, ◌<◌, min}
+use Prim.Native.Nat.{ℕ, ◌+◌, ◌-◌, ◌≤◌, ◌<◌, min}
 use mathlib.Core.Path.{◌≡◌, refl, sym, ap, subst, ◌∙◌}
 use mathlib.Core.Logic.{inr, ⊎_elim}
 use mathlib.Core.Bool.{Bool, true, false, not, ◌&&◌}
-use mathlib.Core.List.{List, [], ◌∷◌, ◌++◌}
+use mathlib.Core.List.{List, [], ◌∷◌}
 use native.Mathlib.Nat.{le_refl, le_trans, add-zero}
 use native.Mathlib.Decide.{ℕ_discrete, le_ind}
 use native.Mathlib.Omega.{arith}
 use lib.Dec.{eqb}
-use lib.ListN.{length, get_or, length-append}
+use lib.ListN.{length, length-append}
 use borrow.Author.Tests.{eqb-true, not-true, not-false}
-use Rattle.model.specs.Loops.{each_below, first_below, node}
+use Rattle.model.specs.Loops.{each_below, node}
 use Rattle.model.specs.Memory.{base, digits, depth, node_count, is_in_system, is_attached, table_start, table_of, with_table}
-use Rattle.model.specs.Tables.{slot_place, entry_size, holds, append}
+use Rattle.model.specs.Tables.{entry_size, holds, append}
 use Rattle.model.specs.Nodes.{any_node, qualifies}
-use Rattle.model.specs.Consistency.{how_many, neighbors, entry_whole}
+use Rattle.model.specs.Consistency.{how_many, entry_whole}
 use Rattle.model.specs.Fill.{Filling, is_absent, lowest_absent, short_by, added, fill_once, fill_entry, fill_level, fill_node, filling}
-use Rattle.model.proofs.Bools.{true_or_false, and_left, and_right, or_intro_right, not_both}
+use Rattle.model.proofs.Bools.{true_or_false, and_left, and_right, or_intro_right}
 use Rattle.model.proofs.Loops.{first_some, first_holds, each_keeps, each_leads, each_does}
 use Rattle.model.proofs.Nodes.{no_node_at}
 use Rattle.model.proofs.Memory.{table_length, stored_length, stored_outside, stored_same, stored_other}

@@ -10,7 +10,6 @@ use Rattle.model.specs.Loops.{first_below, each_below, node}
 use Rattle.model.specs.Memory.{state_length, tables_length, base, digits, depth, node_count, table_start, table_of, with_table}
 use Rattle.model.specs.Tables.{append}
 use Rattle.model.specs.Nodes.{qualifies}
-use Rattle.model.specs.Consistency.{how_many}
 use Rattle.model.specs.Fill.{Filling, is_absent, lowest_absent, short_by, added, fill_once, fill_entry, fill_level, fill_node, filling, with_record, with_records}
 use Rattle.model.proofs.Loops.{first_same, each_leads}
 use Rattle.model.proofs.Memory.{table_length, stored_length}

@@ -1,7 +1,7 @@
 -- A node's table as the language lends it: the part from `start` to `end` of the table memory, with `end` written as the code has it,
 -- `start + 512`; and the table copied out of such a part, or into it. Assumes nothing.
 use Prim.Native.Nat.{ℕ, ◌+◌, ◌-◌, ◌≤◌}
-use mathlib.Core.Path.{◌≡◌, sym, ap, ap₂, ◌∙◌}
+use mathlib.Core.Path.{◌≡◌, ap, ap₂, ◌∙◌}
 use mathlib.Core.List.{List, ◌++◌, append-nil}
 use native.Mathlib.Nat.{add-sub_cancel_left, le_of_eq}
 use lib.ListN.{length, take, drop, drop_of_length-le}
@@ -31,7 +31,6 @@ module _ (t : List ℕ) (x : ℕ) (fits : table_start x + 512 ≤ length t) wher
   part_table_length = ap length (part_table t x) ∙ table_length t x fits
 
   -- T, a list of 512 bytes, copied over it
-  pub copied_out : (T r : List ℕ) → length T ≡ 512
-      → r ≡ take (length T) T ++ drop (length T) (take (table_start x + 512 - table_start x) (drop (table_start x) t))
+  pub copied_out : (T r : List ℕ) → r ≡ T
       → take (table_start x) t ++ (r ++ drop (table_start x + 512 - table_start x) (drop (table_start x) t)) ≡ with_table t x T
-  copied_out T r h e = put_table t x r ∙ ap (with_table t x) (copied T _ r (part_table_length ∙ sym h) e)
+  copied_out T r e = put_table t x r ∙ ap (with_table t x) e

@@ -1,6 +1,6 @@
 -- The very hops of a lookup as a path of a trace, in a sound state, arrived or lost. Each later node of it matches the destination in more digits than the
 -- one before it, so each step is one that a path to the last node may go. Assumes nothing.
-use Prim.Native.Nat.{ℕ, zero, suc, ◌+◌, ◌-◌, ◌≤◌, ◌<◌}
+use Prim.Native.Nat.{ℕ, zero, suc, ◌+◌, ◌≤◌, ◌<◌}
 use mathlib.Core.Path.{◌≡◌, sym, ap, ap₂, subst, ◌∙◌}
 use mathlib.Core.Logic.{◌≢◌}
 use mathlib.Core.Bool.{true}

@@ -8,7 +8,7 @@ use native.Mathlib.Decide.{dec_lt}
 use native.Mathlib.Omega.{arith}
 use lib.ListN.{length, get_or, replicate, length-replicate, get_or-replicate}
 use Rattle.model.specs.Ids.{valid_id}
-use Rattle.model.specs.Memory.{state_length, tables_length, base, digits, depth, node_count, node_of, target_of, in_system, is_attached, table_start, table_of}
+use Rattle.model.specs.Memory.{state_length, tables_length, node_count, node_of, target_of, in_system, is_attached, table_start, table_of}
 use Rattle.model.specs.Join.{no_node, withdrawn}
 use Rattle.model.proofs.Bools.{not_both}
 use Rattle.model.proofs.Memory.{same_id, table_at, stored_length, stored_outside, stored_same, stored_other}

@@ -1,6 +1,6 @@
 -- An image that writing makes is one that reading takes, and read into any memory it gives back the state in every word and byte of the fixed lengths, of
 -- version 1 but for the counts, which are zero. Assumes nothing.
-use Prim.Native.Nat.{ℕ, ◌+◌, ◌≤◌}
+use Prim.Native.Nat.{ℕ, ◌≤◌}
 use mathlib.Core.Path.{◌≡◌, refl, sym, ap, ap₂, subst, ◌∙◌}
 use mathlib.Core.Logic.{◌⊎◌, inl, inr}
 use mathlib.Core.Bool.{Bool, true, false, cond, not, ◌&&◌}

@@ -12,7 +12,7 @@ use Rattle.model.specs.Join.{Delivery, new_node, joining_node, no_node, founded,
 use Rattle.model.specs.Lookup as routing
 use Rattle.model.specs.Survey.{survey_counts}
 use Rattle.model.specs.Consistency as consistency
-use Rattle.model.specs.Fill.{Filling, filling, with_records}
+use Rattle.model.specs.Fill.{filling, with_records}
 use Rattle.model.specs.Image.{image_of, loaded}
 use Rattle.model.specs.Refusals.{found_refusal, read_refusal, record_place, begin_refusal, withdraw_refusal, deliver_refusal, lookup_refusal, verdict_refusal, fill_refusal, write_refusal, trace_refusal, trace_place, state_refusal}
 use Rattle.model.specs.Calls.{Outcome, refused_at, taken, unless_refused, delivery_fields, lookup_fields, verdict_fields, found_call, read_call, begin_call, withdraw_call, deliver_call, lookup_call, survey_call, verdict_call, filled_by, fill_call, write_call, trace_call, sound_call}

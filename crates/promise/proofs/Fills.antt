@@ -1,13 +1,13 @@
 -- Filling short tables. Assumes nothing.
-use Prim.Native.Nat.{ℕ, ◌*◌, ◌/◌, ◌≤◌, ◌<◌}
-use mathlib.Core.Path.{◌≡◌, refl, sym, ap, subst, ◌∙◌}
-use mathlib.Core.Bool.{true, false}
+use Prim.Native.Nat.{ℕ, ◌*◌, ◌≤◌}
+use mathlib.Core.Path.{◌≡◌, sym, ap, ◌∙◌}
+use mathlib.Core.Bool.{true}
 use mathlib.Core.List.{List, [], ◌∷◌, ◌++◌}
 use native.Mathlib.Nat.{le_trans}
 use native.Mathlib.Omega.{arith}
 use lib.ListN.{length, get_or, take, drop}
 use lib.Seq.{take_at, drop_at}
-use Rattle.model.specs.Memory.{Memory, base, digits, depth}
+use Rattle.model.specs.Memory.{Memory, depth}
 use Rattle.model.specs.Lookup as book
 use Rattle.model.specs.Lookup.{Lookup, very_hops}
 use Rattle.model.specs.Consistency.{neighbors}
@@ -23,7 +23,7 @@ use Rattle.model.proofs.FillingRecords.{list_fours, filling_records}
 use Rattle.model.proofs.FillingLength.{filling_entries}
 use Rattle.model.proofs.FillingFew.{filling_few}
 use Rattle.model.proofs.Taken.{lookup_taken, fill_taken, fill_free}
-use Rattle.promise.specs.Promise.{Passes, NodeIn}
+use Rattle.promise.specs.Promise.{Passes}
 use Rattle.promise.specs.Fills as specs
 use Rattle.promise.specs.Fills.{additions, listed, Arrives, Filled}
 use Rattle.promise.proofs.Demand1.{taken_number, number_taken}

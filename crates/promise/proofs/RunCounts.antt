@@ -13,7 +13,7 @@ use borrow.Author.Tests.{eq-eqb, ne_eqb, not-true}
 use Rattle.model.specs.Memory.{Memory, Node, digits, node_count, node_of, with_node, copying}
 use Rattle.model.specs.Nodes.{is_node}
 use Rattle.model.specs.Join.{Delivery, new_node, joining_node, begun, withdrawn, delivery, delivered}
-use Rattle.model.specs.Refusals.{begin_refusal, withdraw_refusal, deliver_refusal, fill_refusal}
+use Rattle.model.specs.Refusals.{begin_refusal, withdraw_refusal, deliver_refusal}
 use Rattle.model.specs.Run.{Call, found, read, begin, withdraw, deliver, lookup, survey, verdict, fill, write, trace, sound, Event, step, after, play, history, is_taken, starts, goes_on, keeps_asking, answers_notice, tallied, tally, tally_from}
 use Rattle.model.proofs.Bools.{and_left, and_right}
 use Rattle.model.proofs.Memory.{node_stored}

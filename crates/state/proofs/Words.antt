@@ -1,6 +1,5 @@
 -- A valid id, read as a word of the state, fits 32 bits. Assumes nothing.
 use Prim.Native.Nat.{ℕ, ◌^◌, ◌<◌}
-use mathlib.Core.Path.{◌≡◌}
 use mathlib.Core.List.{List}
 use Rattle.model.specs.Memory.{base, digits, node_count, id_of}
 use Rattle.model.specs.Sound.{has_valid_id}

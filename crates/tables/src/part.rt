@@ -22,7 +22,7 @@ pub fn copy_in(tables: &[u8], x: usize) -> [u8; 512]
     ensures { result ≡ table_of tables.now x }
 {
     let mut table = [0u8; 512];
-    bytes::copy(lent(tables, x), &mut table);
+    table.copy_from_slice(lent(tables, x));
     table
 }
 
@@ -33,7 +33,7 @@ pub fn copy_out(tables: &mut [u8], x: usize, table: &[u8; 512])
 {
     let start = 512 * (x - 1);
     let end = start + 512;
-    bytes::copy(table, &mut tables[start..end]);
+    tables[start..end].copy_from_slice(table);
 }
 
 // u behind the nodes of entry (i, j) of node x: one byte of the table memory.
