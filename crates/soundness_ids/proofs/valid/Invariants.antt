@@ -1,0 +1,12 @@
+use Prim.Native.Nat.{◌≤◌, ◌-◌}
+use mathlib.Core.Path.{◌≡◌}
+use mathlib.Core.Bool.{true}
+use Rattle.model.specs.Sound.{has_valid_id}
+use Rattle.model.specs.Loops.{all_below, node}
+use Rattle.soundness_ids.proofs.valid.Given as goal
+
+abbrev pub invariant-loop-k : goal.invariant-loop-k
+invariant-loop-k l = (l.k ≤ l.s.nodes) × (all_below l.k (node (has_valid_id l.state)) ≡ true)
+
+abbrev pub decreases-loop-k : goal.decreases-loop-k
+decreases-loop-k l = l.s.nodes - l.k
