@@ -1,0 +1,21 @@
+-- `deliver`: the arm that is taken is the definition's case, and a sender that asks has one of the three statuses. Assumes nothing.
+use Rattle.delivery_parts.proofs.Deliveries.{delivers, delivers_copying, delivers_waiting, delivers_notifying, in_system_asks_nothing}
+use Rattle.delivery.proofs.delivering.deliver.Goals as goal
+
+pub deliver_copying-requires : goal.deliver_copying-requires
+deliver_copying-requires c = search delivers
+
+pub deliver_notifying-requires : goal.deliver_notifying-requires
+deliver_notifying-requires c = search delivers
+
+pub returns-in-1 : goal.returns-in-1
+returns-in-1 c = search delivers_copying
+
+pub returns-in-2 : goal.returns-in-2
+returns-in-2 c = search delivers_waiting
+
+pub returns-in-3 : goal.returns-in-3
+returns-in-3 c = search delivers_notifying
+
+pub returns-in-0 : goal.returns-in-0
+returns-in-0 c = search in_system_asks_nothing
