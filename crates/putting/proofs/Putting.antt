@@ -1,12 +1,12 @@
 -- Laws of putting bytes one piece behind another, and of the loops that put a list of pieces. Assumes nothing.
 use Prim.Native.Nat.{ℕ, ◌+◌, ◌-◌, ◌≤◌, ◌<◌}
 use mathlib.Core.Path.{◌≡◌, refl, sym, ap, ap₂, subst, ◌∙◌}
-use mathlib.Core.List.{List, [], ◌∷◌, ◌++◌, append_assoc, append-nil}
-use native.Mathlib.Nat.{add-zero, add-sub_cancel_left, le_antisymm, le_of_eq}
+use mathlib.Core.List.{List, [], ◌∷◌, ◌++◌, append_assoc}
+use native.Mathlib.Nat.{add-zero, add-sub_cancel_left, le_antisymm}
 use native.Mathlib.Numerals.{towards_suc}
 use native.Mathlib.Omega.{arith}
-use lib.ListN.{length, set, take, drop, length-append, length-drop, drop_of_length-le, take-append-drop}
-use lib.Seq.{sets, sets-eq, length-take-le, take_at, drop_at, take-append-le, take-take, take-length, drop-drop}
+use lib.ListN.{length, set, take, drop, length-append, length-drop, take-append-drop}
+use lib.Seq.{sets, sets-eq, length-take-le, take_at, drop_at, take-append-le, take-take, drop-drop}
 use Rattle.model.specs.Loops.{join_below}
 use Rattle.model.proofs.Loops.{join_step}
 use Rattle.model.proofs.Counting.{join_grows}
@@ -57,23 +57,15 @@ module _ (o : List ℕ) (a : ℕ) (bs : List ℕ) (f : a + length bs ≤ length 
 
 -- a piece copied over the part of `o` that it is as long as
 pub copied_is : (o : List ℕ) (a : ℕ) (bs r : List ℕ) → a + length bs ≤ length o
-    → r ≡ take (length bs) bs ++ drop (length bs) (take (a + length bs - a) (drop a o))
+    → r ≡ bs
     → Put o a bs (take a o ++ (r ++ drop (a + length bs - a) (drop a o))) (a + length bs)
 unfolding put
 copied_is o a bs r f e = record {
   fits = f;
-  is = ap₂ (λ (r end : List ℕ). take a o ++ (r ++ end)) (e ∙ copied) behind;
+  is = ap₂ (λ (r end : List ℕ). take a o ++ (r ++ end)) e behind;
   ends = refl;
 }
   where
-    part : length (take (a + length bs - a) (drop a o)) ≡ length bs
-    part =
-        ap (λ (n : ℕ). length (take n (drop a o))) (add-sub_cancel_left a (length bs))
-        ∙ length-take-le (length bs) (drop a o) (simp length-drop (omega arith))
-
-    copied : take (length bs) bs ++ drop (length bs) (take (a + length bs - a) (drop a o)) ≡ bs
-    copied = ap₂ ◌++◌ (take-length bs) (drop_of_length-le _ (le_of_eq part)) ∙ append-nil bs
-
     behind : drop (a + length bs - a) (drop a o) ≡ drop (a + length bs) o
     behind = ap (λ (n : ℕ). drop n (drop a o)) (add-sub_cancel_left a (length bs)) ∙ drop-drop (length bs) a o
 

@@ -1,4 +1,6 @@
 // Pieces put at a place of lent memory. The answer is the place behind them, and the rest of the memory stays as it was.
+#![tactic(auto)]
+
 ghost use Rattle.std.specs.Prelude.{◌+◌, ◌≤◌, [], ◌∷◌, length};
 ghost use Rattle.putting.specs.Put.{Put};
 
@@ -27,6 +29,6 @@ pub fn piece(out: &mut [u8], at: usize, piece: &[u8]) -> usize
     ensures { Put out.old at piece.now out.new result }
 {
     let end = at + piece.len();
-    bytes::copy(piece, &mut out[at..end]);
+    out[at..end].copy_from_slice(piece);
     end
 }

@@ -1,0 +1,12 @@
+-- `entries::once`: the lowest absent node is appended, and its record put behind the list. Assumes nothing.
+use Rattle.filling.proofs.Listing.{once_room, once_appends, once_listed}
+use Rattle.filling.proofs.entries.once.Goals as goal
+
+pub append-requires : goal.append-requires
+append-requires c = search once_appends
+
+pub four-requires : goal.four-requires
+four-requires c = search once_room
+
+pub returns : goal.returns
+returns c = search once_listed
