@@ -54,10 +54,10 @@ none_before size test n none =
     none_faulty size test n (all_of n _ (λ p l. all_at (n + 1) _ (none_fails size test (n + 1) none) p (omega arith)))
 
 -- where a path brings no place without a node, each of its places has one
-pub path_named : (s trace : List ℕ) (p : Path) → Stands trace p → (f : Fault) → f ≡ fault_in (p.number + 1) (place_count trace) (place_named s trace) → f.path ≡ 0
+pub path_named_lem : (s trace : List ℕ) (p : Path) → Stands trace p → (f : Fault) → f ≡ fault_in (p.number + 1) (place_count trace) (place_named s trace) → f.path ≡ 0
     → PathNamed s trace p
 unfolding place_named
-path_named s trace p S f e none =
+path_named_lem s trace p S f e none =
     let none' = sym (ap (λ (f : Fault). f.path) e) ∙ none in
     record {
       nodes =
