@@ -5,7 +5,7 @@ use mathlib.Core.Bool.{Bool, true, false, cond, not, ◌&&◌, ◌||◌}
 use mathlib.Core.List.{List, ◌++◌}
 use native.Mathlib.Nat.{le_of_eq}
 use lib.ListN.{length, take, drop, replicate}
-use lib.Seq.{take-length}
+use lib.Seq.{length-take-le}
 use borrow.Author.Tests.{le-ltb, not-true, not-false}
 use Rattle.model.specs.Memory.{Memory, state_length, tables_length}
 use Rattle.model.specs.Sound.{sound}
@@ -84,10 +84,11 @@ module _ (s t im : List ℕ) (L : Loads s t im) (v : has_joins (im_version im) �
     pub wrong_said : (b : Bool) → not r ≡ b → joins_wrong im ≡ b
     wrong_said b g = wrong_is ∙ g
 
+  pub fits_tables : length (take tables_length t) ≡ length z
+  fits_tables = length-take-le tables_length t L.tables ∙ sym bytes_long
+
   -- copied to the lent memory it is what the image gives there
-  pub copied : (s' t' : List ℕ) → s' ≡ w ++ drop state_length s → t' ≡ take (length z) z ++ drop (length z) t → memory s' t' ≡ loaded s t im
-  copied s' t' p q =
+  pub copied : (s' r : List ℕ) → s' ≡ w ++ drop state_length s → r ≡ z → memory s' (r ++ drop tables_length t) ≡ loaded s t im
+  copied s' r p q =
       ap₂ memory (p ∙ ap (λ (l : List ℕ). l ++ drop state_length s) words ∙ sym (loaded_state_lem s t im long L.good L.listed))
-      (q
-      ∙ ap₂ (λ (l : List ℕ) (n : ℕ). l ++ drop n t) (take-length z ∙ bytes) bytes_long
-      ∙ sym (loaded_tables_lem s t im long L.good L.listed))
+      (ap (λ (l : List ℕ). l ++ drop tables_length t) (q ∙ bytes) ∙ sym (loaded_tables_lem s t im long L.good L.listed))

@@ -1,5 +1,7 @@
 // Reading an image that nothing but 24 can refuse: its state in the lent memory. Version 2 is loaded into memory of our own first and judged there, so that
 // a refusal changes no lent word and no lent byte.
+#![tactic(auto)]
+
 ghost use Rattle.std.specs.Prelude.{◌≡◌, true};
 ghost use Rattle.model.specs.Image.{has_joins, im_version};
 ghost use Rattle.state.specs.Lent.{memory};
@@ -24,7 +26,7 @@ fn read_listed(state: &mut [u64], tables: &mut [u8], image: &[u8]) -> u64
         return Refusal::UNSOUND_IMAGE;
     }
     copy_out(state, &words);
-    bytes::copy(&table_bytes, tables);
+    tables[..TABLES_LENGTH].copy_from_slice(&table_bytes);
     0
 }
 

@@ -1,0 +1,12 @@
+-- `load_one`: the node's record, with what the join holds, is stored again. Assumes nothing.
+use Rattle.image_joins.proofs.Steps.{join_placed, join_step}
+use Rattle.image_joins.proofs.joins.load_one.Goals as goal
+
+pub load-r-requires : goal.load-r-requires
+load-r-requires c = search join_placed
+
+pub store-requires : goal.store-requires
+store-requires c = search join_placed
+
+pub returns : goal.returns
+returns c = search join_step

@@ -1,0 +1,13 @@
+-- `load_ids`: an id more each turn. Assumes nothing.
+use mathlib.Core.Path.{refl}
+use lib.ListN.{length-set}
+use Rattle.model.proofs.Loops.{each_loop}
+use Rattle.image_loading.proofs.Steps.{id_step}
+use native.Mathlib.Omega.{arith}
+use Rattle.image_loading.proofs.load_ids.Goals as goal
+
+pub loop-k-init : goal.loop-k-init
+loop-k-init c = (omega arith, refl, search each_loop)
+
+pub loop-k-preserved : goal.loop-k-preserved
+loop-k-preserved c = (omega arith, simp length-set (omega arith), search (each_loop, id_step))
