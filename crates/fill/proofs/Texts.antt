@@ -1,10 +1,8 @@
 -- Lines put together piece by piece, and the answers they show. Assumes nothing.
-use Prim.Native.Nat.{ℕ, ◌+◌, ◌*◌, ◌/◌, ◌≤◌}
-use mathlib.Core.Path.{◌≡◌, refl, sym, ap, subst, ◌∙◌}
-use mathlib.Core.Bool.{cond}
+use Prim.Native.Nat.{ℕ, ◌+◌, ◌*◌, ◌≤◌}
+use mathlib.Core.Path.{◌≡◌, sym, ap, subst, ◌∙◌}
 use mathlib.Core.List.{List, [], ◌∷◌}
 use native.Mathlib.Omega.{arith}
-use lib.Dec.{eqb}
 use lib.ListN.{length, get_or, drop, length-append}
 use borrow.Author.Tests.{eq-eqb, ne_eqb}
 use Rattle.model.specs.Loops.{join_below}
@@ -15,13 +13,13 @@ use Rattle.model.specs.Calls.{Outcome, refused_at, refused, taken, read_call, fi
 use Rattle.model.proofs.Calls.{either_end}
 use Rattle.model.proofs.Fields.{additions_fit}
 use Rattle.putting.specs.Put.{Put}
-use Rattle.putting.proofs.Putting.{put_same_length, put_then, four_pieces, pieces_goes}
+use Rattle.putting.proofs.Putting.{put_then, four_pieces, pieces_goes}
 use Rattle.text.specs.Ascii.{ascii}
 use Rattle.text.specs.Lines.{labelled, line}
 use Rattle.additions.specs.declared.Addition.{Addition}
 use Rattle.additions.specs.Listed.{blank, AdditionOf}
 use Rattle.engine.specs.Outcomes.{leaves, writes}
-use Rattle.fill.specs.Lines.{record_line, record_at, added_lines, fill_text, fills_to, fill_of, read_and_filled}
+use Rattle.fill.specs.Lines.{record_line, record_at, added_lines, fills_to, read_and_filled}
 
 -- ---- each piece behind the one before it
 
@@ -53,14 +51,8 @@ module _ (m m₁ : Memory) (list out₁ : List ℕ) (r n : ℕ) (b : list ≡ bl
   fills_to_lem : writes m₁ out₁ (r ∷ n ∷ []) ≡ fills_to m
   fills_to_lem = e ∙ ap (fill_call m) b
 
-  pub filled_memory : m₁ ≡ (fills_to m).memory
-  filled_memory = ap (λ (o : Outcome). o.memory) fills_to_lem
-
   pub filled_number : r ≡ get_or (fills_to m).answer 0 0
   filled_number = ap (λ (o : Outcome). get_or o.answer 0 0) fills_to_lem
-
-  pub filled_put : (o p : List ℕ) (g : ℕ) → Put o 0 (fill_text (r ∷ n ∷ []) out₁) p g → Put o 0 (fill_of m) p g
-  filled_put o p g P = subst (λ (l : List ℕ). Put o 0 l p g) (ap (λ (o : Outcome). fill_text o.answer o.out) fills_to_lem) P
 
 -- ---- reading, and filling where that is taken: r is the refusal that reading answered
 
@@ -80,9 +72,6 @@ module _ (m m₁ : Memory) (im : List ℕ) (r place : ℕ) (e : leaves m₁ (r �
       rw (number, eq-eqb r 0 z) (f ∙ ap (λ (m : Memory). (fills_to m).memory) same, g ∙ ap (λ (m : Memory). get_or (fills_to m).answer 0 0) same)
 
 -- ---- what is printed and what is written fits its memory
-
-pub put_within : (o : List ℕ) (a : ℕ) (bs p : List ℕ) (e : ℕ) → Put o a bs p e → e ≤ length p
-put_within o a bs p e P = omega (arith, P.fits, P.ends, put_same_length o a bs p e P)
 
 pub image_within : (m : Memory) (v : ℕ) (out out₁ : List ℕ) (r n : ℕ) → writes m out₁ (r ∷ n ∷ []) ≡ write_call m v out → n ≤ length out₁
 unfolding write_call refused_at taken

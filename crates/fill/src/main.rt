@@ -1,34 +1,37 @@
 // Reads an image from standard input, fills its short entries, and prints each addition, document 02's Ticket 10; with a file name as its argument it writes
 // the filled image there, of the version that it was read in.
+#![tactic(auto)]
+
 ghost use Rattle.std.specs.Prelude.{◌≡◌, length};
 
 mod lines;
 
 use image_fields::header;
-use libc::{STDIN_FILENO, STDOUT_FILENO};
+use input::read_full;
 use state::lent::{STATE_LENGTH, TABLES_LENGTH};
+use std::rt::Files;
+use std::{env, fs, io};
 
 // Writes the bytes to a file of this name, which is made or emptied first, and answers whether that went well.
-fn keep(path: &[u8], image: &[u8]) -> bool {
-    let fd = os::open_overwrite(path);
-    if fd < 0 {
-        return false;
-    }
-    let is_written = io::write_all(fd, image);
-    libc::close(fd);
-    is_written
+fn keep(rt: &impl Files, name: &str, image: &[u8]) -> bool {
+    fs::write(rt, name, image).is_ok()
 }
 
-// Writes the image of this version to the file that the argument names.
-fn save(state: &[u64], tables: &[u8], version: u64) {
-    let mut path = [0u8; 4096];
-    let n = os::arg(1, &mut path);
+// Writes the image of this version to the file of this name.
+fn save(
+    rt: &(impl Files + Print),
+    name: &str,
+    state: &[u64],
+    tables: &[u8],
+    version: u64,
+) -> io::Result<()> {
     let mut image = [0u8; 25226];
     let written = engine::writing::write(state, tables, version, &mut image);
     let length = written.bytes as usize;
-    if !keep(&path[..n], &image[..length]) {
-        io::write_all(STDOUT_FILENO, b"the file cannot be written\n");
+    if !keep(rt, name, &image[..length]) {
+        rt.write_all(b"the file cannot be written\n")?;
     }
+    Ok(())
 }
 
 // The memory for the lines.
@@ -38,24 +41,28 @@ fn room() -> [u8; 524288]
     [0; 524288]
 }
 
-fn run(named: bool) {
+fn run(rt: &(impl Files + Input + Print), name: Option<String>) -> io::Result<()> {
     let mut image = [0u8; 65536];
-    let n = io::read_full(STDIN_FILENO, &mut image);
+    let n = read_full(&mut rt.reader(), &mut image);
     let mut state = [0u64; STATE_LENGTH];
     let mut tables = [0u8; TABLES_LENGTH];
     let mut out = room();
     let printed = lines::lines(&mut state, &mut tables, &image[..n], &mut out);
-    io::write_all(STDOUT_FILENO, &out[..printed.end]);
-    if named && printed.refusal == 0 {
-        save(&state, &tables, header::byte(&image, 1) as u64);
+    let is_printed = rt.write_all(&out[..printed.end]);
+    if let Some(name) = name
+        && printed.refusal == 0
+    {
+        let version = header::byte(&image, 1) as u64;
+        save(rt, name.as_str(), &state, &tables, version)?;
     }
+    is_printed
 }
 
-fn main() {
-    let arguments = os::arg_count();
-    if 2 < arguments {
-        io::write_all(STDOUT_FILENO, b"one file at most\n");
-        return;
+fn main(rt: HostRuntime) -> io::Result<()> {
+    let mut names = env::args(&rt)?.skip(1);
+    let name = names.next();
+    if names.next().is_some() {
+        return rt.write_all(b"one file at most\n");
     }
-    run(arguments == 2);
+    run(&rt, name)
 }
