@@ -1,37 +1,32 @@
 -- The lines of a script, one more with each turn. Assumes nothing.
-use Prim.Native.Nat.{ℕ, suc, ◌+◌, ◌-◌, ◌≤◌, ◌<◌}
-use mathlib.Core.Path.{◌≡◌, refl, sym, ap, ap₂, subst, ◌∙◌}
-use mathlib.Core.Bool.{Bool, true, false, cond, ◌&&◌}
-use mathlib.Core.List.{List, [], ◌∷◌}
-use native.Mathlib.Omega.{arith}
-use lib.Dec.{eqb}
-use lib.ListN.{length, take, drop, length-drop, drop_of_length-le}
-use lib.Seq.{take-length, drop-drop}
+use Rattle.std.proofs.Common.{◌≡◌, refl, sym, ap, ap₂, subst, ◌∙◌, ℕ, suc, ◌+◌, ◌-◌, ◌≤◌, ◌<◌, Bool, true, false, cond, ◌&&◌, List, [], ◌∷◌, length, take, drop, eqb, arith}
+use Rattle.std.proofs.Math.ListN.{drop_of_length-le}
+use Rattle.std.proofs.lemmas.List.{length-drop}
+use lib.Seq.{drop-drop}
 use borrow.Author.Tests.{le-leb}
-use Rattle.bytes.specs.Bytes.{slice, index_after, index_of}
 use Rattle.model.specs.Memory.{Memory}
-use Rattle.script.specs.Words.{part}
+use Rattle.script.specs.Words.{until, part}
 use Rattle.script.specs.Commands.{command_of}
-use Rattle.replay.specs.Script.{in_front, lines_of, Turn, Follows}
+use Rattle.replay.specs.Script.{in_front, ends_line, lines_of, Turn, Follows}
 
 -- a text that is not empty: its first line, and the lines behind that line's end
 FirstLine : List ℕ → Type 0
-FirstLine text = lines_of text ≡ take (index_of 10 text) text ∷ lines_of (drop (suc (index_of 10 text)) text)
+FirstLine text = lines_of text ≡ take (until ends_line text) text ∷ lines_of (drop (suc (until ends_line text)) text)
 
 first_line : (b : ℕ) (bs : List ℕ) → FirstLine (b ∷ bs)
-unfolding FirstLine lines_of index_of index_after
+unfolding FirstLine lines_of until ends_line
 first_line b [] = go (eqb b 10)
   where
     go : (ends : Bool)
         → cond ends ([] ∷ []) ((b ∷ []) ∷ [])
-        ≡ take (index_after ends 0) (b ∷ []) ∷ lines_of (drop (suc (index_after ends 0)) (b ∷ []))
+        ≡ take (cond ends 0 1) (b ∷ []) ∷ lines_of (drop (suc (cond ends 0 1)) (b ∷ []))
     go true = refl
     go false = refl
 first_line b (c ∷ cs) = go (eqb b 10) (first_line c cs)
   where
     go : (ends : Bool) → FirstLine (c ∷ cs)
         → cond ends ([] ∷ lines_of (c ∷ cs)) (in_front b (lines_of (c ∷ cs)))
-        ≡ take (index_after ends (index_of 10 (c ∷ cs))) (b ∷ c ∷ cs) ∷ lines_of (drop (suc (index_after ends (index_of 10 (c ∷ cs)))) (b ∷ c ∷ cs))
+        ≡ take (cond ends 0 (suc (until ends_line (c ∷ cs)))) (b ∷ c ∷ cs) ∷ lines_of (drop (suc (cond ends 0 (suc (until ends_line (c ∷ cs))))) (b ∷ c ∷ cs))
     go true h = refl
     go false h = ap (in_front b) h
 
@@ -39,12 +34,12 @@ some_lines : (text : List ℕ) → 0 < length text → FirstLine text
 some_lines [] l = absurd (omega arith)
 some_lines (b ∷ bs) l = first_line b bs
 
-index_le : (b : ℕ) (text : List ℕ) → index_of b text ≤ length text
-unfolding index_of index_after
-index_le b [] = omega arith
-index_le b (x ∷ text) = go (eqb x b) (index_le b text)
+until_le : (text : List ℕ) → until ends_line text ≤ length text
+unfolding until
+until_le [] = omega arith
+until_le (b ∷ text) = go (ends_line b) (until_le text)
   where
-    go : (is : Bool) → index_of b text ≤ length text → index_after is (index_of b text) ≤ suc (length text)
+    go : (ends : Bool) → until ends_line text ≤ length text → cond ends 0 (suc (until ends_line text)) ≤ suc (length text)
     go true h = omega arith
     go false h = omega arith
 
@@ -62,32 +57,22 @@ so_far_ends script at m₀ m l before =
     before m (subst (λ (text : List ℕ). Follows (lines_of text) m m) (sym (drop_of_length-le script l)) refl)
 
 -- the part that the code plays, and what is left of the script behind it
-module _ (script : List ℕ) (at end : ℕ) (l : at < length script) (e : end ≡ at + index_of 10 (slice at (length script) script)) where
-  left : List ℕ
-  left = drop at script
+module _ (script : List ℕ) (at end : ℕ) (l : at < length script) (e : end ≡ at + until ends_line (drop at script)) where
+  pub within : end ≤ length script
+  within = omega (arith, e, until_le (drop at script), length-drop at script)
 
-  whole : slice at (length script) script ≡ drop at script
-  unfolding slice
-  whole = ap (drop at) (take-length script)
-
-  place : end ≡ at + index_of 10 (drop at script)
-  place = e ∙ ap (λ (text : List ℕ). at + index_of 10 text) whole
-
-  within : end ≤ length script
-  within = omega (arith, place, index_le 10 (drop at script), length-drop at script)
-
-  line_is : part script at end ≡ take (index_of 10 (drop at script)) (drop at script)
+  line_is : part script at end ≡ take (until ends_line (drop at script)) (drop at script)
   unfolding part
   line_is =
-      let w : end - at ≡ index_of 10 (drop at script) = omega (arith, place) in
-      ap₂ (λ (a b : Bool). cond (a && b) (take (end - at) (drop at script)) []) (le-leb end (length script) within) (le-leb at end (omega (arith, place)))
+      let w : end - at ≡ until ends_line (drop at script) = omega (arith, e) in
+      ap₂ (λ (a b : Bool). cond (a && b) (take (end - at) (drop at script)) []) (le-leb end (length script) within) (le-leb at end (omega (arith, e)))
       ∙ ap (λ (n : ℕ). take n (drop at script)) w
 
   lines_split : lines_of (drop at script) ≡ part script at end ∷ lines_of (drop (end + 1) script)
   unfolding FirstLine
   lines_split =
-      let k : ℕ = index_of 10 (drop at script) in
-      let n : at + suc (index_of 10 (drop at script)) ≡ end + 1 = omega (arith, place) in
+      let k : ℕ = until ends_line (drop at script) in
+      let n : at + suc (until ends_line (drop at script)) ≡ end + 1 = omega (arith, e) in
       let some : 0 < length (drop at script) = omega (arith, length-drop at script) in
       some_lines (drop at script) some
       ∙ ap₂ (λ (line : List ℕ) (rest : List ℕ). line ∷ lines_of rest) (sym line_is)

@@ -1,7 +1,7 @@
 -- What one line does to the network, and what is said of it. Assumes nothing.
 use Prim.Native.Nat.{ℕ, ◌+◌, ◌*◌, ◌≤◌, ◌<◌}
 use mathlib.Core.Path.{◌≡◌, refl, sym, ap, ap₂, subst, ◌∙◌}
-use mathlib.Core.List.{List, []}
+use mathlib.Core.List.{List}
 use native.Mathlib.Omega.{arith}
 use lib.ListN.{length, get_or, drop}
 use lib.Seq.{get_or-drop}
@@ -28,11 +28,9 @@ use Rattle.replay_survey.specs.Showable.{Showable}
 use Rattle.replay_refusals.specs.Refused.{refused_text}
 use Rattle.replay_words.specs.Said.{said}
 use Rattle.replay_words.specs.Sayable.{Sayable}
-use Rattle.script.specs.Commands.{command_of}
 use Rattle.script.specs.declared.command.Command.{Command}
 use Rattle.script.specs.declared.command.Command.TheVariants as is
-use Rattle.replay.specs.Said.{or_refused, panel_said, table_said, unknown_said, command_said, command_after}
-use Rattle.replay.specs.Script.{Filled, Saved, Loaded, Traced, Turn}
+use Rattle.replay.specs.Said.{or_refused, unknown_said, command_said, command_after}
 
 -- ---- a call, played
 
@@ -113,14 +111,8 @@ module _ (m : Memory) (number : ℕ) (command : Command) where
   says : (c : Command) → command ≡ c → (o p : List ℕ) (g : ℕ) → Put o 0 (command_said m number c) p g → Put o 0 (command_said m number command) p g
   says c e o p g P = subst (λ (c : Command). Put o 0 (command_said m number c) p g) (sym e) P
 
-  pub call_leaves : (c : Call) → command ≡ is.Call c → (m₁ : Memory) → m₁ ≡ after m (called [] [] c) → m₁ ≡ command_after m command
-  call_leaves c e = leaves (is.Call c) e
-
   pub nothing_leaves : command ≡ is.Nothing → m ≡ command_after m command
   nothing_leaves e = leaves is.Nothing e m refl
-
-  pub unknown_leaves : command ≡ is.Unknown → m ≡ command_after m command
-  unknown_leaves e = leaves is.Unknown e m refl
 
   pub fill_leaves : command ≡ is.Fill → m ≡ command_after m command
   fill_leaves e = leaves is.Fill e m refl
@@ -133,26 +125,6 @@ module _ (m : Memory) (number : ℕ) (command : Command) where
 
   pub trace_leaves : command ≡ is.Trace → m ≡ command_after m command
   trace_leaves e = leaves is.Trace e m refl
-
-  pub panel_leaves : command ≡ is.Panel → m ≡ command_after m command
-  panel_leaves e = leaves is.Panel e m refl
-
-  pub table_leaves : (x : ℕ) → command ≡ is.Table x → m ≡ command_after m command
-  table_leaves x e = leaves (is.Table x) e m refl
-
-  module _ (o p : List ℕ) (g : ℕ) where
-    pub unknown_says : command ≡ is.Unknown → Put o 0 (unknown_said number) p g → Put o 0 (command_said m number command) p g
-    unknown_says e = says is.Unknown e o p g
-
-    pub call_says : (c : Call) → command ≡ is.Call c → Put o 0 (said (digits m.state) [] c (padded (step m (called [] [] c)).answer)) p g
-        → Put o 0 (command_said m number command) p g
-    call_says c e = says (is.Call c) e o p g
-
-    pub panel_says : command ≡ is.Panel → Put o 0 (panel_said m) p g → Put o 0 (command_said m number command) p g
-    panel_says e = says is.Panel e o p g
-
-    pub table_says : (x : ℕ) → command ≡ is.Table x → Put o 0 (table_said m x) p g → Put o 0 (command_said m number command) p g
-    table_says x e = says (is.Table x) e o p g
 
   module _ (o : List ℕ) where
     pub nothing_says : command ≡ is.Nothing → Put o 0 (command_said m number command) o 0
@@ -169,36 +141,3 @@ module _ (m : Memory) (number : ℕ) (command : Command) where
 
     pub trace_says : command ≡ is.Trace → Put o 0 (command_said m number command) o 0
     trace_says e = says is.Trace e o o 0 (put_none o 0 (omega arith))
-
-module _ (line : List ℕ) (m m₁ : Memory) (command : Command) (e : command ≡ command_of line) where
-  by_command : (c : Command) → command ≡ c → Turn c m m₁ → Turn (command_of line) m m₁
-  by_command c f turn = subst (λ (c : Command). Turn c m m₁) (sym f ∙ e) turn
-
-  pub line_fill : command ≡ is.Fill → Filled m m₁ → Turn (command_of line) m m₁
-  line_fill f h = by_command is.Fill f h
-
-  pub line_save : (v : ℕ) → command ≡ is.Save v → Saved v m m₁ → Turn (command_of line) m m₁
-  line_save v f h = by_command (is.Save v) f h
-
-  pub line_load : command ≡ is.Load → Loaded m m₁ → Turn (command_of line) m m₁
-  line_load f h = by_command is.Load f h
-
-  pub line_trace : command ≡ is.Trace → Traced m m₁ → Turn (command_of line) m m₁
-  line_trace f h = by_command is.Trace f h
-
-  -- a line that needs no file
-  module _ (h : m₁ ≡ command_after m command) where
-    pub line_nothing : command ≡ is.Nothing → Turn (command_of line) m m₁
-    line_nothing f = by_command is.Nothing f (h ∙ ap (command_after m) f)
-
-    pub line_unknown : command ≡ is.Unknown → Turn (command_of line) m m₁
-    line_unknown f = by_command is.Unknown f (h ∙ ap (command_after m) f)
-
-    pub line_call : (c : Call) → command ≡ is.Call c → Turn (command_of line) m m₁
-    line_call c f = by_command (is.Call c) f (h ∙ ap (command_after m) f)
-
-    pub line_panel : command ≡ is.Panel → Turn (command_of line) m m₁
-    line_panel f = by_command is.Panel f (h ∙ ap (command_after m) f)
-
-    pub line_table : (x : ℕ) → command ≡ is.Table x → Turn (command_of line) m m₁
-    line_table x f = by_command (is.Table x) f (h ∙ ap (command_after m) f)

@@ -1,6 +1,6 @@
 -- What a script does to the network: its lines one after another, each by the book's call. What a file holds is not known here: a line
 -- that loads or traces one has some bytes, or does nothing where the file cannot be read.
-use Rattle.std.specs.Prelude.{ℕ, ◌≡◌, ◌⊎◌, true, cond, List, [], ◌∷◌, ◌++◌, eqb}
+use Rattle.std.specs.Prelude.{ℕ, ◌≡◌, ◌⊎◌, Bool, true, cond, List, [], ◌∷◌, ◌++◌, eqb}
 use Rattle.model.specs.Memory.{Memory}
 use Rattle.model.specs.Run as book
 use Rattle.model.specs.Run.{after, play, is_run}
@@ -16,6 +16,10 @@ use Rattle.script.specs.declared.command.Command.TheVariants.{Nothing, Unknown, 
 abbrev pub in_front : ℕ → List (List ℕ) → List (List ℕ)
 in_front b [] = (b ∷ []) ∷ []
 in_front b (line ∷ lines) = (b ∷ line) ∷ lines
+
+-- byte 10 ends a line
+unfoldable pub ends_line : ℕ → Bool
+ends_line b = eqb b 10
 
 -- the lines of a script: byte 10 ends one, and the last may do without
 unfoldable pub lines_of : List ℕ → List (List ℕ)

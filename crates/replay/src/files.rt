@@ -4,21 +4,34 @@ ghost use Rattle.replay.specs.Script.{Saved, FilePlayed, Loaded, Traced};
 
 use crate::said::played;
 use calls::Call;
-use libc::STDOUT_FILENO;
+use input::read_full;
 use script::words::part;
+use std::rt::Files;
+use std::{fs, io, str};
 
 // Writes the bytes to a file of this name, which is made or emptied first, and answers whether that went well.
-fn keep(path: &[u8], image: &[u8]) -> bool {
-    let fd = os::open_overwrite(path);
-    if fd < 0 {
-        return false;
+fn keep(rt: &impl Files, path: &[u8], image: &[u8]) -> bool {
+    match str::from_utf8(path) {
+        Ok(name) => fs::write(rt, name, image).is_ok(),
+        Err(_) => false,
     }
-    let is_written = io::write_all(fd, image);
-    libc::close(fd);
-    is_written
 }
 
-pub fn save(state: &mut [u64], tables: &mut [u8], path: &[u8], version: u64)
+// The file of this name, opened to be read.
+fn opened<R: Files>(rt: &R, path: &[u8]) -> Option<R::File> {
+    match str::from_utf8(path) {
+        Ok(name) => fs::open(rt, name).ok(),
+        Err(_) => None,
+    }
+}
+
+pub fn save(
+    rt: &(impl Files + Print),
+    state: &mut [u64],
+    tables: &mut [u8],
+    path: &[u8],
+    version: u64,
+) -> io::Result<()>
     ensures { Saved version (memory state.old tables.old) (memory state.new tables.new) }
 {
     let none = [0u8; 0];
@@ -28,52 +41,67 @@ pub fn save(state: &mut [u64], tables: &mut [u8], path: &[u8], version: u64)
     let r = played(state, tables, &none, &mut image, call, &mut words);
     let w = r.answer;
     if w.refusal == 0 {
-        if !keep(path, part(&image, 0, w.fields[0] as usize)) {
-            io::write_all(STDOUT_FILENO, b"save: the file cannot be written\n");
-            return;
+        if !keep(rt, path, part(&image, 0, w.fields[0] as usize)) {
+            return rt.write_all(b"save: the file cannot be written\n");
         }
     }
-    io::write_all(STDOUT_FILENO, part(&words, 0, r.end));
+    rt.write_all(part(&words, 0, r.end))
 }
 
 // Plays the call of what the file holds, of at most 65,536 bytes; where it cannot be opened, says so by `unread`.
-fn play(state: &mut [u64], tables: &mut [u8], path: &[u8], call: Call, unread: &[u8])
+fn play(
+    rt: &(impl Files + Print),
+    state: &mut [u64],
+    tables: &mut [u8],
+    path: &[u8],
+    call: Call,
+    unread: &[u8],
+) -> io::Result<()>
     ensures { FilePlayed call (memory state.old tables.old) (memory state.new tables.new) }
 {
-    let fd = os::open_read(path);
-    if fd < 0 {
-        io::write_all(STDOUT_FILENO, unread);
-        return;
-    }
+    let Some(mut opened) = opened(rt, path) else {
+        return rt.write_all(unread);
+    };
     let mut none = [0u8; 0];
     let mut file = [0u8; 65536];
-    let n = io::read_full(fd, &mut file);
-    libc::close(fd);
+    let n = read_full(&mut opened, &mut file);
     let mut words = [0u8; 1024];
     let r = played(state, tables, &file[..n], &mut none, call, &mut words);
-    io::write_all(STDOUT_FILENO, part(&words, 0, r.end));
+    rt.write_all(part(&words, 0, r.end))
 }
 
-pub fn load(state: &mut [u64], tables: &mut [u8], path: &[u8])
+pub fn load(
+    rt: &(impl Files + Print),
+    state: &mut [u64],
+    tables: &mut [u8],
+    path: &[u8],
+) -> io::Result<()>
     ensures { Loaded (memory state.old tables.old) (memory state.new tables.new) }
 {
     play(
+        rt,
         state,
         tables,
         path,
         Call::Read,
         b"load: the file cannot be read\n",
-    );
+    )
 }
 
-pub fn trace(state: &mut [u64], tables: &mut [u8], path: &[u8])
+pub fn trace(
+    rt: &(impl Files + Print),
+    state: &mut [u64],
+    tables: &mut [u8],
+    path: &[u8],
+) -> io::Result<()>
     ensures { Traced (memory state.old tables.old) (memory state.new tables.new) }
 {
     play(
+        rt,
         state,
         tables,
         path,
         Call::Trace,
         b"trace: the file cannot be read\n",
-    );
+    )
 }

@@ -7,26 +7,26 @@ use crate::room;
 use crate::said::played;
 use additions::{LONGEST, blank};
 use calls::Call;
-use libc::STDOUT_FILENO;
 use script::words::part;
+use std::io;
 
 // A line for each of the first n additions of the list.
-fn print(list: &[u8; LONGEST], n: usize)
+fn print(rt: &impl Print, list: &[u8; LONGEST], n: usize) -> io::Result<()>
     requires { 4 * n ≤ 21504 }
 {
     let mut lines = room();
     let end = replay_entries::additions(&mut lines, list, n);
-    io::write_all(STDOUT_FILENO, part(&lines, 0, end));
+    rt.write_all(part(&lines, 0, end))
 }
 
-pub fn fill(state: &mut [u64], tables: &mut [u8])
+pub fn fill(rt: &impl Print, state: &mut [u64], tables: &mut [u8]) -> io::Result<()>
     ensures { Filled (memory state.old tables.old) (memory state.new tables.new) }
 {
     let none = [0u8; 0];
     let mut list = blank();
     let mut words = [0u8; 1024];
     let r = played(state, tables, &none, &mut list, Call::Fill, &mut words);
-    io::write_all(STDOUT_FILENO, part(&words, 0, r.end));
+    rt.write_all(part(&words, 0, r.end))?;
     let w = r.answer;
-    print(&list, w.fields[0] as usize);
+    print(rt, &list, w.fields[0] as usize)
 }

@@ -1,9 +1,8 @@
 -- Entries put together piece by piece. Assumes nothing.
-use Prim.Native.Nat.{ℕ, ◌+◌, ◌*◌, ◌%◌}
-use mathlib.Core.Path.{◌≡◌, sym, ap, subst}
+use Prim.Native.Nat.{ℕ, ◌+◌, ◌%◌}
+use mathlib.Core.Path.{◌≡◌, ap, subst}
 use mathlib.Core.List.{List, [], ◌∷◌}
 use native.Mathlib.Omega.{arith}
-use lib.ListN.{get_or}
 use Rattle.model.specs.Loops.{join_below}
 use Rattle.putting.specs.Put.{Put}
 use Rattle.putting.proofs.Putting.{put_then, four_pieces, pieces_goes}

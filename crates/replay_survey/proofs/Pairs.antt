@@ -2,11 +2,11 @@
 use Prim.Native.Nat.{ℕ, ◌*◌, ◌≤◌, ◌<◌}
 use mathlib.Core.Path.{◌≡◌, ap, ◌∙◌}
 use mathlib.Core.List.{List}
-use native.Mathlib.Nat.{le_antisymm, div-lt_iff_lt-mul}
+use native.Mathlib.Nat.{le_antisymm}
 use native.Mathlib.Omega.{arith}
 use Rattle.model.specs.Loops.{sum_below}
 use Rattle.model.proofs.Sums.{sum_at}
-use Rattle.replay_survey.specs.SurveyText.{pairs_at, all_pairs, marks}
+use Rattle.replay_survey.specs.SurveyText.{pairs_at, all_pairs}
 use Rattle.replay_survey.specs.Showable.{Pairs, Share}
 
 pub pairs_ends : (C : List ℕ) (k pairs : ℕ) → pairs ≡ sum_below k (pairs_at C) → k ≤ 9 → 9 ≤ k → pairs ≤ 4096 * k → Pairs C pairs
@@ -16,9 +16,3 @@ pairs_ends C k pairs e l g m = record { are = e ∙ ap (λ (k : ℕ). sum_below 
 pub share_of : (C : List ℕ) (k pairs : ℕ) → k < 9 → Pairs C pairs → Share (pairs_at C k) pairs
 unfolding all_pairs
 share_of C k pairs l all = record { among = omega (arith, sum_at 9 (pairs_at C) k l); most = all.most }
-
-pub few_marks : (count pairs : ℕ) → Share count pairs → (count ≡ 0 → ⊥) → marks count pairs ≤ 50
-few_marks count pairs s nz =
-    let some : 0 < pairs = omega arith in
-    let below : marks count pairs < 51 = (div-lt_iff_lt-mul some).1 (omega arith) in
-    omega arith

@@ -1,25 +1,20 @@
 -- What was put is what is said, by the number or the call that decides it. Assumes nothing.
 use Prim.Native.Nat.{ℕ}
-use mathlib.Core.Path.{◌≡◌, refl, sym, ap, subst}
-use mathlib.Core.List.{List, [], ◌∷◌}
-use native.Mathlib.Omega.{arith}
-use lib.ListN.{length, get_or}
+use mathlib.Core.Path.{◌≡◌}
+use mathlib.Core.List.{List}
+use lib.ListN.{get_or}
 use borrow.Author.Tests.{eq-eqb, ne_eqb}
-use Rattle.model.specs.Traces.{path_count}
 use Rattle.putting.specs.Put.{Put}
 use Rattle.putting.proofs.Putting.{put_then}
 use Rattle.text.specs.Ascii.{ascii}
 use Rattle.text.specs.Lines.{labelled}
 use Rattle.text.proofs.Pieces.{by_key}
 use Rattle.calls.specs.declared.Call.{Call}
-use Rattle.calls.specs.declared.Call.TheVariants.{Survey}
 use Rattle.replay_calls.specs.Answered.{listed}
 use Rattle.replay_calls.specs.declared.answer.Words.{Words}
-use Rattle.replay_survey.specs.Showable.{Showable}
 use Rattle.replay_entries.specs.EntryText.{place_text}
 use Rattle.replay_refusals.specs.Refused.{refused_text}
-use Rattle.replay_words.specs.Said.{bytes_text, kind_text, settled_text, deliver_text, end_text, count_text, hops_text, lookup_text, short_text, judged_text, paths_text, taken_text, said}
-use Rattle.replay_words.specs.Sayable.{Sayable}
+use Rattle.replay_words.specs.Said.{bytes_text, kind_text, settled_text, deliver_text, end_text, count_text, hops_text, lookup_text, short_text, judged_text, taken_text, said}
 
 -- ---- a number or a call decides
 
@@ -83,17 +78,6 @@ pub short_put : (x i j : ℕ) (o : List ℕ) (a : ℕ) (p : List ℕ) (g : ℕ) 
 unfolding short_text
 short_put x i j o a p g q h P Q = put_then o a _ p g _ q h P Q
 
--- ---- a trace that was accepted
-
--- the count of paths is 0 where there is no byte
-pub no_paths : (trace : List ℕ) → length trace ≡ 0 → 0 ≡ path_count trace
-no_paths [] e = refl
-no_paths (b ∷ trace) e = absurd (omega arith)
-
-pub paths_put : (trace : List ℕ) (n : ℕ) (o : List ℕ) (a : ℕ) (p : List ℕ) (g : ℕ) → n ≡ path_count trace → Put o a (paths_text n) p g
-    → Put o a (paths_text (path_count trace)) p g
-paths_put trace n o a p g e P = by_key paths_text (path_count trace) n (sym e) o a p g P
-
 -- ---- the answer
 
 module _ (w : Words) (o : List ℕ) (a : ℕ) (p : List ℕ) (g : ℕ) where
@@ -113,6 +97,3 @@ module _ (w : Words) (o : List ℕ) (a : ℕ) (p : List ℕ) (g : ℕ) where
     pub said_taken : w.refusal ≡ 0 → Put o a (taken_text d file c (listed w)) p g → Put o a (said d file c (listed w)) p g
     unfolding said
     said_taken h P = rw (eq-eqb w.refusal 0 h) P
-
-pub survey_fits : (d : ℕ) (c : Call) (w : Words) (failed : ℕ) → Sayable d c (listed w) → c ≡ Survey failed → w.refusal ≡ 0 → Showable d w.fields
-survey_fits d c w failed s e z = s.survey failed e z

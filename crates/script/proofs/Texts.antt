@@ -1,14 +1,15 @@
 -- Laws of texts: the same text, no text, a part of a text. Assumes nothing.
 use Prim.Native.Nat.{ℕ, ◌-◌, ◌≤◌, ◌<◌}
-use mathlib.Core.Path.{◌≡◌, refl, sym, ap, ap₂, ◌∙◌}
-use mathlib.Core.Bool.{Bool, true, false, not, ◌&&◌, and-eq-true_iff, true≢false}
+use mathlib.Core.Path.{◌≡◌, refl, sym, ap, ◌∙◌}
+use mathlib.Core.Bool.{Bool, true, not, ◌&&◌}
 use mathlib.Core.List.{List, [], ◌∷◌}
 use native.Mathlib.Omega.{arith}
 use lib.Dec.{eqb, eqb-suc-zero}
 use lib.ListN.{length, take, drop}
-use borrow.Author.Tests.{eqb-true, eq-eqb, ne_eqb, le-leb, lt-leb}
+use lib.Pointwise.{pointwise}
+use borrow.Author.Tests.{eq-eqb, ne_eqb, le-leb, lt-leb}
 use Rattle.script.specs.declared.words.Mark.{Mark}
-use Rattle.script.specs.declared.words.Mark.TheVariants.{Blank, Solid, Hash}
+use Rattle.script.specs.declared.words.Mark.TheVariants.{Solid, Hash}
 use Rattle.script.specs.Marks.{marked}
 use Rattle.script.specs.Words.{is_blank, is_solid, is_hash, first_word, is_empty, same_text, starts, part}
 
@@ -32,9 +33,6 @@ module _ (mark : Mark) (b : ℕ) (r : Bool) where
   by_mark : (k : Mark) → mark ≡ k → r ≡ marked k b → r ≡ marked mark b
   by_mark k e f = f ∙ ap (λ (k : Mark). marked k b) (sym e)
 
-  pub blank_is : mark ≡ Blank → r ≡ is_blank b → r ≡ marked mark b
-  blank_is e f = by_mark Blank e f
-
 pub hash_is : (mark : Mark) (b : ℕ) → mark ≡ Hash → eqb b 35 ≡ marked mark b
 unfolding is_hash
 hash_is mark b e = by_mark mark b (eqb b 35) Hash e refl
@@ -45,32 +43,17 @@ solid_is mark b r e f = by_mark mark b (not r) Solid e (ap not f)
 
 -- ---- the same text
 
-same_refl : (s : List ℕ) → same_text s s ≡ true
+-- by what `==` at two slices ensures
+same_is : (s t : List ℕ) → pointwise eqb s t ≡ same_text s t
 unfolding same_text
-same_refl [] = refl
-same_refl (a ∷ s) = ap₂ ◌&&◌ (eq-eqb a a refl) (same_refl s)
+same_is [] [] = refl
+same_is [] (b ∷ t) = refl
+same_is (a ∷ s) [] = refl
+same_is (a ∷ s) (b ∷ t) = ap (λ (r : Bool). eqb a b && r) (same_is s t)
 
-same_eq : (s t : List ℕ) → same_text s t ≡ true → s ≡ t
-unfolding same_text
-same_eq [] [] e = refl
-same_eq [] (b ∷ t) e = absurd (true≢false (sym e))
-same_eq (a ∷ s) [] e = absurd (true≢false (sym e))
-same_eq (a ∷ s) (b ∷ t) e =
-    let w = (and-eq-true_iff (eqb a b) (same_text s t)).0 e in
-    ap₂ ◌∷◌ (eqb-true a b w.0) (same_eq s t w.1)
-
--- by what `check::same` ensures
-same_is : (s t : List ℕ) (r : Bool) → (r ≡ true → s ≡ t) × (s ≡ t → r ≡ true) → r ≡ same_text s t
-same_is s t r h = go r (same_text s t) (λ e. ap (same_text s) (sym (h.0 e)) ∙ same_refl s) (λ e. h.1 (same_eq s t e))
-  where
-    go : (a b : Bool) → (a ≡ true → b ≡ true) → (b ≡ true → a ≡ true) → a ≡ b
-    go true b p q = sym (p refl)
-    go false true p q = q refl
-    go false false p q = refl
-
-pub starts_is : (text name w : List ℕ) (r : Bool) → w ≡ first_word text → (r ≡ true → w ≡ name) × (w ≡ name → r ≡ true) → r ≡ starts text name
+pub starts_is : (text name w : List ℕ) (r : Bool) → w ≡ first_word text → r ≡ pointwise eqb w name → r ≡ starts text name
 unfolding starts
-starts_is text name w r q h = same_is w name r h ∙ ap (λ (v : List ℕ). same_text v name) q
+starts_is text name w r q h = h ∙ (same_is w name ∙ ap (λ (v : List ℕ). same_text v name) q)
 
 -- ---- no text
 

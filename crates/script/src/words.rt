@@ -29,7 +29,7 @@ fn is_blank(b: u8) -> bool
 }
 
 // What is looked for in a line: a blank, a byte that is none, or the sign of a comment.
-#[derive(Drop)]
+#[derive(Clone, Copy)]
 enum Mark {
     Blank,
     Solid,
@@ -96,7 +96,7 @@ pub fn wordless(text: &[u8]) -> bool
 pub fn starts(text: &[u8], name: &[u8]) -> bool
     ensures { result ≡ starts text.now name.now }
 {
-    check::same(first_word(text), name)
+    first_word(text) == name
 }
 
 // What stands behind the first k words of a text.

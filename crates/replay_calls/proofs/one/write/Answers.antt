@@ -1,0 +1,7 @@
+-- `write`: the words of the public call, and what it wrote. Assumes nothing.
+use Rattle.replay_calls.proofs.Ones.{words_of, write_out}
+use Rattle.replay_calls.proofs.one.write.Goals as goal
+
+pub returns : goal.returns
+returns c =
+    record { result_value = search words_of; out_after = search write_out }

@@ -1,0 +1,11 @@
+-- `hops`: each turn puts the next line behind the others. Assumes nothing.
+use native.Mathlib.Omega.{arith}
+use mathlib.Core.Path.{refl}
+use Rattle.putting.proofs.Putting.{pieces_none, pieces_goes}
+use Rattle.replay_survey.proofs.lines.hops.Goals as goal
+
+pub loop-k-init : goal.loop-k-init
+loop-k-init c = (omega arith, refl, pieces_none _ _ _ (omega arith), omega arith)
+
+pub loop-k-preserved : goal.loop-k-preserved
+loop-k-preserved c = (omega arith, omega arith, search pieces_goes, omega arith)

@@ -1,0 +1,6 @@
+-- `first_word`: up to the first blank behind the word's start. Assumes nothing.
+use Rattle.script.proofs.Cuts.{first_word_is}
+use Rattle.script.proofs.words.first_word.Goals as goal
+
+pub returns : goal.returns
+returns c = search first_word_is
