@@ -1,13 +1,13 @@
-//! Links the proved archive of the repository: `rt staticlib overlay` builds it.
+//! Links the proved archive of the repository: `rt lib` in crates/overlay builds it.
 
 use std::path::Path;
 
 fn main() {
-    let folder = Path::new(env!("CARGO_MANIFEST_DIR")).join("../target/staticlib");
+    let folder = Path::new(env!("CARGO_MANIFEST_DIR")).join("../crates/overlay/out");
     let archive = folder.join("liboverlay.a");
     assert!(
         archive.exists(),
-        "{} is missing: run `rt staticlib overlay` first",
+        "{} is missing: run `rt lib` in crates/overlay first",
         archive.display()
     );
     println!("cargo:rerun-if-changed={}", archive.display());

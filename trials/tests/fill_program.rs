@@ -7,12 +7,14 @@ mod images;
 #[path = "programs/pipes.rs"]
 mod pipes;
 
+use std::ffi::OsStr;
 use std::fs;
-use std::process::Command;
+use std::os::unix::ffi::OsStrExt;
+use std::process::{Command, Stdio};
 
 use folders::Folder;
 use images::ImageProgram;
-use pipes::{printed, root};
+use pipes::{built, printed, root};
 use trials::engine::Second;
 use trials::fills::{settled, with_additions};
 use trials::lent::Lent;
@@ -232,7 +234,7 @@ fn an_image_is_filled_in_its_own_file() {
         let folder = Folder::new();
         folder.put(&("own".into(), short.clone()));
         let own = folder.path().join("own");
-        let output = Command::new(root().join("target/bin/fill"))
+        let output = Command::new(built("fill"))
             .arg(&own)
             .stdin(fs::File::open(&own).expect("it is there"))
             .output()
@@ -242,6 +244,18 @@ fn an_image_is_filled_in_its_own_file() {
         let left = fs::read(&own).expect("it is there");
         assert!(left == filled(&short).unwrap_or(short), "seed {seed}");
     }
+}
+
+/// A name that is no UTF-8 text is no file's: the program ends with an error, and prints nothing.
+#[test]
+fn a_file_has_a_name_of_text() {
+    let output = Command::new(built("fill"))
+        .arg(OsStr::from_bytes(b"\xff"))
+        .stdin(Stdio::null())
+        .output()
+        .expect("it runs");
+    assert_eq!(output.status.code(), Some(1));
+    assert!(output.stdout.is_empty() && !output.stderr.is_empty());
 }
 
 /// Nothing is read and no file touched.

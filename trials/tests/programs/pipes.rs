@@ -1,4 +1,4 @@
-//! The programs of target/bin, run through pipes.
+//! The programs that `rt ci` built, run through pipes.
 
 use std::io::Write;
 use std::path::{Path, PathBuf};
@@ -9,12 +9,17 @@ pub fn root() -> PathBuf {
     Path::new(env!("CARGO_MANIFEST_DIR")).join("..")
 }
 
+/// Where a program stands once it is built.
+pub fn built(program: &str) -> PathBuf {
+    root().join(format!("crates/{program}/out/{program}"))
+}
+
 /// What a program with its arguments prints in this folder for this input, which goes to it in pieces of at most `piece` bytes.
 pub fn printed(command: &[&str], folder: &Path, input: &[u8], piece: usize) -> String {
     let [program, arguments @ ..] = command else {
         unreachable!("a program is named");
     };
-    let path = root().join("target/bin").join(program);
+    let path = built(program);
     let mut child = Command::new(&path)
         .args(arguments)
         .current_dir(folder)
@@ -22,9 +27,7 @@ pub fn printed(command: &[&str], folder: &Path, input: &[u8], piece: usize) -> S
         .stdout(Stdio::piped())
         .stderr(Stdio::piped())
         .spawn()
-        .unwrap_or_else(|error| {
-            panic!("{}: {error}; `rt check {program}` makes it", path.display())
-        });
+        .unwrap_or_else(|error| panic!("{}: {error}; `rt ci` makes it", path.display()));
     let mut pipe = child.stdin.take().expect("it is piped");
     let input = input.to_vec();
     let writer = thread::spawn(move || {

@@ -713,6 +713,21 @@ line 11: not understood
     assert_eq!(printed(long.as_bytes()), expected);
 }
 
+/// A name that is no UTF-8 text is that of no file.
+#[test]
+fn files_have_names_of_text() {
+    let script = b"found 2 2 1 0\nsave \xff\nload \xff\ntrace \xff\nsave \xc3\xa9\nload \xc3\xa9";
+    let expected = "\
+found: node 1
+save: the file cannot be written
+load: the file cannot be read
+trace: the file cannot be read
+save: 20 bytes
+load: 20 bytes
+";
+    assert_eq!(printed(script), expected);
+}
+
 #[test]
 fn images_are_kept_as_they_come_and_overlong_ones_meet_6_if_nothing_earlier() {
     let whole = fs::read(root().join("samples/network64.image")).expect("network64");

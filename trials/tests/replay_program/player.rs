@@ -1,10 +1,9 @@
 //! What replay must print and leave in its folder, by the second engine.
 
-use std::ffi::OsStr;
 use std::fs;
 use std::io::{Read, Write};
-use std::os::unix::ffi::OsStrExt;
 use std::path::PathBuf;
+use std::str;
 
 use trials::engine::{Engine, Second};
 use trials::second::memory::{COUNT, DIGITS, STATE_WORDS, TABLE_BYTES};
@@ -120,8 +119,18 @@ impl<'a> Player<'a> {
         }
     }
 
-    fn path(&self, file: &[u8]) -> PathBuf {
-        self.folder.path().join(OsStr::from_bytes(file))
+    /// A file's path. One whose name is no UTF-8 text cannot be opened.
+    fn path(&self, file: &[u8]) -> Option<PathBuf> {
+        Some(self.folder.path().join(str::from_utf8(file).ok()?))
+    }
+
+    /// Whether the file has these bytes now.
+    fn kept(&self, file: &[u8], image: &[u8]) -> bool {
+        let Some(path) = self.path(file) else {
+            return false;
+        };
+        let written = fs::File::create(path).and_then(|mut out| out.write_all(image));
+        written.is_ok()
     }
 
     /// A file is made, or emptied, only where writing is not refused.
@@ -130,10 +139,10 @@ impl<'a> Player<'a> {
         let answer = Second.write(&mut self.state, &mut self.tables, version, &mut image);
         said(answer, |answer| {
             let image = &image[..(answer >> 8) as usize];
-            let kept = fs::File::create(self.path(file)).and_then(|mut out| out.write_all(image));
-            match kept {
-                Ok(()) => format!("save: {} bytes", image.len()),
-                Err(_) => "save: the file cannot be written".into(),
+            if self.kept(file, image) {
+                format!("save: {} bytes", image.len())
+            } else {
+                "save: the file cannot be written".into()
             }
         })
     }
@@ -156,7 +165,7 @@ impl<'a> Player<'a> {
 
     /// What a file has, if it can be opened. A folder can be opened, and has no bytes.
     fn bytes(&self, file: &[u8]) -> Option<Vec<u8>> {
-        let mut opened = fs::File::open(self.path(file)).ok()?;
+        let mut opened = fs::File::open(self.path(file)?).ok()?;
         let mut bytes = vec![];
         let _ = opened.read_to_end(&mut bytes);
         Some(bytes)
