@@ -10,7 +10,7 @@ mod pipes;
 use std::ffi::OsStr;
 use std::fs;
 use std::os::unix::ffi::OsStrExt;
-use std::process::{Command, Stdio};
+use std::process::Command;
 
 use folders::Folder;
 use images::ImageProgram;
@@ -246,16 +246,32 @@ fn an_image_is_filled_in_its_own_file() {
     }
 }
 
-/// A name that is no UTF-8 text is no file's: the program ends with an error, and prints nothing.
+/// A name that is no UTF-8 text is that of no file.
 #[test]
 fn a_file_has_a_name_of_text() {
-    let output = Command::new(built("fill"))
-        .arg(OsStr::from_bytes(b"\xff"))
-        .stdin(Stdio::null())
-        .output()
-        .expect("it runs");
-    assert_eq!(output.status.code(), Some(1));
-    assert!(output.stdout.is_empty() && !output.stderr.is_empty());
+    for (name, is_text) in [
+        (&b"\xff"[..], false),
+        (b"a\xff", false),
+        (b"\xc3\xa9", true),
+    ] {
+        let folder = Folder::new();
+        folder.put(&("short".into(), e1_short()));
+        let output = Command::new(built("fill"))
+            .arg(OsStr::from_bytes(name))
+            .current_dir(folder.path())
+            .stdin(fs::File::open(folder.path().join("short")).expect("it is there"))
+            .output()
+            .expect("it runs");
+        let last = if is_text {
+            ""
+        } else {
+            "the file cannot be written\n"
+        };
+        let lines = FILL.expected(&e1_short()) + last;
+        assert_eq!(output.stdout, lines.as_bytes());
+        assert!(output.status.success() && output.stderr.is_empty());
+        assert_eq!(folder.files().len(), 1 + usize::from(is_text));
+    }
 }
 
 /// Nothing is read and no file touched.

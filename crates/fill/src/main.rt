@@ -9,18 +9,31 @@ mod lines;
 use image_fields::header;
 use input::read_full;
 use state::lent::{STATE_LENGTH, TABLES_LENGTH};
-use std::rt::Files;
-use std::{env, fs, io};
+use std::env::FillError;
+use std::rt::{Env, Files};
+use std::{fs, io, str};
 
-// Writes the bytes to a file of this name, which is made or emptied first, and answers whether that went well.
-fn keep(rt: &impl Files, name: &str, image: &[u8]) -> bool {
-    fs::write(rt, name, image).is_ok()
+// Whether there is an argument of this number; the program's name is number 0.
+fn is_given(rt: &impl Env, number: usize) -> bool {
+    !matches!(rt.arg(number, &mut [0u8; 0]), Err(FillError::NotPresent))
 }
 
-// Writes the image of this version to the file of this name.
+// Writes the bytes to the file that the argument names, which is made or emptied first, and answers whether that went well. A file's name is UTF-8 text of
+// at most 4,095 bytes.
+fn keep(rt: &(impl Env + Files), image: &[u8]) -> bool {
+    let mut path = [0u8; 4096];
+    let Ok(n) = rt.arg(1, &mut path) else {
+        return false;
+    };
+    match str::from_utf8(&path[..n]) {
+        Ok(name) => fs::write(rt, name, image).is_ok(),
+        Err(_) => false,
+    }
+}
+
+// Writes the image of this version to the file that the argument names.
 fn save(
-    rt: &(impl Files + Print),
-    name: &str,
+    rt: &(impl Env + Files + Print),
     state: &[u64],
     tables: &[u8],
     version: u64,
@@ -28,7 +41,7 @@ fn save(
     let mut image = [0u8; 25226];
     let written = engine::writing::write(state, tables, version, &mut image);
     let length = written.bytes as usize;
-    if !keep(rt, name, &image[..length]) {
+    if !keep(rt, &image[..length]) {
         rt.write_all(b"the file cannot be written\n")?;
     }
     Ok(())
@@ -41,7 +54,7 @@ fn room() -> [u8; 524288]
     [0; 524288]
 }
 
-fn run(rt: &(impl Files + Input + Print), name: Option<String>) -> io::Result<()> {
+fn run(rt: &(impl Env + Files + Input + Print), named: bool) -> io::Result<()> {
     let mut image = [0u8; 65536];
     let n = read_full(&mut rt.reader(), &mut image);
     let mut state = [0u64; STATE_LENGTH];
@@ -49,20 +62,15 @@ fn run(rt: &(impl Files + Input + Print), name: Option<String>) -> io::Result<()
     let mut out = room();
     let printed = lines::lines(&mut state, &mut tables, &image[..n], &mut out);
     let is_printed = rt.write_all(&out[..printed.end]);
-    if let Some(name) = name
-        && printed.refusal == 0
-    {
-        let version = header::byte(&image, 1) as u64;
-        save(rt, name.as_str(), &state, &tables, version)?;
+    if named && printed.refusal == 0 {
+        save(rt, &state, &tables, header::byte(&image, 1) as u64)?;
     }
     is_printed
 }
 
 fn main(rt: HostRuntime) -> io::Result<()> {
-    let mut names = env::args(&rt)?.skip(1);
-    let name = names.next();
-    if names.next().is_some() {
+    if is_given(&rt, 2) {
         return rt.write_all(b"one file at most\n");
     }
-    run(&rt, name)
+    run(&rt, is_given(&rt, 1))
 }
