@@ -308,7 +308,7 @@ pub each_same {ℓ} : {A : Type ℓ} (n : ℕ) (f g : ℕ → A → A) (a : A) �
 unfolding each_below
 each_same n f g a h = same (λ m f. each_below m f a) a (λ n x f. f x) (λ f. refl) (λ n f. refl) n f g (λ k l. fun_ext (λ x. h k x l))
 
--- ---- what a code loop's needs are closed by, as `search (needs, all_loop)`; a count's turn is taken apart by its branch first
+-- ---- what a code loop's goals are closed by, as `search (rules, all_loop)`; a count's turn is taken apart by its branch first
 
 pub ruleset all_loop = (all_zero_lem, all_goes, all_leaves, all_ends)
 

@@ -45,7 +45,7 @@ all_leaves_to m n f i r p l = all_leaves n f i r (subst (λ (k : ℕ). i < k) p 
 pub all_ends_to : (m n : ℕ) (f : ℕ → Bool) (i : ℕ) → m ≡ n → all_below i f ≡ true → i ≤ m → m ≤ i → true ≡ all_below n f
 all_ends_to m n f i p e l g = all_ends n f i e (omega arith) (omega arith)
 
--- what the needs of such a loop are closed by, as `search (needs, all_loop_to)`
+-- what the goals of such a loop are closed by, as `search (rules, all_loop_to)`
 pub ruleset all_loop_to = (all_zero_lem, all_goes, all_leaves_to, all_ends_to)
 
 -- ---- common suffixes

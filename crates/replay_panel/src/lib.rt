@@ -1,4 +1,6 @@
 // The panel: a line for each node, in lent memory. A line has at most 112 bytes, and the 64 of them 7,168.
+#![tactic(auto)]
+
 ghost use Rattle.std.specs.Prelude.{◌+◌, ◌≤◌, length};
 ghost use Rattle.model.proofs.Status.{IsNode};
 ghost use Rattle.model.proofs.Sound.{Sound};
