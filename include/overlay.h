@@ -20,8 +20,7 @@
  * Nothing is kept between calls but in lent memory, so calls on different memories may run at the same time. Memory that one version filled
  * is for that version; between versions a network goes as an image.
  *
- * C99 or later, or C++. The archive is for Linux on x86-64-v2, that is processors with SSE4.2 and POPCNT; it calls memcpy and memset, and nothing else
- * from outside. */
+ * C99 or later, or C++. The archive is for Linux on x86-64; it calls memcpy and memset, and nothing else from outside. */
 #ifndef OVERLAY_H
 #define OVERLAY_H
 

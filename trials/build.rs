@@ -1,4 +1,4 @@
-//! Links the proved archive of the repository: `rt lib` in crates/overlay builds it.
+//! Links the proved archive of the repository: `tools/build` builds it.
 
 use std::path::Path;
 
@@ -7,7 +7,7 @@ fn main() {
     let archive = folder.join("liboverlay.a");
     assert!(
         archive.exists(),
-        "{} is missing: run `rt lib` in crates/overlay first",
+        "{} is missing: run `tools/build` first",
         archive.display()
     );
     println!("cargo:rerun-if-changed={}", archive.display());

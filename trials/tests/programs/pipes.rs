@@ -1,4 +1,4 @@
-//! The programs that `rt ci` built, run through pipes.
+//! The programs that `tools/build` built, run through pipes.
 
 use std::io::Write;
 use std::path::{Path, PathBuf};
@@ -27,7 +27,7 @@ pub fn printed(command: &[&str], folder: &Path, input: &[u8], piece: usize) -> S
         .stdout(Stdio::piped())
         .stderr(Stdio::piped())
         .spawn()
-        .unwrap_or_else(|error| panic!("{}: {error}; `rt ci` makes it", path.display()));
+        .unwrap_or_else(|error| panic!("{}: {error}; `tools/build` makes it", path.display()));
     let mut pipe = child.stdin.take().expect("it is piped");
     let input = input.to_vec();
     let writer = thread::spawn(move || {
