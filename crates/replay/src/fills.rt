@@ -26,7 +26,7 @@ pub fn fill(rt: &impl Print, state: &mut [u64], tables: &mut [u8]) -> io::Result
     let mut list = blank();
     let mut words = [0u8; 1024];
     let r = played(state, tables, &none, &mut list, Call::Fill, &mut words);
-    rt.write_all(part(&words, 0, r.end))?;
+    let printed = rt.write_all(part(&words, 0, r.end));
     let w = r.answer;
-    print(rt, &list, w.fields[0] as usize)
+    printed.and(print(rt, &list, w.fields[0] as usize))
 }
