@@ -4,7 +4,7 @@ use Prim.Native.Nat.{ℕ, ◌≤◌, ◌<◌}
 use mathlib.Core.Path.{◌≡◌, sym, ap, ◌∙◌}
 use mathlib.Core.Bool.{Bool, true, false, ◌&&◌, ◌||◌}
 use lib.Dec.{eqb, leb, ltb}
-use borrow.Author.Tests.{eq-eqb, ne_eqb, le-leb, lt-leb, lt-ltb, le-ltb}
+use borrow.Author.Tests.{eq-eqb, ne_eqb, le-leb, lt-leb, lt-ltb}
 
 -- a test that is known, before `&&` and before `||`
 pub true_goes : (a b s : Bool) → a ≡ true → s ≡ b → s ≡ (a && b)
@@ -33,9 +33,6 @@ le_leaves m n b l = false_leaves (leb m n) b (lt-leb m n l)
 
 pub lt_goes : (m n : ℕ) (b s : Bool) → m < n → s ≡ b → s ≡ (ltb m n && b)
 lt_goes m n b s l = true_goes (ltb m n) b s (lt-ltb m n l)
-
-pub lt_leaves : (m n : ℕ) (b : Bool) → n ≤ m → false ≡ (ltb m n && b)
-lt_leaves m n b l = false_leaves (ltb m n) b (le-ltb m n l)
 
 pub eq_or_goes : (m n : ℕ) (b s : Bool) → (m ≡ n → ⊥) → s ≡ b → s ≡ (eqb m n || b)
 eq_or_goes m n b s h = false_or_goes (eqb m n) b s (ne_eqb m n h)

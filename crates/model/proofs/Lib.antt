@@ -5,6 +5,7 @@ pub mod Bools
 pub mod Early
 pub mod Loops
 pub mod Nodes
+pub mod Ranges
 pub mod Counting
 pub mod Sums
 pub mod Picked
@@ -27,6 +28,7 @@ pub mod OwnTable
 pub mod Status
 pub mod NodeCounts
 pub mod Sound
+pub mod SoundProp
 pub mod SoundNodes
 pub mod Later
 -- ---- founding, beginning, learning

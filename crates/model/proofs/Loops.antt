@@ -150,9 +150,6 @@ first_leaves n f i r l q e = le_antisymm l (first_min n f i (sym q ∙ e))
 pub first_ends : (n : ℕ) (f : ℕ → Bool) (i : ℕ) → i ≤ first_below n f → n ≤ i → i ≡ first_below n f
 first_ends n f i l g = omega (arith, first_le n f)
 
-pub first_none : (n : ℕ) (f : ℕ → Bool) (i : ℕ) → i ≤ first_below n f → n ≤ i → n ≡ first_below n f
-first_none n f i l g = omega (arith, first_le n f)
-
 -- a test that holds somewhere has a first index, and one that fails somewhere an index where it fails
 pub first_some : (n : ℕ) (f : ℕ → Bool) → any_below n f ≡ true → first_below n f < n
 first_some n f e =
@@ -172,18 +169,6 @@ first_short_lem n f l =
 
 pub first_fails : (n : ℕ) (f : ℕ → Bool) → all_below n f ≡ false → first_below n (λ k. not (f k)) < n
 first_fails n f e = lt_of_not-le (λ g. not_both (all_below n f) (first_whole n f g) e)
-
--- a code loop over i whose test is that f i holds at all of b indices, by the first of them, r, at which it fails
-module _ (n b : ℕ) (f : ℕ → ℕ → Bool) (i r : ℕ) (l : i ≤ first_below n (λ i. not (all_below b (f i)))) (e : r ≡ first_below b (λ j. not (f i j))) where
-  pub short_goes : i < n → b ≤ r → i + 1 ≤ first_below n (λ i. not (all_below b (f i)))
-  short_goes h g =
-      first_goes n (λ i. not (all_below b (f i))) i (not (all_below b (f i))) l h refl
-      (ap not (first_whole b (f i) (subst (λ (k : ℕ). b ≤ k) e g)))
-
-  pub short_leaves : r < b → i ≡ first_below n (λ i. not (all_below b (f i)))
-  short_leaves g =
-      first_leaves n (λ i. not (all_below b (f i))) i (not (all_below b (f i))) l refl
-      (ap not (first_short_lem b (f i) (subst (λ (k : ℕ). k < b) e g)))
 
 -- ---- count_below
 
@@ -218,9 +203,6 @@ count_none (suc n) f h = rw (h n (omega arith), count_none n f (λ k l. h k (ome
 
 pub count_hit : (i : ℕ) (f : ℕ → Bool) (r : Bool) (x y : ℕ) → x ≡ count_below i f → r ≡ f i → r ≡ true → y ≡ x + 1 → y ≡ count_below (i + 1) f
 count_hit i f r x y e q h g = g ∙ ap₂ (λ (n : ℕ) (b : Bool). n + cond b 1 0) e (sym h ∙ q) ∙ sym (count_step i f)
-
-pub count_ends : (n : ℕ) (f : ℕ → Bool) (i x : ℕ) → x ≡ count_below i f → i ≤ n → n ≤ i → x ≡ count_below n f
-count_ends n f i x = at_end (λ (m : ℕ). x ≡ count_below m f)
 
 -- ---- each_below
 
@@ -308,10 +290,6 @@ pub each_same {ℓ} : {A : Type ℓ} (n : ℕ) (f g : ℕ → A → A) (a : A) �
 unfolding each_below
 each_same n f g a h = same (λ m f. each_below m f a) a (λ n x f. f x) (λ f. refl) (λ n f. refl) n f g (λ k l. fun_ext (λ x. h k x l))
 
--- ---- what a code loop's goals are closed by, as `search (rules, all_loop)`; a count's turn is taken apart by its branch first
-
-pub ruleset all_loop = (all_zero_lem, all_goes, all_leaves, all_ends)
-
-pub ruleset first_loop = (first_goes, first_leaves, first_ends, first_none)
+-- ---- what a code loop's goals are closed by, as `search (rules, each_loop)`
 
 pub ruleset each_loop = (each_zero, each_step, each_ends)

@@ -3,12 +3,11 @@ use Prim.Native.Nat.{ℕ, ◌+◌, ◌-◌, ◌*◌, ◌≤◌, ◌<◌}
 use mathlib.Core.Path.{◌≡◌, refl, sym, ap, subst, ◌∙◌}
 use mathlib.Core.Logic.{◌≢◌, ◌⊎◌, inl, inr, ⊎_elim}
 use mathlib.Core.List.{List, [], ◌∷◌, append_assoc}
-use native.Mathlib.Nat.{add-zero, le_antisymm}
+use native.Mathlib.Nat.{add-zero}
 use native.Mathlib.Decide.{ℕ_discrete, dec_lt}
 use native.Mathlib.Numerals.{towards_suc}
 use native.Mathlib.Omega.{arith}
 use lib.ListN.{length, get_or, set, take, drop, replicate, length-set, length-append, length-drop, length-replicate, get_or-replicate, get_or-append}
-use borrow.Author.Fill.{fill_more}
 use lib.Dec.{lit<}
 use lib.Seq.{sets, sets-eq, get_or-set_same, get_or-set_other, ext_get_or}
 use Rattle.model.specs.Memory.{Node, node_of, with_node, table_start, table_of, with_table, zeroed}
@@ -191,13 +190,6 @@ module _ (n : ℕ) (l : List ℕ) (fits : n ≤ length l) where
   pub zeroed_within : (p : ℕ) → p < n → get_or (zeroed n l) p 0 ≡ 0
   zeroed_within p h =
       get_or-append (replicate n 0) (drop n l) 0 p (omega (arith, length-replicate {A = ℕ} n 0)) ∙ get_or-replicate n p 0 0 h
-
--- one place more is cleared
-pub zeroed_goes : (i : ℕ) (d x y : List ℕ) → x ≡ zeroed i d → i < length d → y ≡ set x i 0 → y ≡ zeroed (i + 1) d
-zeroed_goes i d x y e l q = q ∙ ap (λ (x : List ℕ). set x i 0) e ∙ fill_more i 0 d l
-
-pub zeroed_ends : (n i : ℕ) (d x : List ℕ) → x ≡ zeroed i d → i ≤ n → n ≤ i → x ≡ zeroed n d
-zeroed_ends n i d x e l g = subst (λ (m : ℕ). x ≡ zeroed m d) (le_antisymm l g) e
 
 -- ---- stores one upon the other
 

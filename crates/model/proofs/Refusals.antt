@@ -1,14 +1,14 @@
 -- Lists of sentences: the ways of a chain of early returns that judges them in order, what a list that refuses nothing says, and bounds of
 -- the number. Assumes nothing.
-use Prim.Native.Nat.{ℕ, ◌≤◌, ◌<◌}
-use mathlib.Core.Path.{◌≡◌, refl, sym, ap, ap₂, subst, ◌∙◌}
+use Prim.Native.Nat.{ℕ, ◌<◌}
+use mathlib.Core.Path.{◌≡◌, refl, sym, ap, ap₂, ◌∙◌}
 use mathlib.Core.Logic.{◌≢◌}
 use mathlib.Core.Bool.{Bool, true, false, cond, not, ◌&&◌}
 use mathlib.Core.List.{List, [], ◌∷◌, ◌++◌}
 use native.Mathlib.Decide.{ℕ_discrete}
 use native.Mathlib.Omega.{arith}
 use lib.Dec.{eqb, ltb}
-use borrow.Author.Tests.{eq-eqb, ne_eqb, ltb-true, lt-ltb, le-ltb, not-true, not-false}
+use borrow.Author.Tests.{eq-eqb, ltb-true, not-true, not-false}
 use Rattle.model.specs.Refusals.{Sentence, first_true}
 use Rattle.model.proofs.Bools.{and_left, and_right, not_both}
 
@@ -38,26 +38,6 @@ sentence_none = refl
 
 pub ruleset sentences = (sentence_leaves, sentence_goes, sentence_not_leaves, sentence_not_goes, sentence_none)
 
--- the same where the code compares numbers: v is what it found of a
-module _ (a b n : ℕ) (later : List Sentence) (v : ℕ) (e : v ≡ a) where
-  pub equal_leaves : v ≡ b → n ≡ first_true ((eqb a b, n) ∷ later)
-  equal_leaves q = sentence_leaves (eqb a b) n later true (sym (eq-eqb a b (sym e ∙ q))) refl
-
-  pub equal_goes : (v ≡ b → ⊥) → (x : ℕ) → x ≡ first_true later → x ≡ first_true ((eqb a b, n) ∷ later)
-  equal_goes ne x = sentence_goes (eqb a b) n later x false (sym (ne_eqb a b (λ q. ne (e ∙ q)))) refl
-
-  pub other_leaves : (v ≡ b → ⊥) → n ≡ first_true ((not (eqb a b), n) ∷ later)
-  other_leaves ne = sentence_not_leaves (eqb a b) n later false (sym (ne_eqb a b (λ q. ne (e ∙ q)))) refl
-
-  pub other_goes : v ≡ b → (x : ℕ) → x ≡ first_true later → x ≡ first_true ((not (eqb a b), n) ∷ later)
-  other_goes q x = sentence_not_goes (eqb a b) n later x true (sym (eq-eqb a b (sym e ∙ q))) refl
-
-  pub below_leaves : b < v → n ≡ first_true ((ltb b a, n) ∷ later)
-  below_leaves l = sentence_leaves (ltb b a) n later true (sym (lt-ltb b a (subst (λ (v : ℕ). b < v) e l))) refl
-
-  pub below_goes : v ≤ b → (x : ℕ) → x ≡ first_true later → x ≡ first_true ((ltb b a, n) ∷ later)
-  below_goes l x = sentence_goes (ltb b a) n later x false (sym (le-ltb b a (subst (λ (v : ℕ). v ≤ b) e l))) refl
-
 -- and where it asks the two halves of a test one after the other
 module _ (a b : Bool) (n : ℕ) (later : List Sentence) (v : Bool) (e : v ≡ a) where
   pub left_leaves : not v ≡ true → n ≡ first_true ((not (a && b), n) ∷ later)
@@ -73,8 +53,6 @@ module _ (a b : Bool) (n : ℕ) (later : List Sentence) (v : Bool) (e : v ≡ a)
 
     pub both_go : not w ≡ false → (x : ℕ) → x ≡ first_true later → x ≡ first_true ((not (a && b), n) ∷ later)
     both_go g x = sentence_not_goes (a && b) n later x (v && w) (ap₂ ◌&&◌ e f) (ap not halves ∙ g)
-
-pub ruleset comparisons = (equal_leaves, equal_goes, other_leaves, other_goes, below_leaves, below_goes, left_leaves, right_leaves, both_go)
 
 -- ---- no refusal
 

@@ -10,19 +10,16 @@ use native.Mathlib.Numerals.{add-one-le, lt_of_le_of_ne}
 use native.Mathlib.Omega.{arith}
 use lib.Dec.{ltb}
 use lib.ListN.{get_or, set}
-use borrow.Author.Tests.{eq-eqb, ne_eqb, le-leb, le-ltb, lt-leb, lt-ltb}
+use borrow.Author.Tests.{eq-eqb, le-leb, le-ltb, lt-leb, lt-ltb}
 use Rattle.model.specs.Loops.{each_below}
 use Rattle.model.specs.Ids.{digit_of}
-use Rattle.model.specs.Memory.{depth, id_of, has_node, add_node}
+use Rattle.model.specs.Memory.{depth, id_of}
 use Rattle.model.specs.Tables.{slot_at, slot_is, entry_size, holds, append, own_slot}
 use Rattle.model.specs.Nodes.{suffix_of}
 use Rattle.model.specs.Learning.{floor_of, room_for, learn_at, learn, learn_place}
-use Rattle.model.specs.Join.{gather_place}
-use Rattle.model.proofs.Loops.{any_zero, any_goes, any_leaves, any_ends, each_from, each_step, each_ends}
-use Rattle.model.proofs.Bools.{not_both}
+use Rattle.model.proofs.Loops.{any_zero, each_from, each_step, each_ends}
 use Rattle.model.proofs.Tables.{size_le, size_least, size_empty}
 use Rattle.model.proofs.Learning.{learn_place_is}
-use Rattle.model.proofs.Gather.{place_passes, place_adds}
 
 -- ---- the slots of an entry, one after the other
 
@@ -41,18 +38,6 @@ module _ (T : List ℕ) (i j u : ℕ) where
   pub holds_none : holds 0 T i j u ≡ false
   unfolding holds
   holds_none = any_zero (slot_is T i j u)
-
-  pub holds_goes : (k : ℕ) → holds k T i j u ≡ false → slot_at T i j k ≢ u → holds (k + 1) T i j u ≡ false
-  unfolding holds
-  holds_goes k e h = any_goes k (slot_is T i j u) (slot_is T i j u k) e refl (ne_eqb _ _ h)
-
-  pub holds_leaves : (K k : ℕ) → k < K → slot_at T i j k ≡ u → true ≡ holds K T i j u
-  unfolding holds
-  holds_leaves K k l e = any_leaves K (slot_is T i j u) k (slot_is T i j u k) l refl (eq-eqb _ _ e)
-
-  pub holds_ends : (K k : ℕ) → holds k T i j u ≡ false → k ≤ K → K ≤ k → false ≡ holds K T i j u
-  unfolding holds
-  holds_ends K k = any_ends K (slot_is T i j u) k
 
 -- ---- learning u at level i: K, id and j are what the code has for the depth, u's id and its digit
 
@@ -113,26 +98,6 @@ module _ (s : List ℕ) (x : ℕ) (Y : List ℕ) (p : ℕ) (T : List ℕ) where
 
   pub place_learns : (T' : List ℕ) → get_or Y p 0 ≢ 0 → get_or Y p 0 ≢ x → T' ≡ learn s x (get_or Y p 0) T → T' ≡ learn_place s x Y p T
   place_learns T' nz ne e = e ∙ sym (learn_place_is s x Y p T nz ne)
-
--- ---- a place of a table, gathered by x from level k on; m is what the code has for the common suffix
-
-module _ (s : List ℕ) (x k notified : ℕ) (T : List ℕ) (p nodes : ℕ) where
-  pub gather_empty : get_or T p 0 ≡ 0 → nodes ≡ gather_place s x k notified T p nodes
-  gather_empty e = sym (place_passes s x k notified T p nodes (λ n. n.some e))
-
-  pub gather_own : get_or T p 0 ≡ x → nodes ≡ gather_place s x k notified T p nodes
-  gather_own e = sym (place_passes s x k notified T p nodes (λ n. n.other e))
-
-  pub gather_far : (m : ℕ) → m ≡ suffix_of s x (get_or T p 0) → m < k → nodes ≡ gather_place s x k notified T p nodes
-  gather_far m e l = sym (place_passes s x k notified T p nodes (λ n. omega (arith, n.suffix)))
-
-  pub gather_notified : (r : Bool) → r ≡ has_node notified (get_or T p 0) → r ≡ true → nodes ≡ gather_place s x k notified T p nodes
-  gather_notified r e h = sym (place_passes s x k notified T p nodes (λ n. not_both (has_node notified (get_or T p 0)) (sym e ∙ h) n.new))
-
-  pub gather_adds : (m : ℕ) (r : Bool) (y : ℕ) → get_or T p 0 ≢ 0 → get_or T p 0 ≢ x → m ≡ suffix_of s x (get_or T p 0) → k ≤ m
-      → r ≡ has_node notified (get_or T p 0) → r ≡ false → y ≡ add_node nodes (get_or T p 0) → y ≡ gather_place s x k notified T p nodes
-  gather_adds m r y nz ne e l q h a =
-      a ∙ sym (place_adds s x k notified T p nodes (record { some = nz; other = ne; suffix = omega arith; new = sym q ∙ h }))
 
 -- ---- the own slots of a new table, level by level; j is what the code has for the digit
 

@@ -1,9 +1,9 @@
 -- Laws of places that are zero, for words and bytes alike, and of code that gathers places by `or` and asks once at the end. Assumes nothing.
 use Prim.Native.Nat.{ℕ, zero, suc, ◌+◌, ◌-◌, ◌≤◌, ◌<◌, suc-le-suc}
-use mathlib.Core.Path.{◌≡◌, refl, sym, ap₂, subst, ◌∙◌}
+use mathlib.Core.Path.{◌≡◌, refl, sym, ap₂, ◌∙◌}
 use mathlib.Core.Bool.{Bool, true, ◌&&◌}
 use mathlib.Core.List.{List, [], ◌∷◌}
-use native.Mathlib.Nat.{zero-lt-suc, le_antisymm}
+use native.Mathlib.Nat.{zero-lt-suc}
 use native.Mathlib.Omega.{arith}
 use lib.Bits.{bit_or, or_add_and, and_le_l, and_le_r}
 use lib.Dec.{eqb}
@@ -13,7 +13,7 @@ use Rattle.model.specs.Loops.{all_below}
 use Rattle.model.specs.Sound.{all_zero}
 use Rattle.model.proofs.Bools.{same_test, and_left, and_right, and_intro}
 use Rattle.model.proofs.Splice.{part_length, part_at}
-use Rattle.model.proofs.Loops.{all_zero_lem, all_step, all_at, all_of}
+use Rattle.model.proofs.Loops.{all_step}
 
 -- place i is zero
 abbrev pub zero_at : List ℕ → ℕ → Bool
@@ -22,23 +22,15 @@ zero_at ws i = eqb (get_or ws i 0) 0
 -- ---- all_zero is true exactly when every place is zero
 
 pub zero_at_lem : (ws : List ℕ) → all_zero ws ≡ true → (i : ℕ) → get_or ws i 0 ≡ 0
-unfolding all_zero
 zero_at_lem [] e zero = refl
 zero_at_lem [] e (suc i) = refl
 zero_at_lem (w ∷ ws) e zero = eqb-true w 0 (and_left _ _ e)
 zero_at_lem (w ∷ ws) e (suc i) = zero_at_lem ws (and_right (eqb w 0) _ e) i
 
 pub zero_of : (ws : List ℕ) → ((i : ℕ) → i < length ws → get_or ws i 0 ≡ 0) → all_zero ws ≡ true
-unfolding all_zero
 zero_of [] h = refl
 zero_of (w ∷ ws) h =
     and_intro (eqb w 0) (all_zero ws) (eq-eqb w 0 (h 0 (zero-lt-suc (length ws)))) (zero_of ws (λ i l. h (suc i) (suc-le-suc l)))
-
-pub zero_is : (ws : List ℕ) → all_zero ws ≡ all_below (length ws) (zero_at ws)
-zero_is ws =
-    same_test (all_zero ws) (all_below (length ws) (zero_at ws))
-    (λ e. all_of (length ws) (zero_at ws) (λ i l. eq-eqb (get_or ws i 0) 0 (zero_at_lem ws e i)))
-    (λ e. zero_of ws (λ i l. eqb-true (get_or ws i 0) 0 (all_at (length ws) (zero_at ws) e i l)))
 
 -- the same of a part: its places are a up to e
 module _ (ws : List ℕ) (a e : ℕ) (fits : e ≤ length ws) where
@@ -75,14 +67,3 @@ or_zero a b =
 pub gather_goes : (i : ℕ) (f : ℕ → Bool) (gathered w : ℕ) → eqb gathered 0 ≡ all_below i f → eqb w 0 ≡ f i
     → eqb (bit_or gathered w) 0 ≡ all_below (i + 1) f
 gather_goes i f gathered w e q = or_zero gathered w ∙ ap₂ ◌&&◌ e q ∙ sym (all_step i f)
-
-pub gather_none : (f : ℕ → Bool) → eqb 0 0 ≡ all_below 0 f
-gather_none f = sym (all_zero_lem f)
-
-pub gather_ends : (n : ℕ) (f : ℕ → Bool) (i gathered : ℕ) → eqb gathered 0 ≡ all_below i f → i ≤ n → n ≤ i
-    → eqb gathered 0 ≡ all_below n f
-gather_ends n f i gathered e l g = subst (λ (k : ℕ). eqb gathered 0 ≡ all_below k f) (le_antisymm l g) e
-
-pub zero_ends : (ws : List ℕ) (i gathered : ℕ) → eqb gathered 0 ≡ all_below i (zero_at ws) → i ≤ length ws → length ws ≤ i
-    → eqb gathered 0 ≡ all_zero ws
-zero_ends ws i gathered e l g = gather_ends (length ws) (zero_at ws) i gathered e l g ∙ sym (zero_is ws)

@@ -1,5 +1,6 @@
 -- Soundness: document 01, "Identifiers and tables", last paragraph, and of the counts document 02, ticket 3; a definition for each clause.
-use Rattle.std.specs.Prelude.{ℕ, ◌+◌, ◌-◌, ◌*◌, ◌/◌, ◌%◌, ◌^◌, Bool, true, cond, not, ◌&&◌, ◌||◌, List, [], ◌∷◌, get_or, take, drop, leb, ltb, eqb}
+use Rattle.std.specs.Prelude.{ℕ, ◌+◌, ◌-◌, ◌*◌, ◌/◌, ◌%◌, ◌^◌, Bool, cond, not, ◌&&◌, ◌||◌, List, get_or, take, drop, leb, ltb, eqb}
+use Rattle.std.specs.List.{list_all}
 use Rattle.model.specs.Loops.{all_below}
 use Rattle.model.specs.Ids.{settings_in_range, valid_id, digit_of}
 use Rattle.model.specs.Memory.{state_length, tables_length, base, digits, depth, node_count, Node, node_of, id_of, status_of, level_of, target_of}
@@ -141,9 +142,8 @@ counts_sound s x = requests_in_limit s x && notices_sound (node_of s x)
 
 -- ---- the places that nothing uses, which are zero
 
-unfoldable pub all_zero : List ℕ → Bool
-all_zero [] = true
-all_zero (w ∷ ws) = eqb w 0 && all_zero ws
+abbrev pub all_zero : List ℕ → Bool
+all_zero = list_all (λ w. eqb w 0)
 
 -- place p of a table is a slot below K of an entry with level below d and digit below b
 abbrev pub place_used : List ℕ → ℕ → Bool

@@ -18,7 +18,7 @@ use Rattle.worked.specs.Examples.{dirty, founding, reading, verdict_on, lookup_o
 
 -- what the examples compute with
 unfoldable pub computing : Unit {0}
-unfolding all_below any_below count_below sum_below first_below each_below join_below settings_in_range digit_of valid_id common_suffix low_digits with_node has_node set_size table_of with_table qualified entry_size entry holds append own_table has_new_id slot_sound entry_sound level_sound in_system_sound joining_sound copying_sound waiting_sound pending_sound notified_sound notifying_sound status_sound request_limit notices_sound counts_sound all_zero state_rest_zero tables_rest_zero table_sound unused_zero sound founded hop_entry frontmost next_hop very_hops_within last_of answer_of lookup arrives_in is_lost is_pair count_pairs survey_counts how_many entry_whole level_whole node_whole consistent first_short verdict is_absent lowest_absent short_by added fill_once fill_entry fill_level fill_node filling im_id length_right same_entry rises_from rec_ordered rec_allowed rec_owner_first own_has_record own_have_records im_length loaded_ids load_record loaded_tables loaded_state loaded path_start trace_counts_wrong place_named among may_go step_allowed in_path first_fault first_true found_refusal read_refusal record_place state_refusal lookup_refusal verdict_refusal fill_refusal trace_refusal trace_place refused_at taken unless_refused found_call read_call lookup_call survey_call verdict_call filled_by fill_call trace_call dirty founding reading verdict_on lookup_on survey_on trace_on fill_on head_of_e1 rec e1 e1_short three deep_with deep
+unfolding all_below any_below count_below sum_below first_below each_below join_below settings_in_range digit_of valid_id common_suffix low_digits with_node has_node set_size table_of with_table qualified entry_size entry holds append own_table has_new_id slot_sound entry_sound level_sound in_system_sound joining_sound copying_sound waiting_sound pending_sound notified_sound notifying_sound status_sound request_limit notices_sound counts_sound state_rest_zero tables_rest_zero table_sound unused_zero sound founded hop_entry frontmost next_hop very_hops_within last_of answer_of lookup arrives_in is_lost is_pair count_pairs survey_counts how_many entry_whole level_whole node_whole consistent first_short verdict is_absent lowest_absent short_by added fill_once fill_entry fill_level fill_node filling im_id length_right same_entry rises_from rec_ordered rec_allowed rec_owner_first own_has_record own_have_records im_length loaded_ids load_record loaded_tables loaded_state loaded path_start trace_counts_wrong place_named among may_go step_allowed in_path first_fault first_true found_refusal read_refusal record_place state_refusal lookup_refusal verdict_refusal fill_refusal trace_refusal trace_place refused_at taken unless_refused found_call read_call lookup_call survey_call verdict_call filled_by fill_call trace_call dirty founding reading verdict_on lookup_on survey_on trace_on fill_on head_of_e1 rec e1 e1_short three deep_with deep
 computing = tt
 
 pub worked : Worked
