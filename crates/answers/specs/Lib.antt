@@ -1,0 +1,3 @@
+-- What the answers are in numbers.
+pub mod Numbers
+pub mod Fields
