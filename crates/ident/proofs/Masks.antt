@@ -14,10 +14,6 @@ four_bits w = 15 * 2 ^ w % 2 ^ 32
 
 -- each of the 32 by computation
 module _ (w : ℕ) (l : w < 32) where
-  pub four_positive : 1 ≤ four_bits w
-  unfolding all_below
-  four_positive = leb-true 1 (four_bits w) (all_at 32 (λ (k : ℕ). leb 1 (four_bits k)) refl w l)
-
   pub four_below : bit_or (four_bits w) (four_bits w - 1) ≡ 2 ^ min (w + 4) 32 - 1
   unfolding all_below
   four_below = eqb-true _ _ (all_at 32 (λ (k : ℕ). eqb (bit_or (four_bits k) (four_bits k - 1)) (2 ^ min (k + 4) 32 - 1)) refl w l)

@@ -1,17 +1,15 @@
 -- An id of 32 bits has eight places: beyond them its digits are zero, so the book's functions say no more there than at eight.
 -- Assumes nothing.
-use Prim.Native.Nat.{ℕ, ◌+◌, ◌*◌, ◌/◌, ◌^◌, ◌≤◌, ◌<◌, min}
-use mathlib.Core.Path.{◌≡◌, sym, ap, ◌∙◌}
+use Prim.Native.Nat.{ℕ, ◌*◌, ◌/◌, ◌^◌, ◌≤◌, ◌<◌, min}
+use mathlib.Core.Path.{◌≡◌, sym, ap, ap₂, ◌∙◌}
 use mathlib.Core.Logic.{⊎_elim}
-use mathlib.Core.Bool.{Bool, true, false, not, ◌&&◌}
+use mathlib.Core.Bool.{Bool, true, ◌&&◌}
 use native.Mathlib.Nat.{zero-lt-suc, lt_of_lt_of_le, pow-le-pow_right, min-eq_left, min-eq_right, le_of_lt}
 use native.Mathlib.Omega.{arith}
-use lib.Dec.{eqb, ltb}
-use borrow.Author.Tests.{lt-ltb}
+use lib.Dec.{eqb}
 use Rattle.model.specs.Loops.{all_below}
 use Rattle.model.specs.Ids.{digit_of, digit_below, low_digits, valid_id}
-use Rattle.model.proofs.Bools.{is_false, le_or_lt, same_test}
-use Rattle.model.proofs.Loops.{all_goes, all_ends}
+use Rattle.model.proofs.Bools.{le_or_lt, same_test}
 use Rattle.model.proofs.Ids.{power_bits, digit_above, low_whole, valid_digit, valid_of}
 
 -- what is the same from eight on may be asked at most at eight
@@ -37,19 +35,10 @@ module _ (x : ℕ) (short : x < 16 ^ 8) where
       more : 8 ≤ d → valid_id b 8 x ≡ true → valid_id b d x ≡ true
       more l e = valid_of b d x (λ k g. ⊎_elim (λ m. omega (arith, digit_beyond k m, valid_digit b 8 x 0 e (omega arith))) (valid_digit b 8 x k e) (le_or_lt 8 k)) (beyond d l)
 
--- ---- the loop of `valid_id`, over p places: it leaves at a digit not below b, goes on at one below it, and ends before the bits above
+-- ---- the test of `valid_id`: r is what it has found of the digits in p places; where r holds, the bits above decide
 
-pub valid_leaves : (b d x p i n : ℕ) → p ≡ min d 8 → i < p → n ≡ digit_of x i → b ≤ n → false ≡ valid_id b d x
-valid_leaves b d x p i n e l q h = is_false (valid_id b d x) (λ t. omega (arith, valid_digit b d x i t (omega arith)))
-
-pub valid_goes : (b x i n : ℕ) → all_below i (digit_below b x) ≡ true → n ≡ digit_of x i → n < b → all_below (i + 1) (digit_below b x) ≡ true
-valid_goes b x i n e q h = all_goes i (digit_below b x) (ltb n b) e (ap (λ (m : ℕ). ltb m b) q) (ap not (lt-ltb n b h))
-
-pub valid_ends : (b d x p i : ℕ) → x < 16 ^ 8 → p ≡ min d 8 → all_below i (digit_below b x) ≡ true → i ≤ p → p ≤ i
-    → eqb (x / 2 ^ (4 * p)) 0 ≡ valid_id b d x
+pub valid_is : (b d x p : ℕ) (r : Bool) → x < 16 ^ 8 → p ≡ min d 8 → r ≡ all_below p (digit_below b x)
+    → (r && eqb (x / 2 ^ (4 * p)) 0) ≡ valid_id b d x
 unfolding valid_id
-valid_ends b d x p i short e t l g =
-    ap (λ (q : ℕ). eqb (x / q) 0) (sym (power_bits p)) ∙ whole ∙ ap (λ (n : ℕ). valid_id b n x) e ∙ valid_cap x short b d
-  where
-    whole : eqb (x / 16 ^ p) 0 ≡ valid_id b p x
-    whole = ap (λ (a : Bool). a && eqb (x / 16 ^ p) 0) (all_ends p (digit_below b x) i t l g)
+valid_is b d x p r short e h =
+    ap₂ (λ (a : Bool) (q : ℕ). a && eqb (x / q) 0) h (sym (power_bits p)) ∙ ap (λ (n : ℕ). valid_id b n x) e ∙ valid_cap x short b d

@@ -12,31 +12,11 @@ const PLACES: usize = 8;
 const LAST_PLACE: usize = 7;
 
 // The base is from 2 to 16, the digits are from 1 to 8, the depth is from 1 to 4.
+#[tactic(auto, unfolding(model::specs::Ids::settings_in_range))]
 pub fn settings_in_range(base: u64, digits: u64, depth: u64) -> bool
     ensures { result ≡ settings_in_range base digits depth }
 {
-    if base < 2 {
-        return false;
-    }
-    if 16 < base {
-        return false;
-    }
-    if digits < 1 {
-        return false;
-    }
-    if 8 < digits {
-        return false;
-    }
-    if depth < 1 {
-        return false;
-    }
-    depth <= 4
-}
-
-fn smaller(a: usize, b: usize) -> usize
-    ensures { result ≡ min a b }
-{
-    if a < b { a } else { b }
+    (2..=16).contains(&base) && (1..=8).contains(&digits) && (1..=4).contains(&depth)
 }
 
 // Digit i of an id: each digit has four bits, and digit 0 the lowest four.
@@ -56,7 +36,7 @@ pub fn suffix_mask(i: usize) -> u32
     if i == 0 {
         return 0;
     }
-    let highest = 15 << (4 * (smaller(i, PLACES) - 1));
+    let highest = 15 << (4 * (i.min(PLACES) - 1));
     highest | (highest - 1)
 }
 
@@ -68,7 +48,7 @@ pub fn common_suffix(digits: usize, x: u32, y: u32) -> usize
     if x == y {
         return digits;
     }
-    smaller((u32::trailing_zeros(x ^ y) / 4) as usize, digits)
+    ((x ^ y).trailing_zeros() as usize / 4).min(digits)
 }
 
 // Both have the same low i digits: no bit that differs stands under the mask.
@@ -79,26 +59,17 @@ pub fn low_digits_equal(x: u32, y: u32, i: usize) -> bool
 }
 
 // The id y is qualified for entry (i, j) of x: it ends in the low i digits of x, and j is the digit before them.
+#[tactic(auto, unfolding(model::specs::Tables::qualified))]
 pub fn qualified(x: u32, y: u32, i: usize, j: usize) -> bool
     ensures { result ≡ tables.qualified x y i j }
 {
-    if !low_digits_equal(x, y, i) {
-        return false;
-    }
-    digit(y, i) == j
+    low_digits_equal(x, y, i) && digit(y, i) == j
 }
 
 // The d lowest digits are below the base, and nothing stands above them.
 pub fn valid_id(base: usize, digits: usize, id: u32) -> bool
     ensures { result ≡ valid_id base digits id }
 {
-    let places = smaller(digits, PLACES);
-    let mut i = 0;
-    while i < places {
-        if base <= digit(id, i) {
-            return false;
-        }
-        i += 1;
-    }
-    (id as u64) >> (4 * places) == 0
+    let places = digits.min(PLACES);
+    (0..places).all(|i| digit(id, i) < base) && (id as u64) >> (4 * places) == 0
 }

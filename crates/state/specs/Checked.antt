@@ -1,9 +1,8 @@
 -- What a check of the state knows on its way, in the order in which it learns it. s is the state.
 use Rattle.std.specs.Prelude.{ℕ, ◌≤◌, ◌≡◌, true, List, length}
-use Rattle.model.specs.Memory.{base, digits, depth, node_count, id_of, state_length}
+use Rattle.model.specs.Memory.{base, digits, depth, node_count, state_length}
 use Rattle.model.specs.Nodes.{all_nodes}
 use Rattle.model.specs.Sound.{has_valid_id}
-use Rattle.state.specs.declared.node.Owner.{Owner}
 
 -- the settings and the number of nodes are in range
 pub record Ranged (s : List ℕ) : Type 0 where
@@ -18,9 +17,3 @@ pub record Ranged (s : List ℕ) : Type 0 where
 pub record Identified (s : List ℕ) : Type 0 where
   pub ranged : Ranged s
   pub ids : all_nodes s (has_valid_id s) ≡ true
-
--- whose table or record is looked at
-pub record OwnerOf (s : List ℕ) (o : Owner) : Type 0 where
-  pub first : 1 ≤ o.number
-  pub last : o.number ≤ node_count s
-  pub id : o.id ≡ id_of s o.number

@@ -1,16 +1,13 @@
-// The words of the fixed length set to zero; those past it stay.
-ghost use Rattle.std.specs.Prelude.{◌≡◌, ◌≤◌, length};
-ghost use Rattle.model.specs.Memory.{zeroed, state_length};
+// The first places of lent memory set to zero; those past them stay.
+ghost use Rattle.std.specs.Prelude.{◌≡◌, ◌++◌, ◌≤◌, length, drop, replicate};
 
-use crate::lent::STATE_LENGTH;
+use crate::zero::Place;
 
-pub fn clear(state: &mut [u64])
-    requires { state_length ≤ length state.old }
-    ensures { state.new ≡ zeroed state_length state.old }
+pub fn clear<T: Place>(memory: &mut [T], n: usize)
+    requires { n ≤ length memory.old }
+    ensures { memory.new ≡ replicate n T.zero ++ drop n memory.old }
 {
-    let mut i = 0;
-    while i < STATE_LENGTH {
-        state[i] = 0;
-        i += 1;
+    for k in 0..n {
+        memory[k] = T::zero();
     }
 }

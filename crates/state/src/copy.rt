@@ -9,9 +9,5 @@ pub fn copy_out(state: &mut [u64], words: &[u64])
     requires words_len { length words.now ≡ state_length }
     ensures { state.new ≡ words.now ++ drop state_length state.old }
 {
-    let mut i = 0;
-    while i < STATE_LENGTH {
-        state[i] = words[i];
-        i += 1;
-    }
+    state[..STATE_LENGTH].copy_from_slice(words);
 }

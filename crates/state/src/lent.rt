@@ -13,8 +13,5 @@ pub const TABLES_LENGTH: usize = 32768;
 pub fn short(state: &[u64], tables: &[u8]) -> bool
     ensures { result ≡ memory_short (memory state.now tables.now) }
 {
-    if tables.len() < TABLES_LENGTH {
-        return true;
-    }
-    state.len() < STATE_LENGTH
+    tables.len() < TABLES_LENGTH || state.len() < STATE_LENGTH
 }

@@ -44,13 +44,14 @@ pub fn no_node() -> Node
 fn in_system_node(r: Node) -> Node
     ensures { book_node result ≡ join.in_system_node (book_node r) }
 {
-    let mut n = r;
-    n.status = Status::IN_SYSTEM;
-    n.level = 0;
-    n.target = 0;
-    n.pending = sets::EMPTY;
-    n.notified = sets::EMPTY;
-    n
+    Node {
+        status: Status::IN_SYSTEM,
+        level: 0,
+        target: 0,
+        pending: sets::EMPTY,
+        notified: sets::EMPTY,
+        ..r
+    }
 }
 
 // One that copies or waits, by its status and target: it has sent one request more. No node has sent more than 9.
@@ -58,28 +59,30 @@ pub fn joining_node(r: Node, status: u64, target: usize) -> Node
     requires { r.requests ≤ 9 }
     ensures { book_node result ≡ join.joining_node (book_node r) status target }
 {
-    let mut n = r;
-    n.status = status;
-    n.level = 0;
-    n.target = target as u64;
-    n.pending = sets::EMPTY;
-    n.notified = sets::EMPTY;
-    n.requests = r.requests + 1;
-    n
+    Node {
+        status,
+        level: 0,
+        target: target as u64,
+        pending: sets::EMPTY,
+        notified: sets::EMPTY,
+        requests: r.requests + 1,
+        ..r
+    }
 }
 
 // One that notifies, with so many answered notices.
 pub fn notifying_node(r: Node, level: u64, pending: u64, notified: u64, notices: u64) -> Node
     ensures { book_node result ≡ join.notifying_node (book_node r) level pending notified notices }
 {
-    let mut n = r;
-    n.status = Status::NOTIFYING;
-    n.level = level;
-    n.target = 0;
-    n.pending = pending;
-    n.notified = notified;
-    n.notices = notices;
-    n
+    Node {
+        status: Status::NOTIFYING,
+        level,
+        target: 0,
+        pending,
+        notified,
+        notices,
+        ..r
+    }
 }
 
 // A notifying node that has nobody left to notify is in system within the same step; the rest of its record is cleared but for its counts.

@@ -7,13 +7,6 @@ ghost use Rattle.state.specs.Checked.{Ranged, Identified};
 use crate::record;
 use crate::status::Status;
 
-// Whose table or record is looked at: a node's number and its id.
-#[derive(Clone, Copy)]
-pub struct Owner {
-    pub number: usize,
-    pub id: u32,
-}
-
 // A valid id fits 32 bits.
 pub fn id(state: &[u64], x: usize) -> u32
     requires identified { Identified state.now }

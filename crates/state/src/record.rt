@@ -3,7 +3,7 @@ ghost use Rattle.std.specs.Prelude.{◌≡◌};
 ghost use Rattle.model.specs.Memory.{with_node, node_of, id_of, status_of};
 ghost use Rattle.state.specs.Loaded.{Placed, book_node};
 
-#[derive(Clone, Copy)]
+#[derive(Clone, Copy, Debug, PartialEq, Eq)]
 pub struct Node {
     pub id: u64,
     pub status: u64,

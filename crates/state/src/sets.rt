@@ -15,14 +15,11 @@ pub fn has(nodes: u64, x: usize) -> bool
 
 // One of the two is in the set.
 pub fn has_either(nodes: u64, x: usize, y: usize) -> bool
-    requires numbered { Numbered x }
-    requires numbered_2 { Numbered y }
+    requires x_numbered { Numbered x }
+    requires y_numbered { Numbered y }
     ensures { result ≡ (has_node nodes x || has_node nodes y) }
 {
-    if has(nodes, x) {
-        return true;
-    }
-    has(nodes, y)
+    has(nodes, x) || has(nodes, y)
 }
 
 pub fn add(nodes: u64, x: usize) -> u64
@@ -61,8 +58,5 @@ pub fn only_below(nodes: u64, n: usize) -> bool
     requires { n ≤ 64 }
     ensures { result ≡ ltb nodes (2 ^ n) }
 {
-    if n == 64 {
-        return true;
-    }
-    nodes >> n == 0
+    n == 64 || nodes >> n == 0
 }

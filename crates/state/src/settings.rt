@@ -5,7 +5,7 @@ ghost use Rattle.model.specs.Memory.{state_length, digits};
 ghost use Rattle.model.specs.Nodes.{is_node};
 ghost use Rattle.state.specs.Loaded.{SettingsOf};
 
-#[derive(Clone, Copy)]
+#[derive(Clone, Copy, Debug, PartialEq, Eq)]
 pub struct Settings {
     pub base: usize,
     pub digits: usize,
@@ -30,20 +30,14 @@ pub fn is_node(state: &[u64], x: u64) -> bool
     requires { state_length ≤ length state.now }
     ensures { result ≡ is_node state.now x }
 {
-    if x < 1 {
-        return false;
-    }
-    x <= load(state).nodes as u64
+    (1..=load(state).nodes as u64).contains(&x)
 }
 
 // The number of digits alone, of memory of any length: 0 where it ends before.
 pub fn digits(state: &[u64]) -> usize
     ensures { result ≡ digits state.now }
 {
-    if state.len() < 2 {
-        return 0;
-    }
-    state[1] as usize
+    state.get(1).copied().unwrap_or(0) as usize
 }
 
 pub fn store(state: &mut [u64], s: Settings)

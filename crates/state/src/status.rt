@@ -1,8 +1,9 @@
-// A node's status by its number: document 01, "Identifiers and tables".
+// A node's status by its number: document 01, "Identifiers and tables". The four are associated
+// constants and no enum by a rule of the project; lent memory may hold any other number too.
 ghost use Rattle.std.specs.Prelude.{◌≡◌, cond, ◌||◌, eqb};
 ghost use Rattle.model.specs.Memory.{in_system, copying, waiting, notifying};
 
-#[derive(Clone, Copy)]
+#[derive(Clone, Copy, Debug, PartialEq, Eq)]
 pub struct Status {
     pub number: u64,
 }
@@ -21,20 +22,14 @@ impl Status {
     pub fn joining(self) -> bool
         ensures { result ≡ (eqb self.number copying || eqb self.number waiting) }
     {
-        if self.number == Status::COPYING {
-            return true;
-        }
-        self.number == Status::WAITING
+        self.number == Status::COPYING || self.number == Status::WAITING
     }
 
     // in system or notifying
     pub fn attached(self) -> bool
         ensures { result ≡ (eqb self.number in_system || eqb self.number notifying) }
     {
-        if self.number == Status::IN_SYSTEM {
-            return true;
-        }
-        self.number == Status::NOTIFYING
+        self.number == Status::IN_SYSTEM || self.number == Status::NOTIFYING
     }
 
     // the level below which nobody learns the node: its attach level while it notifies, else 0

@@ -13,9 +13,6 @@ module _ (t T : List ℕ) (K x i j u k : ℕ) (a : Appends t K x i j u) (lent : 
   e : k ≡ entry_size K (table_of t x) i j
   e = is ∙ ap (λ (T : List ℕ). entry_size K T i j) lent
 
-  pub append_place : 512 * (x - 1) + (64 * i + 4 * j + k) < length t
-  append_place = omega (arith, a.long, a.first, a.last, a.level, a.digit, a.deep, a.room, e)
-
   pub appended : set t (512 * (x - 1) + (64 * i + 4 * j + k)) u ≡ with_table t x (append K (table_of t x) i j u)
   unfolding append
   appended =

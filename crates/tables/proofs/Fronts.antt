@@ -27,9 +27,6 @@ pub record Passed (failed K : ℕ) (T : List ℕ) (i j k : ℕ) : Type 0 where
   pub passed : (m : ℕ) → m < k → has_node failed (slot_at T i j m) ≡ true
 
 module _ (failed K : ℕ) (T : List ℕ) (i j : ℕ) where
-  pub passed_none : Passed failed K T i j 0
-  passed_none = record { within = omega arith; passed = λ m l. absurd (omega arith) }
-
   module _ (k : ℕ) (p : Passed failed K T i j k) where
     -- one more failed node
     pub passed_more : k < K → slot_at T i j k ≢ 0 → (r : Bool) → r ≡ has_node failed (slot_at T i j k) → not r ≡ false → Passed failed K T i j (k + 1)

@@ -2,3 +2,4 @@
 pub mod Gathered
 pub mod Fronts
 pub mod Appended
+pub mod Slots

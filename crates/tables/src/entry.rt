@@ -1,11 +1,11 @@
 // An entry (i, j), level i and digit j, of one node's table: slot k, from 0 to 3, is byte 64i + 4j + k, and 0 where it is empty. Only the slots
 // below the depth are read, but where it says otherwise.
-ghost use Rattle.std.specs.Prelude.{◌≡◌, ◌≤◌, ◌<◌};
+ghost use Rattle.std.specs.Prelude.{◌≡◌, ◌≢◌, ◌≤◌, ◌<◌, IfSome};
 ghost use Rattle.model.specs.Loops.{all_below};
 ghost use Rattle.model.specs.Lookup as book;
 ghost use Rattle.model.specs.Tables as tables;
 ghost use Rattle.tables.specs.Places.{Entry, Numbers};
-ghost use Rattle.tables.specs.NextHop.{book_next_hop};
+ghost use Rattle.tables.specs.NextHop.{number_or_zero, book_next_hop};
 
 use state::sets::{has, is_empty};
 
@@ -15,14 +15,7 @@ pub fn size(table: &[u8], depth: usize, i: usize, j: usize) -> usize
     ensures { (result ≡ tables.entry_size depth table.now i j) × (result ≤ depth) }
 {
     let entry = 64 * i + 4 * j;
-    let mut k = 0;
-    while k < depth {
-        if table[entry + k] == 0 {
-            return k;
-        }
-        k += 1;
-    }
-    depth
+    (0..depth).find(|k| table[entry + *k] == 0).unwrap_or(depth)
 }
 
 // Whether node u stands in the entry.
@@ -31,28 +24,23 @@ pub fn holds(table: &[u8], depth: usize, i: usize, j: usize, u: usize) -> bool
     ensures { result ≡ tables.holds depth table.now i j u }
 {
     let entry = 64 * i + 4 * j;
-    let mut k = 0;
-    while k < depth {
-        if table[entry + k] as usize == u {
-            return true;
-        }
-        k += 1;
-    }
-    false
+    (0..depth).any(|k| table[entry + k] as usize == u)
 }
 
-// The first node of the entry, the one in slot 0; 0 where the entry is empty.
-pub fn first(table: &[u8], i: usize, j: usize) -> usize
+// The first node of the entry, the one in slot 0; none where the entry is empty.
+pub fn first(table: &[u8], i: usize, j: usize) -> Option<usize>
     requires { Entry table.now 1 i j }
-    ensures { result ≡ tables.first_of table.now i j }
+    ensures first { number_or_zero result ≡ tables.first_of table.now i j }
+    ensures some { IfSome result (λ u. u ≢ 0) }
 {
-    table[64 * i + 4 * j] as usize
+    let node = table[64 * i + 4 * j] as usize;
+    if node == 0 { None } else { Some(node) }
 }
 
-// The frontmost node of the entry that has not failed, 0 where none is left, and how many failed ones stand in front of it.
-#[derive(Clone, Copy)]
+// The frontmost node of the entry that has not failed, none where none is left, and how many failed ones stand in front of it.
+#[derive(Clone, Copy, Debug, PartialEq, Eq)]
 pub struct NextHop {
-    pub node: usize,
+    pub node: Option<usize>,
     pub passed_over: usize,
 }
 
@@ -61,7 +49,8 @@ pub fn frontmost(table: &[u8], depth: usize, i: usize, j: usize, failed: u64) ->
     requires entry { Entry table.now depth i j }
     requires numbers { Numbers table.now depth i j }
     requires le_depth { 1 ≤ depth }
-    ensures { book_next_hop result ≡ book.frontmost failed (tables.entry depth table.now i j) }
+    ensures hop { book_next_hop result ≡ book.frontmost failed (tables.entry depth table.now i j) }
+    ensures some { IfSome result.node (λ u. u ≢ 0) }
 {
     if is_empty(failed) {
         return NextHop {
@@ -70,25 +59,23 @@ pub fn frontmost(table: &[u8], depth: usize, i: usize, j: usize, failed: u64) ->
         };
     }
     let entry = 64 * i + 4 * j;
-    let mut k = 0;
-    while k < depth {
+    for k in 0..depth {
         let node = table[entry + k] as usize;
         if node == 0 {
             return NextHop {
-                node: 0,
+                node: None,
                 passed_over: k,
             };
         }
         if !has(failed, node) {
             return NextHop {
-                node,
+                node: Some(node),
                 passed_over: k,
             };
         }
-        k += 1;
     }
     NextHop {
-        node: 0,
+        node: None,
         passed_over: depth,
     }
 }

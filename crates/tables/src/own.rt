@@ -14,11 +14,8 @@ pub fn own_table(digits: usize, id: u32, x: usize) -> [u8; 512]
     ensures { result ≡ own_table digits id x }
 {
     let mut table = [0u8; 512];
-    let mut i = 0;
-    while i < digits {
-        let j = digit(id, i);
-        table[64 * i + 4 * j] = x as u8;
-        i += 1;
+    for i in 0..digits {
+        table[64 * i + 4 * digit(id, i)] = x as u8;
     }
     table
 }

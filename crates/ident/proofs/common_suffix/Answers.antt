@@ -16,7 +16,7 @@ returns-then-x-y c =
 
 pub returns : goal.returns
 returns c = (
-  c.smaller.ensures
+  c.min.ensures
       ∙ suffix_zeros c.args.digits c.args.x c.args.y c.ranges.x.fits c.ranges.y.fits c.if-x-y.false,
   omega arith,
 )

@@ -1,18 +1,26 @@
--- `ident::valid_id` meets its contract: the loop goes over the places that the id has, which decide as all digits do; its invariant is
--- the definition's test of the digits below `i`. The shift leaves the bits above. Assumes nothing.
-use native.Mathlib.Omega.{arith}
-use Rattle.model.proofs.Loops.{all_zero_lem}
-use Rattle.ident.proofs.Places.{valid_leaves, valid_goes, valid_ends}
+-- `ident::valid_id` meets its contract: the chain tests the digits in the places that the id has, which decide as all digits do, and the
+-- shift leaves the bits above. Assumes nothing.
+use Rattle.std.proofs.Common.{rules, refl, ap, sym, ◌∙◌, Bool}
+use mathlib.Core.Bool.{◌&&◌}
+use lib.Dec.{eqb}
+use Prim.Native.Nat.{◌/◌, ◌*◌, ◌^◌}
+use Rattle.model.specs.Ids.{digit_below}
+use Rattle.model.proofs.Ranges.{all_of_range}
+use Rattle.ident.proofs.Places.{valid_is}
 use Rattle.ident.proofs.valid_id.Goals as goal
 
-pub loop-i-init : goal.loop-i-init
-loop-i-init c = (omega arith, all_zero_lem _)
+pub returns-then-all : goal.returns-then-all
+returns-then-all c =
+    let a = c.args in
+    let p = c.min-places.result in
+    ap (λ (r : Bool). r && eqb (a.id / 2 ^ (4 * p)) 0) (sym c.if-all.true)
+    ∙ valid_is a.base a.digits a.id p c.all.result c.ranges.id.fits c.min-places.ensures
+    (all_of_range _ _ _ _ (digit_below a.base a.id) _ c.all.ensures.ran refl (λ x b q k. search rules))
 
-pub returns-then-base-digit : goal.returns-then-base-digit
-returns-then-base-digit c = search valid_leaves
-
-pub loop-i-preserved : goal.loop-i-preserved
-loop-i-preserved c = (omega arith, valid_goes _ _ _ _ c.loop-i.invariant.1 c.digit.ensures.0 c.if-base-digit.false)
-
-pub returns : goal.returns
-returns c = search valid_ends
+pub returns-else-all : goal.returns-else-all
+returns-else-all c =
+    let a = c.args in
+    let p = c.min-places.result in
+    c.if-all.false ∙ ap (λ (r : Bool). r && eqb (a.id / 2 ^ (4 * p)) 0) (sym c.if-all.false)
+    ∙ valid_is a.base a.digits a.id p c.all.result c.ranges.id.fits c.min-places.ensures
+    (all_of_range _ _ _ _ (digit_below a.base a.id) _ c.all.ensures.ran refl (λ x b q k. search rules))

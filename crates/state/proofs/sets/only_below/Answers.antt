@@ -2,5 +2,5 @@
 use Rattle.model.proofs.Sets.{below_code}
 use Rattle.state.proofs.sets.only_below.Goals as goal
 
-pub returns : goal.returns
-returns c = let a = c.args in below_code a.nodes a.n
+pub returns-else-n-eq64 : goal.returns-else-n-eq64
+returns-else-n-eq64 c = let a = c.args in below_code a.nodes a.n

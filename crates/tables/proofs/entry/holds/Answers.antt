@@ -1,13 +1,11 @@
--- `holds`: the slots before `k` do not hold `u`. Assumes nothing.
-use native.Mathlib.Omega.{arith}
-use Rattle.model.proofs.TableSteps.{holds_none, holds_goes, holds_leaves}
+-- `holds`: the chain tests each slot below the depth. Assumes nothing.
+use Rattle.std.proofs.Common.{rules}
+use Rattle.model.specs.Tables.{slot_is, holds}
+use Rattle.tables.proofs.Slots.{any_of_range}
 use Rattle.tables.proofs.entry.holds.Goals as goal
 
-pub loop-k-init : goal.loop-k-init
-loop-k-init c = (omega arith, search holds_none)
-
-pub returns-then-table-entry : goal.returns-then-table-entry
-returns-then-table-entry c = search holds_leaves
-
-pub loop-k-preserved : goal.loop-k-preserved
-loop-k-preserved c = (omega arith, search holds_goes)
+pub returns : goal.returns
+unfolding holds
+returns c =
+    let a = c.args in
+    any_of_range _ _ _ (slot_is a.table.now a.i a.j a.u) _ c.any.ensures.ran (λ x b q k. search rules)

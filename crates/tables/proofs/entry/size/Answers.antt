@@ -1,13 +1,17 @@
--- `size`: the slots before `k` are filled, so `k` is at most the size, and the first empty slot is at it. Assumes nothing.
-use native.Mathlib.Omega.{arith}
-use Rattle.model.proofs.TableSteps.{size_goes, size_leaves, size_ends}
+-- `size`: the first empty slot below the depth, which is the depth where there is none. Assumes nothing.
+use Rattle.std.proofs.Common.{rules, arith, ◌≡◌, true, false}
+use Rattle.std.proofs.lemmas.Iterator.{first_from_Range}
+use Rattle.model.specs.Tables.{slot_is, entry_size}
+use Rattle.model.proofs.Loops.{first_le}
+use Rattle.tables.proofs.Slots.{first_slot}
 use Rattle.tables.proofs.entry.size.Goals as goal
 
-pub returns-then-table-entry-eq0 : goal.returns-then-table-entry-eq0
-returns-then-table-entry-eq0 c = (search size_leaves, omega arith)
-
-pub loop-k-preserved : goal.loop-k-preserved
-loop-k-preserved c = (omega arith, search size_goes)
-
 pub returns : goal.returns
-returns c = (search size_ends, omega arith)
+unfolding entry_size
+returns c =
+    let a = c.args in
+    let empty = slot_is a.table.now a.i a.j 0 in
+    let is = first_slot a.depth empty c.find.result c.unwrap_or.result
+    (first_from_Range _ _ _ c.find.result (λ k. empty k ≡ true) (λ k. empty k ≡ false) c.find.ensures.ran (λ x q k. search rules) (λ x q k. search rules))
+    c.unwrap_or.ensures in
+    (is, omega (arith, is, first_le a.depth empty))
