@@ -3,14 +3,18 @@
 #![tactic(auto)]
 
 ghost use Rattle.std.specs.Prelude.{◌≡◌, not, ◌&&◌, ◌≤◌, length};
+ghost use Rattle.model.specs.Ids.{settings_in_range};
+ghost use Rattle.model.specs.Nodes.{all_nodes};
 ghost use Rattle.model.specs.Sound as book;
+ghost use Rattle.model.specs.Sound.{count_in_range, status_sound, counts_sound};
 ghost use Rattle.model.specs.Refusals.{memory_short};
 ghost use Rattle.model.specs.Memory.{state_length, tables_length};
 ghost use Rattle.state.specs.Lent.{memory};
 ghost use Rattle.state.specs.Loaded.{SettingsOf};
 ghost use Rattle.state.specs.Checked.{Ranged};
-ghost use Rattle.soundness.specs.Clauses.{nodes_sound};
+ghost use Rattle.soundness.specs.Clauses.{nodes_sound, checked_sound};
 
+use soundness_ids::checked::Checked;
 use state::settings::Settings;
 use state::{lent, settings};
 
@@ -20,29 +24,26 @@ mod unused;
 pub fn sound(state: &[u64], tables: &[u8]) -> bool
     ensures { result ≡ (not (memory_short (memory state.now tables.now)) && book.sound state.now tables.now) }
 {
-    if lent::short(state, tables) {
-        return false;
-    }
-    settings_first(state, tables)
+    !lent::short(state, tables) && settings_first(state, tables)
 }
 
-// The settings and the number of nodes are in range, and so is what comes after them.
+// The settings and the number of nodes are in range.
+fn is_in_range(s: Settings) -> bool
+    ensures { result ≡ (settings_in_range s.base s.digits s.depth && count_in_range s.nodes) }
+{
+    ident::settings_in_range(s.base as u64, s.digits as u64, s.depth as u64)
+        && (1..=64).contains(&s.nodes)
+}
+
+// The settings and the number of nodes are in range, and what comes after them is sound.
+#[tactic(auto, unfolding(model::specs::Sound::sound))]
 fn settings_first(state: &[u64], tables: &[u8]) -> bool
     requires state_length_in_bounds { state_length ≤ length state.now }
     requires tables_length_in_bounds { tables_length ≤ length tables.now }
     ensures { result ≡ book.sound state.now tables.now }
 {
     let s = settings::load(state);
-    if !ident::settings_in_range(s.base as u64, s.digits as u64, s.depth as u64) {
-        return false;
-    }
-    if s.nodes < 1 {
-        return false;
-    }
-    if 64 < s.nodes {
-        return false;
-    }
-    nodes_next(state, tables, s)
+    is_in_range(s) && nodes_next(state, tables, s)
 }
 
 // What is asked of the nodes, their ids before anything that leans on them.
@@ -52,20 +53,28 @@ fn nodes_next(state: &[u64], tables: &[u8], s: Settings) -> bool
     requires tables_length_in_bounds { tables_length ≤ length tables.now }
     ensures { result ≡ nodes_sound state.now tables.now }
 {
-    if !soundness_ids::valid(state, s) {
-        return false;
-    }
-    if !soundness_ids::different(state, s) {
-        return false;
-    }
-    if !soundness_tables::all(state, tables, s) {
-        return false;
-    }
-    if !soundness_status::all(state, s) {
-        return false;
-    }
-    if !soundness_counts::all(state, s) {
-        return false;
-    }
-    unused::all(state, tables, s)
+    soundness_ids::valid(state, s)
+        && checked_next(&Checked {
+            words: state,
+            tables,
+            settings: s,
+        })
+}
+
+// The statuses, and the counts, which lean on them.
+fn statuses_and_counts(state: &Checked<'_>) -> bool
+    ensures { let s = state.now.words.now in
+        result ≡ (all_nodes s (status_sound s) && all_nodes s (counts_sound s)) }
+{
+    soundness_status::all(state) && soundness_counts::all(state)
+}
+
+// What leans on valid ids.
+fn checked_next(state: &Checked<'_>) -> bool
+    ensures { result ≡ checked_sound state.now.words.now state.now.tables.now }
+{
+    soundness_ids::different(state)
+        && soundness_tables::all(state)
+        && statuses_and_counts(state)
+        && unused::all(state)
 }

@@ -1,4 +1,5 @@
-// The ids of the nodes: each is valid, and no two are equal.
+// The ids of the nodes: each is valid, and no two are equal. A state with valid ids and its nodes
+// are values that the checks after it take.
 #![tactic(auto)]
 
 ghost use Rattle.std.specs.Prelude.{◌≡◌};
@@ -6,11 +7,15 @@ ghost use Rattle.model.specs.Sound.{has_valid_id, has_new_id};
 ghost use Rattle.state.specs.Loaded.{SettingsOf};
 ghost use Rattle.model.proofs.Status.{IsNode};
 ghost use Rattle.model.specs.Nodes.{all_nodes};
-ghost use Rattle.state.specs.Checked.{Ranged, Identified};
+ghost use Rattle.state.specs.Checked.{Ranged};
 
+use crate::checked::Checked;
 use state::record;
 use state::settings::Settings;
 
+pub mod checked;
+pub mod member;
+pub mod reading;
 mod row;
 
 const LARGEST: u64 = 0xffff_ffff;
@@ -23,10 +28,7 @@ fn is_valid(state: &[u64], s: Settings, x: usize) -> bool
     ensures { result ≡ has_valid_id state.now x }
 {
     let id = record::id(state, x);
-    if LARGEST < id {
-        return false;
-    }
-    ident::valid_id(s.base, s.digits, id as u32)
+    id <= LARGEST && ident::valid_id(s.base, s.digits, id as u32)
 }
 
 pub fn valid(state: &[u64], s: Settings) -> bool
@@ -34,28 +36,12 @@ pub fn valid(state: &[u64], s: Settings) -> bool
     requires settings_of { SettingsOf state.now s }
     ensures { result ≡ all_nodes state.now (has_valid_id state.now) }
 {
-    let mut k = 0;
-    while k < s.nodes {
-        if !is_valid(state, s, k + 1) {
-            return false;
-        }
-        k += 1;
-    }
-    true
+    (1..s.nodes + 1).all(|x| is_valid(state, s, x))
 }
 
-pub fn different(state: &[u64], s: Settings) -> bool
-    requires identified { Identified state.now }
-    requires settings_of { SettingsOf state.now s }
-    ensures { result ≡ all_nodes state.now (has_new_id state.now) }
+pub fn different(state: &Checked<'_>) -> bool
+    ensures { result ≡ all_nodes state.now.words.now (has_new_id state.now.words.now) }
 {
-    let ids = row::of(state, s);
-    let mut k = 0;
-    while k < s.nodes {
-        if !row::is_new(&ids, k) {
-            return false;
-        }
-        k += 1;
-    }
-    true
+    let ids = row::of(state);
+    (0..state.settings.nodes).all(|k| row::is_new(&ids, k))
 }

@@ -2,60 +2,33 @@
 #![tactic(auto)]
 
 ghost use Rattle.std.specs.Prelude.{◌≡◌};
-ghost use Rattle.model.specs.Memory.{node_of};
 ghost use Rattle.model.specs.Sound.{notifying_sound};
-ghost use Rattle.state.specs.Loaded.{SettingsOf, book_node};
-ghost use Rattle.model.proofs.Status.{IsNode};
-ghost use Rattle.state.specs.Checked.{Identified};
 ghost use Rattle.soundness_notifying.specs.Sets.{sets_sound};
 
-use state::node::Owner;
-use state::record::Node;
-use state::settings::Settings;
-use state::{node, sets};
+use soundness_ids::member::Member;
+use state::sets;
 
 mod notified;
 mod pending;
 
 // Both sets name nodes alone, each of them one that may stand there.
-fn sets_sound(state: &[u64], s: Settings, x: usize, r: Node) -> bool
-    requires identified { Identified state.now }
-    requires settings_of { SettingsOf state.now s }
-    requires node { IsNode state.now x }
-    requires r_value { book_node r ≡ node_of state.now x }
-    ensures { result ≡ sets_sound state.now x }
+fn sets_sound(owner: &Member<'_>) -> bool
+    ensures { result ≡ sets_sound owner.now.state.words.now owner.now.number }
 {
-    if !sets::only_below(r.pending, s.nodes) {
-        return false;
-    }
-    if !sets::only_below(r.notified, s.nodes) {
-        return false;
-    }
-    let o = Owner {
-        number: x,
-        id: node::id(state, x),
-    };
-    if !pending::all(state, s, o, r) {
-        return false;
-    }
-    notified::all(state, s, x, r)
+    let nodes = owner.state.settings.nodes;
+    sets::only_below(owner.node.pending, nodes)
+        && sets::only_below(owner.node.notified, nodes)
+        && pending::is_sound(owner)
+        && notified::is_sound(owner)
 }
 
-pub fn sound(state: &[u64], s: Settings, x: usize, r: Node) -> bool
-    requires identified { Identified state.now }
-    requires settings_of { SettingsOf state.now s }
-    requires node { IsNode state.now x }
-    requires r_value { book_node r ≡ node_of state.now x }
-    ensures { result ≡ notifying_sound state.now x }
+#[tactic(auto, unfolding(model::specs::Sound::notifying_sound))]
+pub fn sound(owner: &Member<'_>) -> bool
+    ensures { result ≡ notifying_sound owner.now.state.words.now owner.now.number }
 {
-    if r.target != 0 {
-        return false;
-    }
-    if s.digits as u64 <= r.level {
-        return false;
-    }
-    if sets::is_empty(r.pending) {
-        return false;
-    }
-    sets_sound(state, s, x, r)
+    let node = owner.node;
+    node.target == 0
+        && node.level < owner.state.settings.digits as u64
+        && !sets::is_empty(node.pending)
+        && sets_sound(owner)
 }

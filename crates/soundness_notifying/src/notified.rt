@@ -1,45 +1,24 @@
 // The notified set: its nodes are in system or notifying, and not the owner.
 ghost use Rattle.std.specs.Prelude.{◌≡◌};
-ghost use Rattle.model.specs.Loops.{node};
-ghost use Rattle.model.specs.Memory.{node_of};
 ghost use Rattle.model.specs.Sound.{notified_sound};
-ghost use Rattle.state.specs.Loaded.{SettingsOf, book_node};
 ghost use Rattle.model.proofs.Status.{IsNode};
 ghost use Rattle.model.specs.Nodes.{all_nodes};
-ghost use Rattle.state.specs.Checked.{Ranged};
 
-use state::record::Node;
-use state::settings::Settings;
-use state::{node, sets};
+use soundness_ids::member::Member;
+use state::sets;
 
 // Node u is not in the set, or may be.
-fn one(state: &[u64], x: usize, r: Node, u: usize) -> bool
-    requires ranged { Ranged state.now }
-    requires r_value { book_node r ≡ node_of state.now x }
-    requires node { IsNode state.now u }
-    ensures { result ≡ notified_sound state.now x u }
+#[tactic(auto, unfolding(model::specs::Sound::notified_sound))]
+fn may_stand(owner: &Member<'_>, u: usize) -> bool
+    requires { IsNode owner.now.state.words.now u }
+    ensures { result ≡ notified_sound owner.now.state.words.now owner.now.number u }
 {
-    if !sets::has(r.notified, u) {
-        return true;
-    }
-    if !node::attached(state, u) {
-        return false;
-    }
-    u != x
+    !sets::has(owner.node.notified, u) || (u != owner.number && owner.state.is_attached(u))
 }
 
-pub fn all(state: &[u64], s: Settings, x: usize, r: Node) -> bool
-    requires ranged { Ranged state.now }
-    requires settings_of { SettingsOf state.now s }
-    requires r_value { book_node r ≡ node_of state.now x }
-    ensures { result ≡ all_nodes state.now (notified_sound state.now x) }
+pub fn is_sound(owner: &Member<'_>) -> bool
+    ensures { let s = owner.now.state.words.now in
+        result ≡ all_nodes s (notified_sound s owner.now.number) }
 {
-    let mut k = 0;
-    while k < s.nodes {
-        if !one(state, x, r, k + 1) {
-            return false;
-        }
-        k += 1;
-    }
-    true
+    (1..owner.state.settings.nodes + 1).all(|u| may_stand(owner, u))
 }

@@ -1,56 +1,29 @@
 // The pending set: its nodes are in system or notifying, share at least as many digits with the owner as its attach level says, and are
 // neither the owner nor notified.
 ghost use Rattle.std.specs.Prelude.{◌≡◌};
-ghost use Rattle.model.specs.Loops.{node};
-ghost use Rattle.model.specs.Memory.{node_of};
 ghost use Rattle.model.specs.Sound.{pending_sound};
-ghost use Rattle.state.specs.Loaded.{SettingsOf, book_node};
 ghost use Rattle.model.proofs.Status.{IsNode};
 ghost use Rattle.model.specs.Nodes.{all_nodes};
-ghost use Rattle.state.specs.Checked.{Identified, OwnerOf};
 
-use state::node::Owner;
-use state::record::Node;
-use state::settings::Settings;
-use state::{node, sets};
+use soundness_ids::member::Member;
+use state::sets;
 
 // Node u is not in the set, or may be.
-fn one(state: &[u64], s: Settings, o: Owner, r: Node, u: usize) -> bool
-    requires identified { Identified state.now }
-    requires settings_of { SettingsOf state.now s }
-    requires owner_of { OwnerOf state.now o }
-    requires r_value { book_node r ≡ node_of state.now o.number }
-    requires node { IsNode state.now u }
-    ensures { result ≡ pending_sound state.now o.number u }
+#[tactic(auto, unfolding(model::specs::Sound::pending_sound))]
+fn may_stand(owner: &Member<'_>, u: usize) -> bool
+    requires { IsNode owner.now.state.words.now u }
+    ensures { result ≡ pending_sound owner.now.state.words.now owner.now.number u }
 {
-    if !sets::has(r.pending, u) {
-        return true;
-    }
-    if !node::attached(state, u) {
-        return false;
-    }
-    if (ident::common_suffix(s.digits, o.id, node::id(state, u)) as u64) < r.level {
-        return false;
-    }
-    if u == o.number {
-        return false;
-    }
-    !sets::has(r.notified, u)
+    !sets::has(owner.node.pending, u)
+        || (owner.state.is_attached(u)
+            && owner.node.level <= owner.suffix_with(u)
+            && u != owner.number
+            && !sets::has(owner.node.notified, u))
 }
 
-pub fn all(state: &[u64], s: Settings, o: Owner, r: Node) -> bool
-    requires identified { Identified state.now }
-    requires settings_of { SettingsOf state.now s }
-    requires owner_of { OwnerOf state.now o }
-    requires r_value { book_node r ≡ node_of state.now o.number }
-    ensures { result ≡ all_nodes state.now (pending_sound state.now o.number) }
+pub fn is_sound(owner: &Member<'_>) -> bool
+    ensures { let s = owner.now.state.words.now in
+        result ≡ all_nodes s (pending_sound s owner.now.number) }
 {
-    let mut k = 0;
-    while k < s.nodes {
-        if !one(state, s, o, r, k + 1) {
-            return false;
-        }
-        k += 1;
-    }
-    true
+    (1..owner.state.settings.nodes + 1).all(|u| may_stand(owner, u))
 }

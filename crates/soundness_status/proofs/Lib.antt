@@ -1,2 +1,2 @@
--- Laws that join what the code has computed to the clauses of the book.
+-- Laws of the check of the statuses.
 pub mod StatusLaws

@@ -2,65 +2,52 @@
 #![tactic(auto)]
 
 ghost use Rattle.std.specs.Prelude.{◌≡◌};
-ghost use Rattle.model.specs.Sound.{status_sound};
-ghost use Rattle.state.specs.Loaded.{SettingsOf, book_node};
-ghost use Rattle.model.proofs.Status.{IsNode};
+ghost use Rattle.model.specs.Sound.{in_system_sound, status_sound};
 ghost use Rattle.model.specs.Nodes.{all_nodes};
-ghost use Rattle.state.specs.Checked.{Identified};
-ghost use Rattle.soundness_status.specs.StatusFacts.{in_system_words};
+ghost use Rattle.model.proofs.Status.{IsNode};
 
-use state::record::Node;
-use state::settings::Settings;
+use soundness_ids::checked::Checked;
+use soundness_ids::member::Member;
+use state::sets;
 use state::status::Status;
-use state::{record, sets};
 
 mod joining;
 
 // In system: no attach level and no target, and both sets empty.
-fn in_system(r: Node) -> bool
-    ensures { result ≡ in_system_words (book_node r) }
+#[tactic(auto, unfolding(model::specs::Sound::in_system_sound))]
+fn is_in_system(node: &Member<'_>) -> bool
+    ensures { result ≡ in_system_sound node.now.state.words.now node.now.number }
 {
-    if r.level != 0 {
-        return false;
-    }
-    if r.target != 0 {
-        return false;
-    }
-    if !sets::is_empty(r.pending) {
-        return false;
-    }
-    sets::is_empty(r.notified)
+    let record = node.node;
+    record.level == 0
+        && record.target == 0
+        && sets::is_empty(record.pending)
+        && sets::is_empty(record.notified)
 }
 
 // The rules of the status of node x; a number above 3 is no status.
-fn status(state: &[u64], s: Settings, x: usize) -> bool
-    requires identified { Identified state.now }
-    requires settings_of { SettingsOf state.now s }
-    requires node { IsNode state.now x }
-    ensures { result ≡ status_sound state.now x }
+#[tactic(auto, unfolding(model::specs::Sound::status_sound, model::specs::Sound::copying_sound, model::specs::Sound::waiting_sound))]
+fn is_sound(state: &Checked<'_>, x: usize) -> bool
+    requires { IsNode state.now.words.now x }
+    ensures { result ≡ status_sound state.now.words.now x }
 {
-    let r = record::load(state, x);
-    let number = r.status;
-    match number {
-        Status::IN_SYSTEM => in_system(r),
-        Status::COPYING => joining::copying(state, s, x, r),
-        Status::WAITING => joining::waiting(state, s, x, r),
-        Status::NOTIFYING => soundness_notifying::sound(state, s, x, r),
+    let node = state.member(x);
+    let target = node.node.target as usize;
+    match node.node.status {
+        Status::IN_SYSTEM => is_in_system(&node),
+        Status::COPYING => joining::asks_node(&node)
+            && state.is_in_system(target)
+            && joining::is_at_rest(&node),
+        Status::WAITING => joining::asks_node(&node)
+            && state.is_attached(target)
+            && joining::is_at_rest(&node),
+        Status::NOTIFYING => soundness_notifying::sound(&node),
         _ => false,
     }
 }
 
-pub fn all(state: &[u64], s: Settings) -> bool
-    requires identified { Identified state.now }
-    requires settings_of { SettingsOf state.now s }
-    ensures { result ≡ all_nodes state.now (status_sound state.now) }
+pub fn all(state: &Checked<'_>) -> bool
+    ensures { result ≡ all_nodes state.now.words.now (status_sound state.now.words.now) }
 {
-    let mut k = 0;
-    while k < s.nodes {
-        if !status(state, s, k + 1) {
-            return false;
-        }
-        k += 1;
-    }
-    true
+    (1..state.settings.nodes + 1).all(|x| is_sound(state, x))
 }

@@ -2,7 +2,6 @@
 use Prim.Native.Nat.{ℕ, suc, ◌+◌, ◌*◌, ◌/◌, ◌%◌, ◌^◌, ◌≤◌, ◌<◌, min}
 use mathlib.Core.Path.{◌≡◌, sym, ap, ap₂, ◌∙◌}
 use mathlib.Core.Bool.{true}
-use mathlib.Core.List.{List}
 use native.Mathlib.Nat.{add_comm, mul_comm, mul-le-mul, one-mul, pow-le-pow_right, zero-lt-suc, le_of_lt, min-eq_left}
 use native.Mathlib.Numerals.{add-one}
 use native.Mathlib.Omega.{arith}
@@ -12,14 +11,9 @@ use lib.Dec.{eqb}
 use lib.Pow.{shl_exact}
 use borrow.Author.Tests.{eqb-true, eq-eqb}
 use Rattle.model.specs.Ids.{digit_of, low_digits, suffix_mask}
-use Rattle.model.specs.Memory.{id_of}
 use Rattle.model.specs.Tables.{qualified}
 use Rattle.model.proofs.Bools.{same_test, and_left, and_right, and_intro}
 use Rattle.model.proofs.Ids.{power_bits, low_suc, mask_low, low_lt}
-use Rattle.state.specs.Checked.{OwnerOf}
-use Rattle.state.specs.declared.node.Owner.{Owner}
-use Rattle.soundness_tables.specs.declared.rows.Row.{Row}
-use Rattle.soundness_tables.specs.TableFacts.{RowMade, RowOf}
 
 -- the low i digits of x_id with digit j before them
 abbrev ending : ℕ → ℕ → ℕ → ℕ
@@ -76,11 +70,3 @@ module _ (i : ℕ) (l : i < 8) where
 
   pub low_fits : (id low : ℕ) → low ≡ low_digits id i → low < 268435456
   low_fits id low e = omega (arith, weight_most, low_lt id i)
-
-pub row_of : (s : List ℕ) (o : Owner) (i : ℕ) (r : Row) → i < 8 → OwnerOf s o → RowMade o i r → RowOf s r
-row_of s o i r l w m = record {
-  within = omega (arith, m.level);
-  low = m.low ∙ ap₂ low_digits (w.id ∙ ap (id_of s) (sym m.owner)) (sym m.level);
-  weight = m.weight ∙ ap (λ (k : ℕ). 16 ^ k) (sym m.level);
-  mask = m.mask ∙ ap (λ (k : ℕ). suffix_mask (k + 1)) (sym m.level);
-}

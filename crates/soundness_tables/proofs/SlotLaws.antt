@@ -1,43 +1,22 @@
 -- Laws of slots as the code reads them. Assumes nothing.
 use Prim.Native.Nat.{ℕ, ◌≤◌, ◌<◌}
-use mathlib.Core.Path.{◌≡◌, refl, sym, ap, subst, ◌∙◌}
-use mathlib.Core.Bool.{Bool, true, false, ◌||◌, or-false}
+use mathlib.Core.Path.{◌≡◌, refl, sym, subst, ◌∙◌}
+use mathlib.Core.Bool.{Bool, true}
 use mathlib.Core.List.{List}
 use native.Mathlib.Omega.{arith}
 use borrow.Author.Tests.{eqb-true}
 use Rattle.model.specs.Loops.{all_below}
 use Rattle.model.specs.Memory.{depth, node_count}
 use Rattle.model.specs.Tables.{slot_at, slot_is}
-use Rattle.model.proofs.Bools.{or_intro_right}
 use Rattle.model.proofs.Loops.{all_of, all_at}
-use Rattle.model.proofs.Early.{eq_or_goes, eq_or_leaves, le_goes, le_leaves, lt_goes, lt_leaves}
+use Rattle.model.proofs.Early.{eq_or_goes, eq_or_leaves, le_goes, lt_goes}
 use Rattle.soundness_tables.specs.TableFacts.{filled_sound, slot_exact, entry_exact}
-
--- `if r { return true; } q` for `a || b`, where r is the second of the two
-pub other_leaves : (a b r : Bool) → r ≡ b → r ≡ true → true ≡ (a || b)
-other_leaves a b r e h = sym (or_intro_right a b (sym e ∙ h))
-
-pub other_goes : (a b r q : Bool) → r ≡ b → r ≡ false → q ≡ a → q ≡ (a || b)
-other_goes a b r q e h p = p ∙ sym (or-false a) ∙ ap (λ (t : Bool). a || t) (sym h ∙ e)
 
 -- ---- a slot's tests, u being the node that the code has read there, d the depth and n the number of nodes that it holds
 
 pub slot_empty : (s : List ℕ) (x : ℕ) (T : List ℕ) (i j k u : ℕ) → u ≡ slot_at T i j k → u ≡ 0 → true ≡ slot_exact s x T i j k
 unfolding slot_exact
 slot_empty s x T i j k u p e = eq_or_leaves (slot_at T i j k) 0 _ (sym p ∙ e)
-
-pub slot_unused : (s : List ℕ) (x : ℕ) (T : List ℕ) (i j k u d : ℕ) → u ≡ slot_at T i j k → d ≡ depth s → (u ≡ 0 → ⊥) → d ≤ k
-    → false ≡ slot_exact s x T i j k
-unfolding slot_exact
-slot_unused s x T i j k u d p q h l =
-    eq_or_goes (slot_at T i j k) 0 _ _ (λ e. h (p ∙ e)) (lt_leaves k (depth s) _ (omega arith))
-
-pub slot_beyond : (s : List ℕ) (x : ℕ) (T : List ℕ) (i j k u d n : ℕ) → u ≡ slot_at T i j k → d ≡ depth s → n ≡ node_count s → (u ≡ 0 → ⊥)
-    → k < d → n < u → false ≡ slot_exact s x T i j k
-unfolding slot_exact
-slot_beyond s x T i j k u d n p q w h g l =
-    eq_or_goes (slot_at T i j k) 0 _ _ (λ e. h (p ∙ e))
-    (lt_goes k (depth s) _ _ (omega arith) (le_leaves (slot_at T i j k) (node_count s) _ (omega arith)))
 
 pub slot_filled_lem : (s : List ℕ) (x : ℕ) (T : List ℕ) (i j k u d n : ℕ) (r : Bool) → u ≡ slot_at T i j k → d ≡ depth s → n ≡ node_count s
     → (u ≡ 0 → ⊥) → k < d → u ≤ n → r ≡ filled_sound s x T i j k u → r ≡ slot_exact s x T i j k
@@ -49,9 +28,10 @@ slot_filled_lem s x T i j k u d n r p q w h g l e =
 
 -- four empty slots are a sound entry
 pub entry_empty : (s : List ℕ) (x : ℕ) (T : List ℕ) (i j : ℕ) (r : Bool) → r ≡ all_below 4 (slot_is T i j 0) → r ≡ true
-    → true ≡ entry_exact s x T i j
+    → r ≡ entry_exact s x T i j
 unfolding entry_exact
 entry_empty s x T i j r e h =
-    sym
+    h
+    ∙ sym
     (all_of 4 (slot_exact s x T i j)
     (λ k g. sym (slot_empty s x T i j k 0 (sym (eqb-true (slot_at T i j k) 0 (all_at 4 (slot_is T i j 0) (sym e ∙ h) k g))) refl)))

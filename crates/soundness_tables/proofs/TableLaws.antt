@@ -1,18 +1,18 @@
 -- Laws of a whole table: the rules as the code asks them, each unused place with its entry or its level, are the book's. Assumes nothing.
-use Prim.Native.Nat.{ℕ, ◌+◌, ◌-◌, ◌*◌, ◌/◌, ◌%◌, ◌≤◌, ◌<◌}
-use mathlib.Core.Path.{◌≡◌, sym, ap, subst, ◌∙◌}
+use Prim.Native.Nat.{ℕ, ◌+◌, ◌*◌, ◌/◌, ◌%◌, ◌≤◌, ◌<◌}
+use mathlib.Core.Path.{◌≡◌, sym, ap, ◌∙◌}
 use mathlib.Core.Logic.{⊎_elim}
-use mathlib.Core.Bool.{Bool, true, false, not, ◌&&◌}
+use mathlib.Core.Bool.{Bool, true, ◌&&◌}
 use mathlib.Core.List.{List}
 use native.Mathlib.Omega.{arith}
 use lib.Dec.{eqb, ltb}
-use lib.ListN.{length, get_or, take, drop}
+use lib.ListN.{length, get_or}
 use borrow.Author.Tests.{eqb-true, eq-eqb, lt-ltb, ltb-true}
 use Rattle.model.specs.Loops.{all_below}
 use Rattle.model.specs.Memory.{base, digits, depth}
 use Rattle.model.specs.Tables.{slot_place, slot_at}
-use Rattle.model.specs.Sound.{slot_sound, entry_sound, level_sound, owner_first, place_used, place_sound, table_sound, all_zero}
-use Rattle.model.proofs.Bools.{same_test, le_or_lt, and_left, and_right, and_intro, or_cases, or_intro_left, or_intro_right, and_leaves, and_goes}
+use Rattle.model.specs.Sound.{slot_sound, entry_sound, level_sound, owner_first, place_used, place_sound, table_sound}
+use Rattle.model.proofs.Bools.{same_test, le_or_lt, and_left, and_right, and_intro, or_cases, or_intro_left, or_intro_right}
 use Rattle.model.proofs.Loops.{all_at, all_of}
 use Rattle.model.proofs.Zero.{part_zero_at, part_zero_of}
 use Rattle.state.specs.Checked.{Ranged, Identified}
@@ -152,14 +152,7 @@ module _ (s : List ℕ) (x : ℕ) (T : List ℕ) (w : Ranged s) (whole : length 
   table_is : (all_below (digits s) (level_exact s x T) && levels_rest_zero s T) ≡ table_sound s x T
   table_is = same_test _ _ table_sound_lem table_exact
 
--- the code's two returns: a level is not sound; every level is, d the digits that the code holds and z what it found of the levels from d on
-pub table_leaves : (s : List ℕ) (x : ℕ) (T : List ℕ) (r : Bool) → Identified s → length T ≡ 512 → r ≡ all_below (digits s) (level_exact s x T)
-    → not r ≡ true → false ≡ table_sound s x T
-table_leaves s x T r w whole e h = and_leaves _ (levels_rest_zero s T) r e h ∙ table_is s x T w.ranged whole
-
-pub table_ends : (s : List ℕ) (x : ℕ) (T : List ℕ) (r : Bool) (d : ℕ) (z : Bool) → Identified s → length T ≡ 512
-    → r ≡ all_below (digits s) (level_exact s x T) → not r ≡ false → d ≡ digits s → z ≡ all_zero (take (512 - 64 * d) (drop (64 * d) T))
-    → z ≡ table_sound s x T
-table_ends s x T r d z w whole e h g f =
-    and_goes _ (levels_rest_zero s T) r z e h (subst (λ (n : ℕ). z ≡ all_zero (take (512 - 64 * n) (drop (64 * n) T))) g f)
-    ∙ table_is s x T w.ranged whole
+-- what the code answers, q, is the book's
+pub table_by : (s : List ℕ) (x : ℕ) (T : List ℕ) (q : Bool) → Identified s → length T ≡ 512
+    → q ≡ (all_below (digits s) (level_exact s x T) && levels_rest_zero s T) → q ≡ table_sound s x T
+table_by s x T q w whole e = e ∙ table_is s x T w.ranged whole

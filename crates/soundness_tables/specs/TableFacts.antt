@@ -1,20 +1,11 @@
 -- What the check of a table cites: its entries, its levels, and the rules as the code asks them, each unused place with the entry or the level that
 -- it stands in. s is the state, x the owner, T its table.
-use Rattle.std.specs.Prelude.{ℕ, ◌+◌, ◌-◌, ◌*◌, ◌^◌, ◌<◌, ◌≡◌, Bool, not, ◌&&◌, ◌||◌, List, eqb, leb, ltb, length, get_or, take, drop}
+use Rattle.std.specs.Prelude.{ℕ, ◌+◌, ◌-◌, ◌*◌, Bool, not, ◌&&◌, ◌||◌, List, eqb, leb, ltb, get_or, take, drop}
 use Rattle.model.specs.Loops.{all_below}
-use Rattle.model.specs.Ids.{low_digits, suffix_mask}
-use Rattle.model.specs.Memory.{base, digits, depth, node_count, id_of}
+use Rattle.model.specs.Memory.{base, digits, depth, node_count}
 use Rattle.model.specs.Tables.{slot_at}
 use Rattle.model.specs.Nodes.{qualifies}
 use Rattle.model.specs.Sound.{may_stand, no_gap_before, slot_differs, owner_first, all_zero}
-use Rattle.state.specs.declared.node.Owner.{Owner}
-use Rattle.soundness_tables.specs.declared.rows.Row.{Row}
-
--- entry (i, j) stands in the table
-pub record EntryIn (T : List ℕ) (i j : ℕ) : Type 0 where
-  pub whole : length T ≡ 512
-  pub level : i < 8
-  pub digit : j < 16
 
 -- a filled slot
 abbrev pub filled_byte : ℕ → Bool
@@ -22,21 +13,6 @@ filled_byte w = not (eqb w 0)
 
 abbrev pub slot_filled : List ℕ → ℕ → Bool
 slot_filled row p = filled_byte (get_or row p 0)
-
--- level i of the owner's table as the code makes it
-pub record RowMade (o : Owner) (i : ℕ) (r : Row) : Type 0 where
-  pub owner : r.owner ≡ o.number
-  pub level : r.level ≡ i
-  pub low : r.low ≡ low_digits o.id i
-  pub weight : r.weight ≡ 16 ^ i
-  pub mask : r.mask ≡ suffix_mask (i + 1)
-
--- a level of a node's table
-pub record RowOf (s : List ℕ) (r : Row) : Type 0 where
-  pub within : r.level < 8
-  pub low : r.low ≡ low_digits (id_of s r.owner) r.level
-  pub weight : r.weight ≡ 16 ^ r.level
-  pub mask : r.mask ≡ suffix_mask (r.level + 1)
 
 -- the tests of a filled slot that come after that of its number
 abbrev pub filled_sound : List ℕ → ℕ → List ℕ → ℕ → ℕ → ℕ → ℕ → Bool

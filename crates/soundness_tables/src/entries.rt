@@ -1,96 +1,59 @@
 // The entries of a level: each holds K nodes at most, all of them qualified and no two equal, in its slots from 0 on with no gap between.
-ghost use Rattle.std.specs.Prelude.{◌≡◌, ◌<◌, length};
+ghost use Rattle.std.specs.Prelude.{◌≡◌, ◌<◌};
 ghost use Rattle.model.specs.Loops.{all_below};
 ghost use Rattle.model.specs.Memory as memory;
 ghost use Rattle.model.specs.Sound.{may_stand};
-ghost use Rattle.state.specs.Loaded.{SettingsOf};
 ghost use Rattle.model.proofs.Status.{IsNode};
-ghost use Rattle.state.specs.Checked.{Ranged};
-ghost use Rattle.soundness_tables.specs.TableFacts.{EntryIn, RowOf, slot_exact, entry_exact};
+ghost use Rattle.soundness_tables.specs.TableFacts.{slot_exact, entry_exact};
 
-use crate::rows::Row;
-use crate::{rows, slots};
-use state::node;
-use state::settings::Settings;
+use crate::row::Row;
+use soundness_ids::member::Member;
 
 // In x's table stand x and attached nodes; most nodes are attached.
-fn may_stand(state: &[u64], x: usize, u: usize) -> bool
-    requires ranged { Ranged state.now }
-    requires node { IsNode state.now u }
-    ensures { result ≡ may_stand state.now x u }
+fn may_stand(owner: &Member<'_>, u: usize) -> bool
+    requires { IsNode owner.now.state.words.now u }
+    ensures { result ≡ may_stand owner.now.state.words.now owner.now.number u }
 {
-    if node::attached(state, u) {
-        return true;
-    }
-    u == x
+    owner.state.is_attached(u) || u == owner.number
 }
 
 // Slot k of entry j is empty, or is below K, follows a filled one and holds a node that may stand there, is qualified and is in no slot before it.
-fn slot(state: &[u64], table: &[u8], s: Settings, r: Row, j: usize, k: usize) -> bool
-    requires ranged { Ranged state.now }
-    requires settings_of { SettingsOf state.now s }
-    requires row_of { RowOf state.now r }
-    requires entry_in { EntryIn table.now r.level j }
-    requires k_bound { k < 4 }
-    ensures { result ≡ slot_exact state.now r.owner table.now r.level j k }
+#[tactic(auto, unfolding(crate::specs::TableFacts::slot_exact))]
+fn is_slot_sound(row: &Row<'_>, j: usize, k: usize) -> bool
+    requires digit { j < 16 }
+    requires slot { k < 4 }
+    ensures { let table = row.now.table in
+        let s = table.owner.state.words.now in
+        result ≡ slot_exact s table.owner.number table.bytes.now row.now.level j k }
 {
-    let u = slots::at(table, r.level, j, k);
-    if u == 0 {
-        return true;
-    }
-    if s.depth <= k {
-        return false;
-    }
-    if s.nodes < u {
-        return false;
-    }
-    if !may_stand(state, r.owner, u) {
-        return false;
-    }
-    if !rows::qualified(state, r, j, u) {
-        return false;
-    }
-    if !slots::no_gap(table, r.level, j, k) {
-        return false;
-    }
-    slots::new_at(table, r.level, j, u, k)
+    let owner = row.table.owner;
+    let settings = owner.state.settings;
+    let u = row.slot(j, k);
+    u == 0
+        || (k < settings.depth
+            && u <= settings.nodes
+            && may_stand(&owner, u)
+            && row.is_qualified(j, u)
+            && row.has_no_gap_before(j, k)
+            && row.is_new_at(j, u, k))
 }
 
 // All four slots of entry j; most entries are empty.
-fn entry(state: &[u64], table: &[u8], s: Settings, r: Row, j: usize) -> bool
-    requires ranged { Ranged state.now }
-    requires settings_of { SettingsOf state.now s }
-    requires row_of { RowOf state.now r }
-    requires entry_in { EntryIn table.now r.level j }
-    ensures { result ≡ entry_exact state.now r.owner table.now r.level j }
+fn is_entry_sound(row: &Row<'_>, j: usize) -> bool
+    requires { j < 16 }
+    ensures { let table = row.now.table in
+        let s = table.owner.state.words.now in
+        result ≡ entry_exact s table.owner.number table.bytes.now row.now.level j }
 {
-    if tables::entry::empty(table, r.level, j) {
-        return true;
-    }
-    let mut k = 0;
-    while k < 4 {
-        if !slot(state, table, s, r, j, k) {
-            return false;
-        }
-        k += 1;
-    }
-    true
+    tables::entry::empty(row.table.bytes, row.level, j) || (0..4).all(|k| is_slot_sound(row, j, k))
 }
 
 // The entries of a level.
-pub fn all(state: &[u64], table: &[u8], s: Settings, r: Row) -> bool
-    requires ranged { Ranged state.now }
-    requires settings_of { SettingsOf state.now s }
-    requires row_of { RowOf state.now r }
-    requires table_len { length table.now ≡ 512 }
-    ensures { result ≡ all_below (memory.base state.now) (entry_exact state.now r.owner table.now r.level) }
+pub fn all(row: &Row<'_>) -> bool
+    ensures { let table = row.now.table in
+        let s = table.owner.state.words.now in
+        let is_sound = entry_exact s table.owner.number table.bytes.now row.now.level in
+        result ≡ all_below (memory.base s) is_sound }
 {
-    let mut j = 0;
-    while j < s.base {
-        if !entry(state, table, s, r, j) {
-            return false;
-        }
-        j += 1;
-    }
-    true
+    (0..row.table.owner.state.settings.base).all(|j| is_entry_sound(row, j))
 }

@@ -1,67 +1,46 @@
 // The rules of the tables: document 01, "Identifiers and tables". Each node's table is handed on as one run of the lent table memory.
 #![tactic(auto)]
 
-ghost use Rattle.std.specs.Prelude.{◌≡◌, ◌+◌, ◌<◌, ◌≤◌, length};
-ghost use Rattle.model.specs.Loops.{node};
-ghost use Rattle.model.specs.Memory.{node_count, tables_length};
+ghost use Rattle.std.specs.Prelude.{◌≡◌};
 ghost use Rattle.model.specs.Sound.{table_sound, has_sound_table};
 ghost use Rattle.model.specs.Nodes.{all_nodes};
-ghost use Rattle.state.specs.Loaded.{SettingsOf};
-ghost use Rattle.state.specs.Checked.{Identified, OwnerOf};
+ghost use Rattle.model.proofs.Status.{IsNode};
 
-use state::node::Owner;
-use state::settings::Settings;
-use state::{node, zero};
+use member_table::MemberTable;
+use soundness_ids::checked::Checked;
+use state::zero;
+use tables::part;
 
 mod entries;
 mod levels;
+mod member_table;
+mod row;
 mod rows;
 mod slots;
 
 // The levels of the settings, and the unused ones from d on.
-fn table(state: &[u64], table: &[u8], s: Settings, o: Owner) -> bool
-    requires identified { Identified state.now }
-    requires settings_of { SettingsOf state.now s }
-    requires owner_of { OwnerOf state.now o }
-    requires table_len { length table.now ≡ 512 }
-    ensures { result ≡ table_sound state.now o.number table.now }
+fn is_table_sound(table: &MemberTable<'_>) -> bool
+    ensures { let owner = table.now.owner in
+        result ≡ table_sound owner.state.words.now owner.number table.now.bytes.now }
 {
-    if !levels::all(state, table, s, o) {
-        return false;
-    }
-    let a = 64 * s.digits;
-    zero::bytes(&table[a..512])
+    let a = 64 * table.owner.state.settings.digits;
+    levels::all(table) && zero::all_zero(&table.bytes[a..512])
 }
 
-// The table of node k + 1.
-fn table_at(state: &[u64], tables: &[u8], s: Settings, k: usize) -> bool
-    requires identified { Identified state.now }
-    requires settings_of { SettingsOf state.now s }
-    requires tables_length_in_bounds { tables_length ≤ length tables.now }
-    requires k_bound { k < node_count state.now }
-    ensures { result ≡ has_sound_table state.now tables.now (k + 1) }
+fn has_sound_table(state: &Checked<'_>, x: usize) -> bool
+    requires { IsNode state.now.words.now x }
+    ensures { result ≡ has_sound_table state.now.words.now state.now.tables.now x }
 {
-    let a = 512 * k;
-    let x = k + 1;
-    let o = Owner {
-        number: x,
-        id: node::id(state, x),
+    let table = MemberTable {
+        owner: state.member(x),
+        bytes: part::lent(state.tables, x),
     };
-    table(state, &tables[a..a + 512], s, o)
+    is_table_sound(&table)
 }
 
-pub fn all(state: &[u64], tables: &[u8], s: Settings) -> bool
-    requires identified { Identified state.now }
-    requires settings_of { SettingsOf state.now s }
-    requires tables_length_in_bounds { tables_length ≤ length tables.now }
-    ensures { result ≡ all_nodes state.now (has_sound_table state.now tables.now) }
+pub fn all(state: &Checked<'_>) -> bool
+    ensures { let s = state.now.words.now in
+        result ≡ all_nodes s (has_sound_table s state.now.tables.now) }
 {
-    let mut k = 0;
-    while k < s.nodes {
-        if !table_at(state, tables, s, k) {
-            return false;
-        }
-        k += 1;
-    }
-    true
+    (1..state.settings.nodes + 1).all(|x| has_sound_table(state, x))
 }

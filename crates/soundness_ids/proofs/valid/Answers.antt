@@ -1,13 +1,9 @@
--- `valid`: the loop's invariant is the book's test of the nodes up to `k`. Assumes nothing.
-use borrow.Author.Rules.{rules}
-use Rattle.model.proofs.Nodes.{all_loop_to}
+-- `valid`: the chain asks the book's test of each node. Assumes nothing.
+use Rattle.std.proofs.Common.{rules}
+use Rattle.model.specs.Sound.{has_valid_id}
+use Rattle.model.proofs.Ranges.{all_of_nodes}
 use Rattle.soundness_ids.proofs.valid.Goals as goal
 
-pub loop-k-init : goal.loop-k-init
-loop-k-init c = search (rules, all_loop_to)
-
-pub returns-then-not-is_valid : goal.returns-then-not-is_valid
-returns-then-not-is_valid c = search (rules, all_loop_to)
-
-pub loop-k-preserved : goal.loop-k-preserved
-loop-k-preserved c = search (rules, all_loop_to)
+pub returns : goal.returns
+returns c =
+    all_of_nodes _ _ _ _ (has_valid_id c.args.state.now) _ c.all.ensures.ran c.requires.settings_of.nodes (λ x b q k. search rules)

@@ -1,13 +1,10 @@
--- `all`: the loop's invariant is the book's test of the nodes up to `k`. Assumes nothing.
-use borrow.Author.Rules.{rules}
-use Rattle.model.proofs.Nodes.{all_loop_to}
+-- `all`: the chain asks the book's test of each node. Assumes nothing.
+use Rattle.std.proofs.Common.{rules}
+use Rattle.model.specs.Sound.{status_sound}
+use Rattle.model.proofs.Ranges.{all_of_nodes}
 use Rattle.soundness_status.proofs.all.Goals as goal
 
-pub loop-k-init : goal.loop-k-init
-loop-k-init c = search (rules, all_loop_to)
-
-pub returns-then-not-status : goal.returns-then-not-status
-returns-then-not-status c = search (rules, all_loop_to)
-
-pub loop-k-preserved : goal.loop-k-preserved
-loop-k-preserved c = search (rules, all_loop_to)
+pub returns : goal.returns
+returns c =
+    let state = c.args.state.now in
+    all_of_nodes _ _ _ _ (status_sound state.words.now) _ c.all.ensures.ran state.settings_of.nodes (λ x b q k. search rules)

@@ -1,13 +1,10 @@
--- `all`: the loop's invariant is the book's test of the nodes up to `k`. Assumes nothing.
-use borrow.Author.Rules.{rules}
-use Rattle.model.proofs.Nodes.{all_loop_to}
+-- `all`: the chain asks the book's test of each node. Assumes nothing.
+use Rattle.std.proofs.Common.{rules}
+use Rattle.model.specs.Sound.{has_sound_table}
+use Rattle.model.proofs.Ranges.{all_of_nodes}
 use Rattle.soundness_tables.proofs.all.Goals as goal
 
-pub loop-k-init : goal.loop-k-init
-loop-k-init c = search (rules, all_loop_to)
-
-pub returns-then-not-table_at : goal.returns-then-not-table_at
-returns-then-not-table_at c = search (rules, all_loop_to)
-
-pub loop-k-preserved : goal.loop-k-preserved
-loop-k-preserved c = search (rules, all_loop_to)
+pub returns : goal.returns
+returns c =
+    let state = c.args.state.now in
+    all_of_nodes _ _ _ _ (has_sound_table state.words.now state.tables.now) _ c.all.ensures.ran state.settings_of.nodes (λ x b q k. search rules)

@@ -1,20 +1,19 @@
 -- `tables_rest`: the loop's invariant is that the tables from the first one up to `k` are zero. Assumes nothing.
-use native.Mathlib.Omega.{arith}
-use Rattle.soundness.proofs.WholeLaws.{past_goes, past_leaves, past_ends}
-use Rattle.std.proofs.Common.{ap}
-use Rattle.std.proofs.Common.{not}
+use Rattle.std.proofs.Common.{arith}
+use Rattle.soundness.proofs.Past.{past_none, past_goes, past_leaves, past_ends}
 use Rattle.soundness.proofs.unused.tables_rest.Goals as goal
 
-pub returns-then-not-bytes : goal.returns-then-not-bytes
-returns-then-not-bytes c = search past_leaves
+pub loop-k-init : goal.loop-k-init
+loop-k-init c = past_none _ _ _ (omega (arith, c.args.state.now.settings_of))
+
+pub returns-then-not-all_zero : goal.returns-then-not-all_zero
+returns-then-not-all_zero c =
+    past_leaves _ _ c.loop-k.k c.args.state.now.long (omega (arith, c.args.state.now.settings_of)) (omega arith) _ c.all_zero.ensures c.if-not-all_zero.true
 
 pub loop-k-preserved : goal.loop-k-preserved
 loop-k-preserved c =
-    let l = c.loop-k in (
-      omega arith,
-      omega arith,
-      past_goes c.args.tables.now c.args.s.nodes l.k c.requires.tables_length_in_bounds l.invariant.0 c.loop-k-test.true _ c.bytes.ensures l.invariant.2 (ap not c.if-not-bytes.false),
-    )
+    let state = c.args.state.now in
+    past_goes state.words.now state.tables.now c.loop-k.k state.long (omega (arith, c.args.state.now.settings_of)) (omega arith) _ c.all_zero.ensures c.loop-k.invariant c.if-not-all_zero.false
 
 pub returns : goal.returns
-returns c = search past_ends
+returns c = past_ends _ _ _ c.args.state.now.long (omega (arith, c.args.state.now.identified.ranged, c.args.state.now.settings_of)) (omega arith) c.loop-k.invariant

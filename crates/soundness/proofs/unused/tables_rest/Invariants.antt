@@ -1,9 +1,6 @@
-use Prim.Native.Nat.{◌≤◌, ◌-◌}
-use Rattle.soundness.proofs.WholeLaws.{ZeroUpTo}
+use Rattle.model.specs.Memory.{node_count}
+use Rattle.soundness.proofs.Past.{ZeroUpTo}
 use Rattle.soundness.proofs.unused.tables_rest.Given as goal
 
 abbrev pub invariant-loop-k : goal.invariant-loop-k
-invariant-loop-k l = (l.initial.k ≤ l.k) × (l.k ≤ 64) × ZeroUpTo l.tables l.initial.k l.k
-
-abbrev pub decreases-loop-k : goal.decreases-loop-k
-decreases-loop-k l = 64 - l.k
+invariant-loop-k l = ZeroUpTo l.state.tables.now (node_count l.state.words.now) l.k

@@ -1,12 +1,8 @@
--- `is_new`: what is gathered below `e` is zero exactly when every id below `e` differs from that of `k`. Assumes nothing.
-use Rattle.model.proofs.Zero.{gather_none, gather_goes}
-use native.Mathlib.Omega.{arith}
+-- `is_new`: what is gathered is zero exactly when every id so far differs. Assumes nothing.
+use Rattle.std.proofs.Common.{arith}
+use Rattle.std.proofs.lemmas.Grind.{common_steps}
+use Rattle.model.proofs.Zero.{or_zero}
 use Rattle.soundness_ids.proofs.row.is_new.Goals as goal
 
-pub loop-e-init : goal.loop-e-init
-loop-e-init c = (omega arith, gather_none _)
-
-pub loop-e-preserved : goal.loop-e-preserved
-loop-e-preserved c =
-    let l = c.loop-e in
-    (omega arith, gather_goes l.e _ l.same c.equal-same.result l.invariant.1 c.equal-same.ensures)
+pub loop-other-preserved : goal.loop-other-preserved
+loop-other-preserved c = grind (arith, common_steps, or_zero)

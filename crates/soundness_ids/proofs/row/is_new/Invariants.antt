@@ -1,12 +1,7 @@
-use Prim.Native.Nat.{◌≤◌, ◌-◌}
-use mathlib.Core.Path.{◌≡◌}
-use lib.Dec.{eqb}
-use Rattle.model.specs.Loops.{all_below}
-use Rattle.soundness_ids.specs.Rows.{differs_at}
+use Rattle.std.proofs.Common.{◌≡◌, take}
+use Rattle.std.specs.Prelude.{not, eqb}
+use Rattle.std.specs.List.{list_all}
 use Rattle.soundness_ids.proofs.row.is_new.Given as goal
 
-abbrev pub invariant-loop-e : goal.invariant-loop-e
-invariant-loop-e l = (l.e ≤ l.k) × (eqb l.same 0 ≡ all_below l.e (differs_at l.ids l.k))
-
-abbrev pub decreases-loop-e : goal.decreases-loop-e
-decreases-loop-e l = l.k - l.e
+abbrev pub invariant-loop-other : goal.invariant-loop-other
+invariant-loop-other l = eqb l.same 0 ≡ list_all (λ other. not (eqb other l.id)) (take l.other-index (take l.k l.ids))

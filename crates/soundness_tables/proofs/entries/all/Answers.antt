@@ -1,13 +1,11 @@
--- `all`: the loop's invariant is the test of the entries below `j`. Assumes nothing.
-use borrow.Author.Rules.{rules}
-use Rattle.model.proofs.Nodes.{all_loop_to}
+-- `entries::all`: the chain asks the test of each entry. Assumes nothing.
+use Rattle.std.proofs.Common.{rules}
+use Rattle.model.proofs.Ranges.{all_of_range}
+use Rattle.soundness_tables.specs.TableFacts.{entry_exact}
 use Rattle.soundness_tables.proofs.entries.all.Goals as goal
 
-pub loop-j-init : goal.loop-j-init
-loop-j-init c = search (rules, all_loop_to)
-
-pub returns-then-not-entry : goal.returns-then-not-entry
-returns-then-not-entry c = search (rules, all_loop_to)
-
-pub loop-j-preserved : goal.loop-j-preserved
-loop-j-preserved c = search (rules, all_loop_to)
+pub returns : goal.returns
+returns c =
+    let row = c.args.row.now in
+    let owner = row.table.owner in
+    all_of_range _ _ _ _ (entry_exact owner.state.words.now owner.number row.table.bytes.now row.level) _ c.all.ensures.ran owner.state.settings_of.base (λ j b q k. search rules)

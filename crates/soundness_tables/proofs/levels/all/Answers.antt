@@ -1,13 +1,11 @@
--- `all`: the loop's invariant is the test of the levels below `i`. Assumes nothing.
-use borrow.Author.Rules.{rules}
-use Rattle.model.proofs.Nodes.{all_loop_to}
+-- `levels::all`: the chain asks the test of each level. Assumes nothing.
+use Rattle.std.proofs.Common.{rules}
+use Rattle.model.proofs.Ranges.{all_of_range}
+use Rattle.soundness_tables.specs.TableFacts.{level_exact}
 use Rattle.soundness_tables.proofs.levels.all.Goals as goal
 
-pub loop-i-init : goal.loop-i-init
-loop-i-init c = search (rules, all_loop_to)
-
-pub returns-then-not-level : goal.returns-then-not-level
-returns-then-not-level c = search (rules, all_loop_to)
-
-pub loop-i-preserved : goal.loop-i-preserved
-loop-i-preserved c = search (rules, all_loop_to)
+pub returns : goal.returns
+returns c =
+    let table = c.args.table.now in
+    let owner = table.owner in
+    all_of_range _ _ _ _ (level_exact owner.state.words.now owner.number table.bytes.now) _ c.all.ensures.ran owner.state.settings_of.digits (λ i b q k. search rules)

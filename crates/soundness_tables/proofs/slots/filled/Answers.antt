@@ -1,15 +1,13 @@
--- `filled`: the loop's invariant is the count of the filled slots below `p`. Assumes nothing.
-use mathlib.Core.Path.{sym}
-use native.Mathlib.Omega.{arith}
+-- `filled`: the loop's invariant is the count of the filled slots so far. Assumes nothing.
+use Rattle.std.proofs.Common.{sym, arith}
 use Rattle.model.proofs.Loops.{count_zero}
 use Rattle.soundness_tables.proofs.AloneLaws.{count_goes}
 use Rattle.soundness_tables.proofs.slots.filled.Goals as goal
 
-pub loop-p-init : goal.loop-p-init
-loop-p-init c = (omega arith, sym (count_zero _), omega arith)
+pub loop-slot-init : goal.loop-slot-init
+loop-slot-init c = (sym (count_zero _), omega arith)
 
-pub loop-p-preserved : goal.loop-p-preserved
-loop-p-preserved c =
-    let l = c.loop-p in
-    let r = c.one-count in
-    (omega arith, count_goes l.p _ l.count r.result l.invariant.1 r.ensures.0, omega arith)
+pub loop-slot-preserved : goal.loop-slot-preserved
+loop-slot-preserved c =
+    let l = c.loop-slot in
+    (count_goes l.slot-index _ l.count c.one-count.result l.invariant.0 c.one-count.ensures.count, omega arith)

@@ -1,2 +1,0 @@
--- Laws that join what the code has computed to the clauses of the book.
-pub mod CountLaws

@@ -1,2 +1,0 @@
--- What the contracts of the check of statuses cite.
-pub mod StatusFacts
