@@ -20,11 +20,10 @@ use Rattle.model.proofs.RequestBound.{requests_most, notices_most}
 use Rattle.model.proofs.Settling.{settled_is}
 use Rattle.state.specs.declared.record.Node.{Node}
 use Rattle.state.specs.Loaded.{book_node}
-use Rattle.answers.specs.declared.Kind.TheVariants.{Copied, SentOn, Attached, Notified}
-use Rattle.delivery_parts.specs.declared.room.SuffixEntry.{SuffixEntry}
+use Rattle.answers.specs.declared.delivery.Kind.TheVariants.{Copied, SentOn, Attached, Notified}
 use Rattle.state.specs.Lent.{memory}
 use Rattle.delivery_parts.specs.Answers.{outcome, took_delivery}
-use Rattle.delivery_parts.specs.Delivers.{Delivers, Meets, EntryOf, exchanged, notified_tables}
+use Rattle.delivery_parts.specs.Delivers.{Delivers, Meets, exchanged, notified_tables}
 use Rattle.delivery_parts.proofs.Readers.{network, meets, meets_notifying}
 use Rattle.delivery_parts.proofs.Learned.{exchanged_own, exchanged_theirs, notified_theirs}
 use Rattle.delivery_parts.proofs.Stores.{gather_same}
@@ -39,30 +38,29 @@ module _ (s t : List ℕ) (x y : ℕ) (q : Node) (d : Delivers s t x y) (o : boo
   pub notices_few : q.notices ≤ 62
   notices_few = omega (arith, same_notices o, notices_most s t d.sound x d.sender)
 
-module _ (s t : List ℕ) (x y : ℕ) (r : SuffixEntry) (e : EntryOf s t x y r) where
+module _ (s t : List ℕ) (x y : ℕ) where
   abbrev asks : Record
   asks = (deliver_copying s x y (table_of t x) (table_of t y)).sender
 
   module _ (q n : Node) (o : book_node q ≡ node_of s x) where
     -- where E has room, x is to wait at y
-    pub asks_receiver : r.room ≡ true → book_node n ≡ joining_node (book_node q) waiting y → book_node n ≡ asks
+    pub asks_receiver : room_at_suffix s (table_of t y) x y ≡ true → book_node n ≡ joining_node (book_node q) waiting y → book_node n ≡ asks
     unfolding deliver_copying
-    asks_receiver b f = rw (sym e.room ∙ b) (f ∙ ap (λ (m : Record). joining_node m waiting y) o)
+    asks_receiver b f = rw b (f ∙ ap (λ (m : Record). joining_node m waiting y) o)
 
-    -- where E is full and its first node is in system, x copies from that one next
-    pub asks_first : (v : ℕ) → r.room ≡ false → v ≡ status_of s r.first → v ≡ 0 → book_node n ≡ joining_node (book_node q) copying r.first
-        → book_node n ≡ asks
-    unfolding deliver_copying
-    asks_first v b ev z f =
-        let w : is_in_system s (first_at_suffix s (table_of t y) x y) ≡ true = eq-eqb _ 0 (ap (status_of s) (sym e.first) ∙ sym ev ∙ z) in
-        rw (sym e.room ∙ b, w) (f ∙ ap₂ (λ (m : Record) (v : ℕ). joining_node m copying v) o e.first)
+    module _ (b : room_at_suffix s (table_of t y) x y ≡ false) (v k : ℕ) (e : v ≡ first_at_suffix s (table_of t y) x y) (ek : k ≡ status_of s v) where
+      -- where E is full and its first node is in system, x copies from that one next
+      pub asks_first : k ≡ 0 → book_node n ≡ joining_node (book_node q) copying v → book_node n ≡ asks
+      unfolding deliver_copying
+      asks_first z f =
+          let w : is_in_system s (first_at_suffix s (table_of t y) x y) ≡ true = eq-eqb _ 0 (ap (status_of s) (sym e) ∙ sym ek ∙ z) in
+          rw (b, w) (f ∙ ap₂ (λ (m : Record) (v : ℕ). joining_node m copying v) o e)
 
-    pub waits_first : (v : ℕ) → r.room ≡ false → v ≡ status_of s r.first → (v ≡ 0 → ⊥)
-        → book_node n ≡ joining_node (book_node q) waiting r.first → book_node n ≡ asks
-    unfolding deliver_copying
-    waits_first v b ev ne f =
-        let w : is_in_system s (first_at_suffix s (table_of t y) x y) ≡ false = ne_eqb _ 0 (λ q. ne (ev ∙ ap (status_of s) e.first ∙ q)) in
-        rw (sym e.room ∙ b, w) (f ∙ ap₂ (λ (m : Record) (v : ℕ). joining_node m waiting v) o e.first)
+      pub waits_first : (k ≡ 0 → ⊥) → book_node n ≡ joining_node (book_node q) waiting v → book_node n ≡ asks
+      unfolding deliver_copying
+      waits_first ne f =
+          let w : is_in_system s (first_at_suffix s (table_of t y) x y) ≡ false = ne_eqb _ 0 (λ q. ne (ek ∙ ap (status_of s) e ∙ q)) in
+          rw (b, w) (f ∙ ap₂ (λ (m : Record) (v : ℕ). joining_node m waiting v) o e)
 
 -- ---- what is left
 
@@ -179,23 +177,18 @@ module _ (s t : List ℕ) (x y : ℕ) (d : Delivers s t x y) where
 
 -- ---- which delivery it is
 
-pub starts_is : (s s₁ : List ℕ) (x y k notified : ℕ) (q n : Node) → book_node q ≡ node_of s x → notified ≡ add_node 0 y
-    → book_node n ≡ notifying_node (book_node q) k 0 notified q.notices → s₁ ≡ with_node s x (book_node n)
-    → s₁ ≡ with_node s x (notifying_node (node_of s x) k 0 (add_node 0 y) (notices_of s x))
-starts_is s s₁ x y k notified q n o en f g = g ∙ ap (with_node s x) (f ∙ (λ i. notifying_node (o i) k 0 (en i) (o i).notices))
-
 module _ (s t : List ℕ) (x y : ℕ) (o : Outcome) where
-  pub waiting_attaches : (r : SuffixEntry) → EntryOf s t x y r → r.room ≡ true
+  pub waiting_attaches : room_at_suffix s (table_of t y) x y ≡ true
       → o ≡ took_delivery s t x y (deliver_attached s x y (table_of t x) (table_of t y))
       → o ≡ took_delivery s t x y (deliver_waiting s x y (table_of t x) (table_of t y))
   unfolding deliver_waiting
-  waiting_attaches r e b f = rw (sym e.room ∙ b) f
+  waiting_attaches b f = rw b f
 
-  pub waiting_sends : (r : SuffixEntry) → EntryOf s t x y r → r.room ≡ false
+  pub waiting_sends : room_at_suffix s (table_of t y) x y ≡ false
       → o ≡ took_delivery s t x y (deliver_sent_on s x y (table_of t x) (table_of t y))
       → o ≡ took_delivery s t x y (deliver_waiting s x y (table_of t x) (table_of t y))
   unfolding deliver_waiting
-  waiting_sends r e b f = rw (sym e.room ∙ b) f
+  waiting_sends b f = rw b f
 
   pub delivers_copying : (n : ℕ) → n ≡ status_of s x → n ≡ 1 → o ≡ took_delivery s t x y (deliver_copying s x y (table_of t x) (table_of t y))
       → o ≡ took_delivery s t x y (delivery s t x y)
@@ -216,15 +209,16 @@ delivers s t x y S c =
     let r : Receiver s x y = to_receiver s t S x y c in
     record { sound = S; sender = c.sender; receiver = c.receiver; attached = r.attached; other = r.other }
 
--- x copies, waits or notifies
-module _ (s t : List ℕ) (x y n : ℕ) (S : Sound s t) (c : CanDeliver s x y) (e : n ≡ status_of s x) (o p : Outcome) where
-  pub other_asks_nothing : (n ≡ 1 → ⊥) → (n ≡ 2 → ⊥) → (n ≡ 3 → ⊥) → o ≡ p
-  other_asks_nothing a b d = go (sends s t S x y c)
-    where
-      go : Sending s x y → o ≡ p
-      go (copies q f h) = absurd (a (e ∙ q))
-      go (waits q f h i) = absurd (b (e ∙ q))
-      go (notifies q f h) = absurd (d (e ∙ q))
+-- a sender that can deliver copies, waits or notifies
+pub other_asks_nothing : (s t : List ℕ) (x y n : ℕ) → Sound s t → CanDeliver s x y → n ≡ status_of s x → (n ≡ 1 → ⊥) → (n ≡ 2 → ⊥)
+    → (n ≡ 3 → ⊥) → ⊥
+other_asks_nothing s t x y n S c e a b d = go (sends s t S x y c)
+  where
+    go : Sending s x y → ⊥
+    go (copies q f h) = a (e ∙ q)
+    go (waits q f h i) = b (e ∙ q)
+    go (notifies q f h) = d (e ∙ q)
 
-  pub in_system_asks_nothing : n ≡ 0 → o ≡ p
-  in_system_asks_nothing z = other_asks_nothing (λ q. absurd (omega arith)) (λ q. absurd (omega arith)) (λ q. absurd (omega arith))
+pub in_system_asks_nothing : (s t : List ℕ) (x y n : ℕ) → Sound s t → CanDeliver s x y → n ≡ status_of s x → n ≡ 0 → ⊥
+in_system_asks_nothing s t x y n S c e z =
+    other_asks_nothing s t x y n S c e (λ q. omega arith) (λ q. omega arith) (λ q. omega arith)

@@ -9,50 +9,32 @@ use Rattle.model.specs.Learning.{learn, learn_table}
 use Rattle.model.specs.Join.{gather}
 use Rattle.model.proofs.Memory.{stored_same, stored_other, stored_length}
 use Rattle.model.proofs.Status.{IsNode}
-use Rattle.learning.specs.declared.learner.Learner.{Learner}
-use Rattle.learning.specs.Learners.{LearnerOf, TableReadable, Learns, LearnsTable}
-use Rattle.delivery_parts.specs.Delivers.{NodesIn, Meets, Gathers, exchanged, notified_tables}
-use Rattle.delivery_parts.proofs.Readers.{learns, learns_table, readable_table, learn_nodes, learn_table_nodes}
+use Rattle.delivery_parts.specs.Delivers.{NodesIn, Meets, exchanged, notified_tables}
+use Rattle.delivery_parts.proofs.Readers.{learn_nodes, learn_table_nodes}
 
 -- ---- learning, and the table put back
 
-pub learned_is : (s t Y T T' : List ℕ) (x y n : ℕ) → n ≡ x → Y ≡ table_of t y → T ≡ table_of t x → T' ≡ learn_table s n Y T
+-- s' and n are what the code has for the state and the learner
+pub learned_is : (s t s' Y T T' : List ℕ) (x y n : ℕ) → n ≡ x → s' ≡ s → Y ≡ table_of t y → T ≡ table_of t x → T' ≡ learn_table s' n Y T
     → T' ≡ learn_table s x (table_of t y) (table_of t x)
-learned_is s t Y T T' x y n en eY eT e = cc
-
-pub taught_is : (s t t₁ T T' : List ℕ) (x y n : ℕ) → n ≡ y → T ≡ table_of t y → T' ≡ learn s n x T → t₁ ≡ with_table t y T'
-    → t₁ ≡ with_table t y (learn s y x (table_of t y))
-taught_is s t t₁ T T' x y n en eT e f = cc
+learned_is s t s' Y T T' x y n en es eY eT e = cc
 
 -- x has learned before y's table is put back
 pub exchanged_is : (s t t₁ t₂ T : List ℕ) (x y : ℕ) → T ≡ learn_table s x (table_of t y) (table_of t x)
     → t₁ ≡ with_table t y (learn s y x (table_of t y)) → t₂ ≡ with_table t₁ x T → t₂ ≡ exchanged s t x y
 exchanged_is s t t₁ t₂ T x y e f g = cc
 
-pub gathered_is : (s t Y : List ℕ) (x z n k notified nodes r : ℕ) → n ≡ x → Y ≡ table_of t z → r ≡ gather s n k notified Y nodes
-    → r ≡ gather s x k notified (table_of t z) nodes
-gathered_is s t Y x z n k notified nodes r en eY e = cc
+-- what is gathered of a pair after a step is gathered of what the step leaves: s', t', x' and y'
+-- are what the pair has for s, t, x and y
+module _ (s t s' t' : List ℕ) (x y x' y' k notified r : ℕ) (es : s' ≡ s) (et : t ≡ t') (ex : x' ≡ x) (ey : y' ≡ y) where
+  pub theirs_after : (nodes : ℕ) → r ≡ gather s' x' k notified (table_of t' y') nodes → r ≡ gather s x k notified (table_of t y) nodes
+  theirs_after nodes e = cc
 
-module _ (s t : List ℕ) (x z : ℕ) (g : Gathers s t x z) where
-  pub gathers : (Y : List ℕ) → Y ≡ table_of t z → TableReadable s Y
-  gathers Y e = readable_table s g.network Y (subst (NodesIn s) (sym e) g.nodes)
+  pub both_after : r ≡ gather s' x' k notified (table_of t' y') (gather s' x' k notified (table_of t' x') 0)
+      → r ≡ gather s x k notified (table_of t y) (gather s x k notified (table_of t x) 0)
+  both_after e = cc
 
 module _ (s t : List ℕ) (x y : ℕ) (m : Meets s t x y) where
-  pub learns_theirs : (r : Learner) (Y : List ℕ) → r.number ≡ x → LearnerOf s r → Y ≡ table_of t y → LearnsTable s r Y
-  learns_theirs r Y e o eY =
-      learns_table s m.network r x Y e o m.sender (subst (NodesIn s) (sym eY) m.theirs)
-
-  pub learns_sender : (r : Learner) → r.number ≡ y → LearnerOf s r → Learns s r x
-  learns_sender r e o = learns s m.network r y x e o m.receiver m.sender (λ q. m.other (sym q))
-
-  pub gathers_own : Gathers s t x x
-  gathers_own =
-      record { network = m.network; tables = m.tables; sender = m.sender; owner = m.sender; nodes = m.own }
-
-  pub gathers_theirs : Gathers s t x y
-  gathers_theirs =
-      record { network = m.network; tables = m.tables; sender = m.sender; owner = m.receiver; nodes = m.theirs }
-
   fits : (z : ℕ) → IsNode s z → table_start z + 512 ≤ length t
   fits z n =
       let l : 1 ≤ z = n.low in
@@ -108,6 +90,11 @@ module _ (s t : List ℕ) (x y : ℕ) (m : Meets s t x y) where
   pub meets_taught : (t₁ : List ℕ) → t₁ ≡ with_table t y Ty' → Meets s t₁ x y
   meets_taught t₁ e = subst (λ (t : List ℕ). Meets s t x y) (sym e) (meets_theirs Ty' taught_nodes)
 
+  pub meets_learned : (t₁ T : List ℕ) → T ≡ learn_table s x (table_of t y) (table_of t x) → t₁ ≡ with_table t x T → Meets s t₁ x y
+  meets_learned t₁ T e f =
+      subst (λ (t : List ℕ). Meets s t x y) (sym f)
+      (meets_own T (subst (NodesIn s) (sym e) (learn_table_nodes s x (table_of t y) (table_of t x) m.theirs m.own)))
+
 -- ---- after both have learned
 
 module _ (s t : List ℕ) (x y : ℕ) (m : Meets s t x y) where
@@ -140,9 +127,6 @@ module _ (s t : List ℕ) (x y : ℕ) (m : Meets s t x y) where
 
   pub meets_exchanged : (t₁ : List ℕ) → t₁ ≡ exchanged s t x y → Meets s t₁ x y
   meets_exchanged t₁ e = subst (λ (t : List ℕ). Meets s t x y) (sym e) (both_meet _ exchanged_nodes)
-
-  pub gathers_notified : (t₁ : List ℕ) → t₁ ≡ notified_tables s t x y → Gathers s t₁ x y
-  gathers_notified t₁ e = gathers_theirs s t₁ x y (subst (λ (t : List ℕ). Meets s t x y) (sym e) (both_meet _ notified_nodes))
 
   pub exchanged_own : table_of (exchanged s t x y) x ≡ learn_table s x (table_of t y) (table_of t x)
   exchanged_own = both_own _ exchanged_nodes

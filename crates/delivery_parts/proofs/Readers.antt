@@ -21,9 +21,7 @@ use Rattle.model.proofs.Sound.{standing, Sound, id_fits}
 use Rattle.model.proofs.SoundNodes.{own, suffix_below}
 use Rattle.model.proofs.ReplacingKeepsSound.{Agree, agree_node, agree_id, agree_count}
 use Rattle.model.proofs.Memory.{node_length}
-use Rattle.state.specs.Loaded.{Placed}
-use Rattle.learning.specs.declared.learner.Learner.{Learner}
-use Rattle.learning.specs.Learners.{NodeReadable, LearnerOf, TableReadable, Learns, LearnsTable}
+use Rattle.learning.specs.Learners.{NodeReadable, TableReadable, Learns, LearnsTable}
 use Rattle.delivery_parts.specs.Delivers.{Delivers, Network, NodesIn, Meets}
 
 -- ---- a node can be read and learned
@@ -31,19 +29,14 @@ use Rattle.delivery_parts.specs.Delivers.{Delivers, Network, NodesIn, Meets}
 pub readable : (s : List ℕ) → Network s → (u : ℕ) → IsNode s u → NodeReadable s u
 readable s n u k = record { long = n.long; first = k.low; last = omega (arith, n.few, k.high); short = n.ids u k }
 
-pub learns : (s : List ℕ) → Network s → (r : Learner) (z u : ℕ) → r.number ≡ z → LearnerOf s r → IsNode s z → IsNode s u → u ≢ z → Learns s r u
-learns s n r z u e o nz nu ne = record {
-  learner = o;
-  deep = n.deep;
-  node = readable s n u nu;
-  suffix = subst (λ (z : ℕ). suffix_of s z u < 8) (sym e) (n.apart z u nz nu ne);
-}
+pub learns : (s : List ℕ) → Network s → (z u : ℕ) → IsNode s z → IsNode s u → u ≢ z → Learns s z u
+learns s n z u nz nu ne =
+    record { deep = n.deep; node = readable s n u nu; suffix = n.apart z u nz nu ne }
 
-pub learns_table : (s : List ℕ) → Network s → (r : Learner) (z : ℕ) (Y : List ℕ) → r.number ≡ z → LearnerOf s r → IsNode s z → NodesIn s Y
-    → LearnsTable s r Y
-learns_table s n r z Y e o nz m = record {
+pub learns_table : (s : List ℕ) → Network s → (z : ℕ) (Y : List ℕ) → IsNode s z → NodesIn s Y → LearnsTable s z Y
+learns_table s n z Y nz m = record {
   long = omega (arith, m.long);
-  nodes = λ p h some no. learns s n r z (get_or Y p 0) e o nz (m.at p h some) (λ q. no (q ∙ sym e));
+  nodes = λ p h some other. learns s n z (get_or Y p 0) nz (m.at p h some) other;
 }
 
 pub readable_table : (s : List ℕ) → Network s → (T : List ℕ) → NodesIn s T → TableReadable s T
@@ -117,12 +110,12 @@ meets s t x y d = record {
   theirs = nodes_in s t d.sound y d.receiver;
 }
 
-pub placed : (s t : List ℕ) (x y : ℕ) → Delivers s t x y → Placed s x
-placed s t x y d = record {
-  long = d.sound.long.state;
-  first = d.sender.low;
-  last = omega (arith, d.sound.few, d.sender.high);
-}
+-- both can be read
+pub sender_readable : (s t : List ℕ) (x y : ℕ) → Delivers s t x y → NodeReadable s x
+sender_readable s t x y d = readable s (network s t d.sound) x d.sender
+
+pub receiver_readable : (s t : List ℕ) (x y : ℕ) (s' : List ℕ) → Delivers s t x y → s' ≡ s → NodeReadable s' y
+receiver_readable s t x y s' d e = rw e (readable s (network s t d.sound) y d.receiver)
 
 -- ---- a new record for x, with its id, keeps that
 
@@ -180,10 +173,3 @@ module _ (s t s₁ : List ℕ) (x y k notified notices : ℕ) (d : Delivers s t 
   meets_notifying =
       subst (λ (s : List ℕ). Meets s t x y) (sym e)
       (meets_node s (network s t d.sound) x d.sender (notifying_node (node_of s x) k 0 notified notices) refl t y (meets s t x y d))
-
-  pub placed_notifying : Placed s₁ x
-  placed_notifying = record {
-    long = meets_notifying.network.long;
-    first = d.sender.low;
-    last = omega (arith, d.sound.few, d.sender.high);
-  }

@@ -1,14 +1,10 @@
 -- What the deliveries ask: x sends to y. s is the state, t the table memory.
-use Rattle.std.specs.Prelude.{ℕ, ◌^◌, ◌≤◌, ◌<◌, ◌≡◌, ◌≢◌, Bool, true, List, ltb, length, get_or}
-use Rattle.model.specs.Ids.{digit_of}
+use Rattle.std.specs.Prelude.{ℕ, ◌^◌, ◌≤◌, ◌<◌, ◌≡◌, ◌≢◌, true, List, length, get_or}
 use Rattle.model.specs.Memory.{depth, node_count, id_of, is_attached, table_of, with_table, state_length, tables_length}
-use Rattle.model.specs.Tables.{entry_size}
 use Rattle.model.specs.Nodes.{suffix_of}
 use Rattle.model.specs.Learning.{learn, learn_table}
-use Rattle.model.specs.Join.{room_at_suffix, first_at_suffix}
 use Rattle.model.proofs.Status.{IsNode}
 use Rattle.model.proofs.Sound.{Sound}
-use Rattle.delivery_parts.specs.declared.room.SuffixEntry.{SuffixEntry}
 
 -- a sound state, and two of its nodes, the receiver attached
 pub record Delivers (s t : List ℕ) (x y : ℕ) : Type 0 where
@@ -41,14 +37,6 @@ pub record Meets (s t : List ℕ) (x y : ℕ) : Type 0 where
   pub own : NodesIn s (table_of t x)
   pub theirs : NodesIn s (table_of t y)
 
--- x can gather from z's table
-pub record Gathers (s t : List ℕ) (x z : ℕ) : Type 0 where
-  pub network : Network s
-  pub tables : tables_length ≤ length t
-  pub sender : IsNode s x
-  pub owner : IsNode s z
-  pub nodes : NodesIn s (table_of t z)
-
 -- the table memory after x has learned y's table, and y has learned x
 abbrev pub exchanged : List ℕ → List ℕ → ℕ → ℕ → List ℕ
 exchanged s t x y = with_table (with_table t y (learn s y x (table_of t y))) x (learn_table s x (table_of t y) (table_of t x))
@@ -58,17 +46,8 @@ abbrev pub notified_tables : List ℕ → List ℕ → ℕ → ℕ → List ℕ
 notified_tables s t x y =
     with_table (with_table t y (learn s y x (table_of t y))) x (learn_table s x (learn s y x (table_of t y)) (table_of t x))
 
--- level i of a table of depth K
-pub record Level (T : List ℕ) (K i : ℕ) : Type 0 where
+-- level i of a table T of a node of s
+pub record Level (s T : List ℕ) (i : ℕ) : Type 0 where
   pub long : 512 ≤ length T
-  pub depth : K ≤ 4
+  pub deep : depth s ≤ 4
   pub level : i < 8
-
--- entry (i, digit i of x) is not full, by x's id
-abbrev pub room_at : ℕ → List ℕ → ℕ → ℕ → Bool
-room_at K T id i = ltb (entry_size K T i (digit_of id i)) K
-
--- E as it was read
-pub record EntryOf (s t : List ℕ) (x y : ℕ) (r : SuffixEntry) : Type 0 where
-  pub room : r.room ≡ room_at_suffix s (table_of t y) x y
-  pub first : r.first ≡ first_at_suffix s (table_of t y) x y

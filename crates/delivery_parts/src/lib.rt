@@ -4,4 +4,6 @@
 
 pub mod meeting;
 pub mod nodes;
+pub mod pair;
+pub mod request;
 pub mod room;

@@ -4,6 +4,8 @@ ghost use Rattle.model.specs.Join.{founded};
 ghost use Rattle.model.specs.Memory.{state_length, tables_length};
 ghost use Rattle.state.specs.Lent.{memory};
 
+use state::clear::clear;
+use state::lent::{STATE_LENGTH, TABLES_LENGTH};
 use state::next_record::new_node;
 use state::settings::Settings;
 use state::{record, settings};
@@ -22,8 +24,8 @@ pub fn found(
     requires digits_bound { digits ≤ 8 }
     ensures { memory state.new tables.new ≡ founded state.old tables.old base digits depth id }
 {
-    state::clear::clear(state);
-    tables::clear::clear(tables);
+    clear(state, STATE_LENGTH);
+    clear(tables, TABLES_LENGTH);
     settings::store(
         state,
         Settings {

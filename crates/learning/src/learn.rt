@@ -1,6 +1,7 @@
-// Learning a node u: it is appended to the entry of its digit at each level from its floor up to its common suffix with the learner, where it is
-// not in the entry yet and the entry is not full. own is the learner's table.
-ghost use Rattle.std.specs.Prelude.{◌≡◌, ◌<◌};
+// Learning a node u: it is appended to the entry of its digit at each level from its floor up to its
+// common suffix with the learner, where it is not in the entry yet and the entry is not full. own is
+// the learner's table.
+ghost use Rattle.std.specs.Prelude.{◌≡◌};
 ghost use Rattle.model.specs.Learning as learning;
 ghost use Rattle.model.specs.Learning.{floor_of};
 ghost use Rattle.learning.specs.Learners.{NodeReadable, LearnsAt, Learns, LearnsTable};
@@ -24,62 +25,40 @@ fn floor(state: &[u64], u: usize) -> u64
 }
 
 // At level i, which is not below u's floor.
-fn learn_at(state: &[u64], own: &mut [u8; 512], depth: usize, u: usize, i: usize)
-    requires { LearnsAt state.now depth u i }
-    ensures { own.new ≡ learning.learn_at state.now u i own.old }
+fn learn_at(own: &mut [u8; 512], learner: &Learner<'_>, u: usize, i: usize)
+    requires { LearnsAt learner.now.state.now u i }
+    ensures { own.new ≡ learning.learn_at learner.now.state.now u i own.old }
 {
-    let id = record::id(state, u) as u32;
+    let depth = learner.depth;
+    let id = record::id(learner.state, u) as u32;
     let j = digit(id, i);
-    if entry::holds(own, depth, i, j, u) {
-        return;
-    }
-    if entry::size(own, depth, i, j) < depth {
+    if !entry::holds(own, depth, i, j, u) && entry::size(own, depth, i, j) < depth {
         entry::append(own, depth, i, j, u);
     }
 }
 
 // The learner learns u. Levels below the floor change nothing, so the loop starts there.
-pub fn learn(state: &[u64], own: &mut [u8; 512], learner: Learner, u: usize)
-    requires { Learns state.now learner u }
-    ensures { own.new ≡ learning.learn state.now learner.number u own.old }
+pub fn learn(own: &mut [u8; 512], learner: &Learner<'_>, u: usize)
+    requires { Learns learner.now.state.now learner.now.number u }
+    ensures { own.new ≡ learning.learn learner.now.state.now learner.now.number u own.old }
 {
-    let floor = floor(state, u) as usize;
-    let suffix = learner.suffix(state, u);
-    if suffix < floor {
-        return;
-    }
-    let mut i = floor;
-    while i <= suffix {
-        learn_at(state, own, learner.depth, u, i);
-        i += 1;
+    let floor = floor(learner.state, u) as usize;
+    let suffix = learner.suffix(u);
+    for i in floor..suffix + 1 {
+        learn_at(own, learner, u, i);
     }
 }
 
-// The node at place p of a table, unless there is none or it is the learner.
-fn learn_place(state: &[u64], own: &mut [u8; 512], learner: Learner, theirs: &[u8], p: usize)
-    requires learns_table { LearnsTable state.now learner theirs.now }
-    requires p_bound { p < 512 }
-    ensures { own.new ≡ learning.learn_place state.now learner.number theirs.now p own.old }
+// The learner learns each node of a table but itself, in the order of level, digit and slot, which
+// is that of the places. theirs is the answering node's table, a part of the lent table memory.
+pub fn learn_table(own: &mut [u8; 512], learner: &Learner<'_>, theirs: &[u8])
+    requires { LearnsTable learner.now.state.now learner.now.number theirs.now }
+    ensures { own.new ≡ learning.learn_table learner.now.state.now learner.now.number theirs.now own.old }
 {
-    let u = theirs[p] as usize;
-    if u == 0 {
-        return;
-    }
-    if u == learner.number {
-        return;
-    }
-    learn(state, own, learner, u);
-}
-
-// The learner learns each node of a table but itself, in the order of level, digit and slot, which is that of the places. theirs is the answering
-// node's table, a part of the lent table memory.
-pub fn learn_table(state: &[u64], own: &mut [u8; 512], learner: Learner, theirs: &[u8])
-    requires { LearnsTable state.now learner theirs.now }
-    ensures { own.new ≡ learning.learn_table state.now learner.number theirs.now own.old }
-{
-    let mut p = 0;
-    while p < 512 {
-        learn_place(state, own, learner, theirs, p);
-        p += 1;
+    for u in &theirs[..512] {
+        let u = *u as usize;
+        if u != 0 && u != learner.number {
+            learn(own, learner, u);
+        }
     }
 }

@@ -1,26 +1,33 @@
-// The node whose table it is, and what it compares other nodes by, loaded once.
+// The node whose table it is, and what it compares other nodes by, loaded once from the state.
 ghost use Rattle.std.specs.Prelude.{◌≡◌};
+ghost use Rattle.model.specs.Memory as memory;
 ghost use Rattle.model.specs.Nodes.{suffix_of};
-ghost use Rattle.learning.specs.Learners.{NodeReadable, LearnerOf};
+ghost use Rattle.learning.specs.Learners.{NodeReadable};
 
 use ident::common_suffix;
 use state::{record, settings};
 
 #[derive(Clone, Copy)]
-pub struct Learner {
+pub struct Learner<'a> {
+    pub state: &'a [u64],
     pub number: usize,
     pub id: u32,
     pub digits: usize,
     pub depth: usize,
+    ghost id_is: { id ≡ memory.id_of state.now number },
+    ghost digits_is: { digits ≡ memory.digits state.now },
+    ghost depth_is: { depth ≡ memory.depth state.now },
 }
 
-impl Learner {
-    pub fn load(state: &[u64], x: usize) -> Learner
+impl<'a> Learner<'a> {
+    pub fn load(state: &'a [u64], x: usize) -> Learner<'a>
         requires { NodeReadable state.now x }
-        ensures { (result.number ≡ x) × LearnerOf state.now result }
+        ensures number { result.number ≡ x }
+        ensures state { result.state.now ≡ state.now }
     {
         let s = settings::load(state);
         Learner {
+            state,
             number: x,
             id: record::id(state, x) as u32,
             digits: s.digits,
@@ -29,11 +36,10 @@ impl Learner {
     }
 
     // The common suffix of the learner and node u.
-    pub fn suffix(self, state: &[u64], u: usize) -> usize
-        requires learner_of { LearnerOf state.now self }
-        requires node_readable { NodeReadable state.now u }
-        ensures { result ≡ suffix_of state.now self.number u }
+    pub fn suffix(&self, u: usize) -> usize
+        requires { NodeReadable self.now.state.now u }
+        ensures { result ≡ suffix_of self.now.state.now self.now.number u }
     {
-        common_suffix(self.digits, self.id, record::id(state, u) as u32)
+        common_suffix(self.digits, self.id, record::id(self.state, u) as u32)
     }
 }

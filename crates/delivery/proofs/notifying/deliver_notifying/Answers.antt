@@ -1,17 +1,14 @@
 -- `deliver_notifying`: the sets, the level and both tables are the delivery's. Assumes nothing.
 use mathlib.Core.Path.{refl}
+use Rattle.std.proofs.Common.{rules, ◌∙◌}
 use native.Mathlib.Omega.{arith}
 use Rattle.delivery_parts.proofs.Readers.{meets}
-use Rattle.delivery_parts.proofs.Learned.{gathers_notified}
+use Rattle.delivery_parts.proofs.Learned.{theirs_after}
 use Rattle.delivery_parts.proofs.Deliveries.{notices_few, notified_is}
 use Rattle.delivery.proofs.notifying.deliver_notifying.Goals as goal
 
-pub notify-requires : goal.notify-requires
-notify-requires c = search meets
-
-pub gather_from-pending-requires : goal.gather_from-pending-requires
-gather_from-pending-requires c =
-    gathers_notified _ _ _ _ (meets _ _ _ _ c.requires) _ c.notify.ensures
+pub invariant_of-pair : goal.invariant_of-pair
+invariant_of-pair c = record { meets = meets _ _ _ _ c.requires }
 
 pub overflow_add-notices : goal.overflow_add-notices
 overflow_add-notices c =
@@ -19,5 +16,7 @@ overflow_add-notices c =
 
 pub returns : goal.returns
 returns c =
+    let same = c.notify.ensures.same in
     notified_is _ _ _ _ c.requires _ _ _ _ _ _ _ _ c.load-node.ensures c.add-notified.ensures c.remove-left.ensures
-    c.notify.ensures c.gather_from-pending.ensures refl c.store_notifying-settled.ensures.0 c.store_notifying-settled.ensures.1
+    (search rules ∙ c.notify.ensures.notified) (theirs_after _ _ _ _ _ _ _ _ _ _ _ same.state (search rules) same.x same.y _ c.gather_theirs-pending.ensures) refl
+    c.store_notifying-settled.ensures.0 c.store_notifying-settled.ensures.1

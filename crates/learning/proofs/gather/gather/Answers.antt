@@ -1,15 +1,22 @@
 -- `gather`: each turn is the definition's step at its place. Assumes nothing.
-use native.Mathlib.Omega.{arith}
-use Rattle.model.specs.Join.{gather}
-use Rattle.model.proofs.Loops.{each_zero, each_step, each_ends}
+use Rattle.std.proofs.Common.{◌∙◌}
+use Rattle.model.proofs.Loops.{each_zero}
+use Rattle.learning.proofs.Places.{readable_place, numbered_place, step_adds, step_passes, gathered_all}
 use Rattle.learning.proofs.gather.gather.Goals as goal
+use Rattle.learning.proofs.gather.gather.Goals.{then-is_to_notify, else-is_to_notify}
 
-pub loop-p-init : goal.loop-p-init
-loop-p-init c = (omega arith, search each_zero)
+pub loop-u-init : goal.loop-u-init
+loop-u-init c = search each_zero
 
-pub loop-p-preserved : goal.loop-p-preserved
-loop-p-preserved c = (omega arith, search each_step)
+pub is_to_notify-requires : goal.is_to_notify-requires
+is_to_notify-requires c = search readable_place
+
+pub add-gathered-requires : goal.add-gathered-requires
+add-gathered-requires c = search numbered_place
+
+pub loop-u-preserved : goal.loop-u-preserved
+loop-u-preserved c =
+    elim c.if-is_to_notify.branch [ then-is_to_notify w ↦ w.gathered-is ∙ search step_adds | else-is_to_notify w ↦ w.gathered-is ∙ search step_passes ]
 
 pub returns : goal.returns
-unfolding gather
-returns c = search each_ends
+returns c = search gathered_all

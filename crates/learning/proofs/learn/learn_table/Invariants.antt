@@ -1,11 +1,8 @@
-use Prim.Native.Nat.{◌≤◌, ◌-◌}
-use mathlib.Core.Path.{◌≡◌}
+use Rattle.std.proofs.Common.{◌≡◌}
 use Rattle.model.specs.Loops.{each_below}
 use Rattle.model.specs.Learning.{learn_place}
 use Rattle.learning.proofs.learn.learn_table.Given as goal
 
-abbrev pub invariant-loop-p : goal.invariant-loop-p
-invariant-loop-p l = (l.p ≤ 512) × (l.own ≡ each_below l.p (learn_place l.state l.learner.number l.theirs) l.initial.own)
-
-abbrev pub decreases-loop-p : goal.decreases-loop-p
-decreases-loop-p l = 512 - l.p
+abbrev pub invariant-loop-u : goal.invariant-loop-u
+invariant-loop-u l =
+    l.own ≡ each_below l.u-index (learn_place l.learner.state.now l.learner.number l.theirs) l.initial.own
