@@ -8,15 +8,8 @@ ghost use Rattle.tables.specs.Places.{Entry};
 use state::sets::{is_empty, size};
 use tables::entry;
 
-fn smaller(a: usize, b: u64) -> usize
-    ensures { result ≡ min a b }
-{
-    let n = b as usize;
-    if n < a { n } else { a }
-}
-
-// By how many nodes qualify. An entry has no gap, so its last slot tells that it is full, and the slot of the last node that it must hold that it holds
-// them all: most entries need no more than that.
+// By how many nodes qualify. An entry has no gap, so its last slot tells that it is full, and the slot
+// of the last node that it must hold that it holds them all: most entries need no more than that.
 pub fn lack(table: &[u8], depth: usize, i: usize, j: usize, qualified: u64) -> usize
     requires entry { Entry table.now depth i j }
     requires gap_free { GapFree depth table.now i j }
@@ -30,7 +23,7 @@ pub fn lack(table: &[u8], depth: usize, i: usize, j: usize, qualified: u64) -> u
     if table[start + (depth - 1)] != 0 {
         return 0;
     }
-    let most = smaller(depth, size(qualified));
+    let most = depth.min(size(qualified) as usize);
     if table[start + (most - 1)] != 0 {
         return 0;
     }

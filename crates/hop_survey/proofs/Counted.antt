@@ -10,10 +10,10 @@ use native.Mathlib.Omega.{arith}
 use lib.Dec.{eqb}
 use lib.ListN.{length, get_or, set, replicate, length-set, get_or-replicate}
 use lib.Seq.{ext_get_or, get_or-set_same, get_or-set_other}
-use borrow.Author.Tests.{eqb-true, eqb-false, eq-eqb, ne_eqb, not-true, not-false}
+use borrow.Author.Tests.{eqb-true, eqb-false, eq-eqb, ne_eqb, not-true}
 use Rattle.model.specs.Loops.{sum_below, each_below, node}
 use Rattle.model.specs.Memory.{digits, node_count}
-use Rattle.model.specs.Lookup.{Lookup, lookup, NextHop, next_hop, end_failed}
+use Rattle.model.specs.Lookup.{Lookup, lookup, next_hop, end_failed}
 use Rattle.model.specs.Nodes.{suffix_of}
 use Rattle.model.specs.Survey.{arrives_in, is_lost, is_pair, of_pair, pairs_from, count_pairs, survey_counts}
 use Rattle.model.proofs.Bools.{true_or_false, same_test, and_left}
@@ -53,7 +53,7 @@ module _ (failed u z : ℕ) where
   pair_apart e = eqb-false u z (not-true _ (and_left _ _ e))
 
   -- what the tests of a pair say
-  pub pair_itself : u ≡ z → false ≡ is_pair failed u z
+  pub pair_itself : u ≡ z → not (eqb u z) ≡ is_pair failed u z
   unfolding is_pair
   pair_itself e = rw (eq-eqb u z e)
 
@@ -214,26 +214,22 @@ module _ (s t : List ℕ) (S : Sound s t) (failed u z h v : ℕ) (nu : IsNode s 
   pub few_hops : h ≤ 8
   few_hops = omega (arith, along.hops, hops_bound s t S failed z nz u nu, S.settings.digits_most)
 
-  module _ (ne : v ≢ z) (r : NextHop) (next : r ≡ next_hop s t failed v z) where
-    pub along_lost : r.node ≡ 0 → 8 ≡ place_of (lookup s t failed u z)
-    unfolding place_of
-    along_lost e = rw (along.arrived, ← loses_here s t failed v z r ne next e)
+  pub along_lost : v ≢ z → (next_hop s t failed v z).node ≡ 0 → 8 ≡ place_of (lookup s t failed u z)
+  unfolding place_of
+  along_lost ne e = rw (along.arrived, ← loses_here s t failed v z ne e)
 
-    module _ (some : r.node ≢ 0) where
-      hop : Hop s t failed v z r
-      hop = record { sound = S; from = along.node; to = nz; apart = ne; next = next; some = some }
+  module _ (w : ℕ) (hop : Hop s t failed v z w) where
+    pub along_hop : Along s t failed u z (h + 1) w
+    along_hop =
+        let further = hop_is s t failed v z w hop in
+        record {
+          node = next_node s t failed v z w hop;
+          arrived = along.arrived ∙ ap (λ (r : Lookup). r.arrived) further;
+          hops = omega (arith, along.hops, ap (λ (r : Lookup). r.hops) further);
+        }
 
-      pub along_hop : Along s t failed u z (h + 1) r.node
-      along_hop =
-          let further = hop_is s t failed v z r hop in
-          record {
-            node = next_node s t failed v z r hop;
-            arrived = along.arrived ∙ ap (λ (r : Lookup). r.arrived) further;
-            hops = omega (arith, along.hops, ap (λ (r : Lookup). r.hops) further);
-          }
-
-      pub along_falls : digits s - suffix_of s r.node z < digits s - suffix_of s v z
-      along_falls = falls s t failed v z r hop
+    pub along_falls : digits s - suffix_of s w z < digits s - suffix_of s v z
+    along_falls = falls s t failed v z w hop
 
   module _ (there : v ≡ z) where
     pub along_some : u ≢ z → 1 ≤ h
@@ -250,17 +246,17 @@ module _ (s t : List ℕ) (S : Sound s t) (failed u z h v : ℕ) (nu : IsNode s 
 
 -- r is the answer whether u and z are a pair
 module _ (failed u z : ℕ) (r : Bool) (pair : r ≡ is_pair failed u z) where
-  pub pair_differ : not r ≡ false → u ≢ z
-  pair_differ e = pair_apart failed u z (sym pair ∙ not-false r e)
+  pub pair_differ : r ≡ true → u ≢ z
+  pair_differ e = pair_apart failed u z (sym pair ∙ e)
 
   module _ (s t : List ℕ) (C : List ℕ) where
-    pub pair_none : not r ≡ true → C ≡ count_pair s t failed u z C
+    pub pair_none : r ≡ false → C ≡ count_pair s t failed u z C
     unfolding count_pair
-    pair_none e = rw (← pair, not-true r e)
+    pair_none e = rw (← pair, e)
 
-    pub pair_counted : not r ≡ false → (q : ℕ) → q ≡ place_of (lookup s t failed u z) → set C q (get_or C q 0 + 1) ≡ count_pair s t failed u z C
+    pub pair_counted : r ≡ true → (q : ℕ) → q ≡ place_of (lookup s t failed u z) → set C q (get_or C q 0 + 1) ≡ count_pair s t failed u z C
     unfolding count_pair
-    pair_counted e q p = rw (← pair, not-false r e) (ap (λ (q : ℕ). count_at q C) p)
+    pair_counted e q p = rw (← pair, e) (ap (λ (q : ℕ). count_at q C) p)
 
 pub from_counted : (s t : List ℕ) (failed u : ℕ) (C X : List ℕ) → X ≡ each_below (node_count s) (node (count_pair s t failed u)) C → X ≡ count_from s t failed u C
 unfolding count_from

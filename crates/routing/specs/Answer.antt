@@ -1,7 +1,7 @@
 -- A lookup's answer as the book has it.
 use Rattle.std.specs.Prelude.{cond}
 use Rattle.model.specs.Lookup as book
-use Rattle.routing.specs.declared.answer.Lookup.{Lookup}
+use Rattle.answers.specs.declared.lookup.Lookup.{Lookup}
 
 -- arrived is 1, lost 0
 abbrev pub book_lookup : Lookup → book.Lookup

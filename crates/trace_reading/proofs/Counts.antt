@@ -9,17 +9,16 @@ use borrow.Author.Tests.{leb-true, ltb-true, le-leb, lt-ltb}
 use Rattle.model.specs.Image.{byte_at}
 use Rattle.model.proofs.Bools.{parts, and_intro, is_false}
 use Rattle.trace_reading.specs.Read.{CountRight, count_right_at, count_at}
-use Rattle.trace_reading.specs.declared.Count.{Count}
-use Rattle.trace_reading.specs.declared.Count.TheVariants.{Places, Wrong}
+use Rattle.std.specs.Prelude.{Option, None, Some}
 
--- a count tells whether it is right, and how many places there are then
-is_right : Count → Bool
-is_right (Places n) = true
-is_right Wrong = false
+-- whether there is a count, and how many places there are then
+is_right : Option ℕ → Bool
+is_right (Some n) = true
+is_right None = false
 
-places_of : Count → ℕ
-places_of (Places n) = n
-places_of Wrong = 0
+places_of : Option ℕ → ℕ
+places_of (Some n) = n
+places_of None = 0
 
 module _ (trace : List ℕ) (at : ℕ) where
   right_of : count_right_at trace at ≡ true → CountRight trace at
@@ -37,14 +36,14 @@ module _ (trace : List ℕ) (at : ℕ) where
 
   -- ---- as it is read
 
-  pub count_wrong : (CountRight trace at → ⊥) → Wrong ≡ count_at trace at
+  pub count_wrong : (CountRight trace at → ⊥) → None ≡ count_at trace at
   unfolding count_at
   count_wrong h =
-      ap (λ (b : Bool). cond b (Places (byte_at trace at)) Wrong) (is_false (count_right_at trace at) (λ e. h (right_of e)))
+      ap (λ (b : Bool). cond b (Some (byte_at trace at)) None) (is_false (count_right_at trace at) (λ e. h (right_of e)))
 
-  pub count_right : (n : ℕ) → n ≡ byte_at trace at → CountRight trace at → Places n ≡ count_at trace at
+  pub count_right : (n : ℕ) → n ≡ byte_at trace at → CountRight trace at → Some n ≡ count_at trace at
   unfolding count_at
-  count_right n e r = ap Places e ∙ ap (λ (b : Bool). cond b (Places (byte_at trace at)) Wrong) (sym (right_is r))
+  count_right n e r = ap Some e ∙ ap (λ (b : Bool). cond b (Some (byte_at trace at)) None) (sym (right_is r))
 
   -- behind the end there is none
   pub count_missing : length trace ≤ at → CountRight trace at → ⊥
@@ -52,15 +51,15 @@ module _ (trace : List ℕ) (at : ℕ) where
 
   -- ---- what a count that was read says
 
-  pub read_right : (n : ℕ) → count_at trace at ≡ Places n → CountRight trace at × (n ≡ byte_at trace at)
+  pub read_right : (n : ℕ) → count_at trace at ≡ Some n → CountRight trace at × (n ≡ byte_at trace at)
   unfolding count_at is_right places_of
   read_right n e = go (count_right_at trace at) refl e
     where
-      go : (b : Bool) → count_right_at trace at ≡ b → cond b (Places (byte_at trace at)) Wrong ≡ Places n → CountRight trace at × (n ≡ byte_at trace at)
+      go : (b : Bool) → count_right_at trace at ≡ b → cond b (Some (byte_at trace at)) None ≡ Some n → CountRight trace at × (n ≡ byte_at trace at)
       go true r e = (right_of r, sym (ap places_of e))
       go false r e = absurd (false≢true (ap is_right e))
 
-  pub read_wrong : count_at trace at ≡ Wrong → CountRight trace at → ⊥
+  pub read_wrong : count_at trace at ≡ None → CountRight trace at → ⊥
   unfolding count_at is_right
   read_wrong e r =
-      absurd (true≢false (ap is_right (ap (λ (b : Bool). cond b (Places (byte_at trace at)) Wrong) (sym (right_is r)) ∙ e)))
+      absurd (true≢false (ap is_right (ap (λ (b : Bool). cond b (Some (byte_at trace at)) None) (sym (right_is r)) ∙ e)))

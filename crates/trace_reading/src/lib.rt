@@ -8,37 +8,23 @@ ghost use Rattle.trace_reading.specs.Read.{count_at};
 
 use crate::reader::Reader;
 
-// A path's count.
-#[derive(Clone, Copy)]
-pub enum Count {
-    // from 1 to 9, and the trace holds as many bytes behind it
-    Places(usize),
-    // any other, or none
-    Wrong,
-}
-
-// The count of the path that starts at `at`.
-fn count_at(trace: &[u8], at: usize) -> Count
+// The count of the path that starts at `at`: from 1 to 9, and the trace holds as many bytes behind it.
+// None where it is any other, or missing.
+fn count_at(trace: &[u8], at: usize) -> Option<usize>
     ensures { result ≡ count_at trace.now at }
 {
     if trace.len() <= at {
-        return Count::Wrong;
+        return None;
     }
     let places = trace[at] as usize;
-    if places < 1 {
-        return Count::Wrong;
+    if places < 1 || 9 < places || trace.len() - at <= places {
+        return None;
     }
-    if 9 < places {
-        return Count::Wrong;
-    }
-    if trace.len() - at <= places {
-        return Count::Wrong;
-    }
-    Count::Places(places)
+    Some(places)
 }
 
 // The same by a reader at that byte: what callers use, who have the trace and the cursor and no reader.
-pub fn path_at(trace: &[u8], at: usize) -> Count
+pub fn path_at(trace: &[u8], at: usize) -> Option<usize>
     ensures { result ≡ count_at trace.now at }
 {
     Reader::new(trace, at).path()

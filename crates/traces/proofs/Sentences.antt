@@ -1,11 +1,12 @@
 -- What refuses a trace, by what the walk found. Assumes nothing.
 use Prim.Native.Nat.{ℕ, ◌+◌, ◌≤◌, ◌<◌}
-use mathlib.Core.Path.{◌≡◌, refl, sym, ap, subst, ◌∙◌}
+use mathlib.Core.Path.{◌≡◌, refl, sym, ap, ap₂, subst, ◌∙◌}
 use mathlib.Core.Logic.{◌≢◌, ◌⊎◌, inl, inr}
 use mathlib.Core.Bool.{true, false, not}
 use mathlib.Core.List.{List, [], ◌∷◌}
 use native.Mathlib.Omega.{arith}
-use lib.ListN.{length, get_or}
+use lib.ListN.{length}
+use Rattle.std.specs.Prelude.{None, Some}
 use Rattle.model.specs.Memory.{Memory}
 use Rattle.model.specs.Image.{byte_at}
 use Rattle.model.specs.Traces.{path_count, path_start, place_count, step_count, trace_counts_wrong, place_named, step_allowed, places_named, steps_allowed}
@@ -15,9 +16,8 @@ use Rattle.model.proofs.Refusals.{sentence_leaves, sentence_goes, sentence_none}
 use Rattle.model.proofs.Traces.{TraceCounts, trace_counts, trace_counts_of, trace_place_none}
 use Rattle.state.specs.Lent.{memory}
 use Rattle.trace_reading.specs.Read.{CountRight}
-use Rattle.answers.specs.declared.TraceAnswer.{TraceAnswer}
-use Rattle.traces.specs.Faults.{absent, fault_in}
-use Rattle.traces.specs.Judged.{sentences_refusal, answer, answer_of}
+use Rattle.traces.specs.Faults.{fault_in}
+use Rattle.traces.specs.Judged.{sentences_refusal, answer_of}
 use Rattle.traces.specs.Walked.{Walked}
 use Rattle.traces.specs.declared.cursor.Cursor.{Cursor}
 use Rattle.traces.specs.declared.fault.Fault.{Fault}
@@ -71,25 +71,26 @@ module _ (s t trace : List ℕ) (c : Cursor) (W : Walked s t trace c) where
           ends = sym e ∙ at_end;
         })
 
--- ---- the answers
+-- ---- the answers: n is the refusal's number, p and k are its path and place
 
 module _ (s t trace : List ℕ) where
   abbrev m : Memory
   m = memory s t
 
-  answer_is : (number : ℕ) (f : Fault) → number ≡ sentences_refusal s t trace → f.path ∷ f.place ∷ [] ≡ trace_place m trace number
-      → answer number f ≡ answer_of s t trace (sentences_refusal s t trace)
-  unfolding answer_of
-  answer_is number f e q =
-      ap (λ (l : List ℕ). record { refusal = number; path = get_or l 0 0; place = get_or l 1 0 }) q ∙ ap (answer_of s t trace) e
+  answer_is : (number n p k : ℕ) → number ≡ sentences_refusal s t trace → n ≡ number → p ∷ k ∷ [] ≡ trace_place m trace number
+      → n ∷ p ∷ k ∷ [] ≡ answer_of s t trace (sentences_refusal s t trace)
+  answer_is number n p k e en q = ap₂ (λ (n : ℕ) (l : List ℕ). n ∷ l) en q ∙ ap (answer_of s t trace) e
 
-  pub says_22 : (r : TraceAnswer) (f : Fault) → trace_counts_wrong trace ≡ true → f ≡ absent → r ≡ answer 22 f
-      → r ≡ answer_of s t trace (sentences_refusal s t trace)
+  -- one that is about no path
+  nowhere : (p k : ℕ) → p ≡ 0 → k ≡ 0 → p ∷ k ∷ [] ≡ 0 ∷ 0 ∷ []
+  nowhere p k ep ek = ap₂ (λ (p k : ℕ). p ∷ k ∷ []) ep ek
+
+  pub says_22 : (n p k : ℕ) → trace_counts_wrong trace ≡ true → n ≡ 22 → p ≡ 0 → k ≡ 0
+      → n ∷ p ∷ k ∷ [] ≡ answer_of s t trace (sentences_refusal s t trace)
   unfolding sentences_refusal
-  says_22 r f w ef er =
-      er
-      ∙ ap (answer 22) ef
-      ∙ answer_is 22 absent (sentence_leaves (trace_counts_wrong trace) 22 _ true (sym w) refl) (sym (trace_place_none m trace 22 (λ e. omega (arith, e)) (λ e. omega (arith, e))))
+  says_22 n p k w en ep ek =
+      answer_is 22 n p k (sentence_leaves (trace_counts_wrong trace) 22 _ true (sym w) refl) en
+      (nowhere p k ep ek ∙ sym (trace_place_none m trace 22 (λ e. omega (arith, e)) (λ e. omega (arith, e))))
 
   -- the cursor c is behind the last path, where the trace ends
   module _ (c : Cursor) (W : Walked s t trace c) (all : c.path ≡ path_count trace) (e : c.at ≡ length trace) where
@@ -100,45 +101,36 @@ module _ (s t trace : List ℕ) where
     unfolding sentences_refusal
     past_22 n q = sentence_goes (trace_counts_wrong trace) 22 _ n false (sym (counts_right s t trace c W all e)) refl q
 
-    module _ (some : c.unnamed.path ≢ 0) where
-      faulty : (fault_in (path_count trace) (place_count trace) (place_named s trace)).path ≢ 0
-      faulty q = some (ap (λ (f : Fault). f.path) unnamed ∙ q)
-
-      pub says_9 : (r : TraceAnswer) → r ≡ answer 9 c.unnamed → r ≡ answer_of s t trace (sentences_refusal s t trace)
+    module _ (f : Fault) (some : c.unnamed ≡ Some f) where
+      pub says_9 : (n p k : ℕ) → n ≡ 9 → p ≡ f.path → k ≡ f.place → n ∷ p ∷ k ∷ [] ≡ answer_of s t trace (sentences_refusal s t trace)
       unfolding trace_place
-      says_9 r er =
-          er
-          ∙ answer_is 9 c.unnamed
-          (past_22 9 (sentence_leaves _ 9 _ true (sym (ap not (some_fails _ _ (path_count trace) faulty))) refl))
-          (ap (λ (f : Fault). f.path ∷ f.place ∷ []) unnamed ∙ fault_first _ _ (path_count trace) faulty)
+      says_9 n p k en ep ek =
+          let first = sym unnamed ∙ some in
+          answer_is 9 n p k
+          (past_22 9 (sentence_leaves _ 9 _ true (sym (ap not (some_fails _ _ (path_count trace) f first))) refl)) en
+          (ap₂ (λ (p k : ℕ). p ∷ k ∷ []) ep ek ∙ fault_first _ _ (path_count trace) f first)
 
-    module _ (none : c.unnamed.path ≡ 0) where
+    module _ (none : c.unnamed ≡ None) where
       forbidden : c.forbidden ≡ fault_in (path_count trace) (step_count trace) (step_allowed s t trace)
       forbidden = W.forbidden none ∙ ap (λ (n : ℕ). fault_in n (step_count trace) (step_allowed s t trace)) all
 
       past_9 : (n : ℕ) → n ≡ first_true ((not (steps_allowed s t trace), 23) ∷ []) → n ≡ sentences_refusal s t trace
       past_9 n q =
           past_22 n
-          (sentence_goes _ 9 _ n false (sym (ap not (none_fails _ _ (path_count trace) (sym (ap (λ (f : Fault). f.path) unnamed) ∙ none)))) refl q)
+          (sentence_goes _ 9 _ n false (sym (ap not (none_fails _ _ (path_count trace) (sym unnamed ∙ none)))) refl q)
 
-      module _ (some : c.forbidden.path ≢ 0) where
-        wrong_step : (fault_in (path_count trace) (step_count trace) (step_allowed s t trace)).path ≢ 0
-        wrong_step q = some (ap (λ (f : Fault). f.path) forbidden ∙ q)
-
-        pub says_23 : (r : TraceAnswer) → r ≡ answer 23 c.forbidden → r ≡ answer_of s t trace (sentences_refusal s t trace)
+      module _ (f : Fault) (some : c.forbidden ≡ Some f) where
+        pub says_23 : (n p k : ℕ) → n ≡ 23 → p ≡ f.path → k ≡ f.place → n ∷ p ∷ k ∷ [] ≡ answer_of s t trace (sentences_refusal s t trace)
         unfolding trace_place
-        says_23 r er =
-            er
-            ∙ answer_is 23 c.forbidden
-            (past_9 23 (sentence_leaves _ 23 _ true (sym (ap not (some_fails _ _ (path_count trace) wrong_step))) refl))
-            (ap (λ (f : Fault). f.path ∷ f.place ∷ []) forbidden ∙ fault_first _ _ (path_count trace) wrong_step)
+        says_23 n p k en ep ek =
+            let first = sym forbidden ∙ some in
+            answer_is 23 n p k
+            (past_9 23 (sentence_leaves _ 23 _ true (sym (ap not (some_fails _ _ (path_count trace) f first))) refl)) en
+            (ap₂ (λ (p k : ℕ). p ∷ k ∷ []) ep ek ∙ fault_first _ _ (path_count trace) f first)
 
-      pub says_none : c.forbidden.path ≡ 0 → (r : TraceAnswer) (h : Fault) → h ≡ absent → r ≡ answer 0 h
-          → r ≡ answer_of s t trace (sentences_refusal s t trace)
-      says_none allowed r h eh er =
-          er
-          ∙ ap (answer 0) eh
-          ∙ answer_is 0 absent
+      pub says_none : c.forbidden ≡ None → 0 ∷ 0 ∷ 0 ∷ [] ≡ answer_of s t trace (sentences_refusal s t trace)
+      says_none allowed =
+          answer_is 0 0 0 0
           (past_9 0
-          (sentence_goes _ 23 _ 0 false (sym (ap not (none_fails _ _ (path_count trace) (sym (ap (λ (f : Fault). f.path) forbidden) ∙ allowed)))) refl sentence_none))
+          (sentence_goes _ 23 _ 0 false (sym (ap not (none_fails _ _ (path_count trace) (sym forbidden ∙ allowed)))) refl sentence_none)) refl
           (sym (trace_place_none m trace 0 (λ q. omega (arith, q)) (λ q. omega (arith, q))))

@@ -1,45 +1,44 @@
-// The check of a trace, on a sound state: one walk over its paths, from front to back, by a cursor. It goes on past a place without a node and a step that
-// is not allowed, and keeps the first of each, but ends at the first count that is wrong. The time is in proportion to the trace's bytes.
+// The check of a trace, on a sound network: one walk over its paths, from front to back, by a cursor.
+// It goes on past a place without a node and a step that is not allowed, and keeps the first of each,
+// but ends at the first count that is wrong. The time is in proportion to the trace's bytes.
 #![tactic(auto)]
 
 ghost use Rattle.std.specs.Prelude.{◌≡◌};
-ghost use Rattle.model.proofs.Sound.{Sound};
+ghost use Rattle.answers.specs.Fields.{trace_fields};
 ghost use Rattle.traces.specs.Judged.{sentences_refusal, answer_of};
 
 use crate::cursor::start;
-use crate::fault::{answered, none};
-use answers::TraceAnswer;
-use answers::refusal::Refusal;
-use trace_reading::{Count, path_at};
+use answers::error::{Refusal, TraceRefused};
+use network::network::Network;
+use trace_reading::path_at;
 
 mod cursor;
 mod fault;
 mod path;
 
-// The number of the first sentence that refuses the trace, 22, 9 or 23, or 0; and path and place that it is about.
-pub fn judge(state: &[u64], tables: &[u8], trace: &[u8]) -> TraceAnswer
-    requires { Sound state.now tables.now }
-    ensures { result ≡ answer_of state.now tables.now trace.now (sentences_refusal state.now tables.now trace.now) }
+// The first sentence that refuses the trace, 22, 9 or 23; and path and place that it is about.
+pub fn judge(network: &Network<'_>, trace: &[u8]) -> Result<(), TraceRefused>
+    ensures { trace_fields result ≡ answer_of network.now.state.now network.now.tables.now trace.now (sentences_refusal network.now.state.now network.now.tables.now trace.now) }
 {
-    if trace.len() == 0 {
-        return answered(Refusal::TRACE_COUNTS, none());
+    if trace.is_empty() {
+        return Err(Refusal::TraceCounts.into());
     }
     let paths = trace[0] as usize;
     let mut c = start();
-    while c.path < paths {
-        let Count::Places(places) = path_at(trace, c.at) else {
-            return answered(Refusal::TRACE_COUNTS, none());
+    for _ in 0..paths {
+        let Some(places) = path_at(trace, c.at) else {
+            return Err(Refusal::TraceCounts.into());
         };
-        c = c.pass(state, tables, trace, places);
+        c = c.pass(network, trace, places);
     }
     if c.at != trace.len() {
-        return answered(Refusal::TRACE_COUNTS, none());
+        return Err(Refusal::TraceCounts.into());
     }
-    if c.unnamed.path != 0 {
-        return answered(Refusal::NO_SUCH_NODE, c.unnamed);
+    if let Some(fault) = c.unnamed {
+        return Err(fault.refused(Refusal::NoSuchNode));
     }
-    if c.forbidden.path != 0 {
-        return answered(Refusal::STEP_NOT_ALLOWED, c.forbidden);
+    if let Some(fault) = c.forbidden {
+        return Err(fault.refused(Refusal::StepNotAllowed));
     }
-    answered(0, none())
+    Ok(())
 }

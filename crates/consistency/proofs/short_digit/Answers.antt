@@ -1,24 +1,16 @@
--- `consistency::short_digit`: no entry before `j` lacks a node. Assumes nothing.
-use mathlib.Core.Path.{◌∙◌}
-use native.Mathlib.Omega.{arith}
-use Rattle.model.proofs.Loops.{first_none}
-use Rattle.consistency.proofs.Judged.{digit_leaves, digit_goes}
+-- `short_digit`: no entry before `j` lacks a node. Assumes nothing.
+use Rattle.std.proofs.Common.{arith}
+use Rattle.consistency.proofs.Judged.{digit_leaves, digit_goes, level_is_whole}
 use Rattle.consistency.proofs.short_digit.Goals as goal
 
-pub returns-then-lack-gt0 : goal.returns-then-lack-gt0
-returns-then-lack-gt0 c = search digit_leaves
+pub returns-then-lack-gt0-clause-some : goal.returns-then-lack-gt0-clause-some
+returns-then-lack-gt0-clause-some c = (omega arith, search digit_leaves)
 
 pub loop-j-preserved : goal.loop-j-preserved
 loop-j-preserved c =
-    let s = c.load-s.ensures in
-    let l = c.loop-j in (
-      omega arith,
-      digit_goes _ _ c.requires.sound c.args.x c.requires.node _ c.args.i _ _ _ _ l.j _ _ c.requires.having c.requires.sharing c.requires.i_bound
-          s.base s.depth c.lent-table.ensures.0 c.loop-j-test.true c.among.ensures
-          c.lack.ensures.0 l.invariant.1 c.if-lack-gt0.false,
-    )
+    let s = c.settings-s.ensures in
+    digit_goes _ _ c.args.network.now.sound c.args.x c.requires.node _ c.args.i _ _ _ _ c.loop-j.j _ _ c.requires.having c.requires.sharing c.requires.level
+    s.base s.depth c.table-table.ensures.0 c.loop-j-test.true c.among.ensures c.lack.ensures.0 c.loop-j.invariant c.if-lack-gt0.false
 
-pub returns : goal.returns
-returns c =
-    let l = c.loop-j in
-    c.load-s.ensures.base ∙ first_none _ _ l.j l.invariant.1 (omega arith)
+pub returns-clause-none : goal.returns-clause-none
+returns-clause-none c = level_is_whole _ _ _ _ (omega arith)

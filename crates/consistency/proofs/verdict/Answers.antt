@@ -1,26 +1,21 @@
--- `consistency::verdict` meets its contract: yes where no node has a short entry, else the first such node, its first such level and
--- digit. Assumes nothing.
-use native.Mathlib.Nat.{le_of_lt}
-use native.Mathlib.Omega.{arith}
-use Rattle.model.proofs.Consistency.{verdict_yes, level_found, verdict_no}
+-- `verdict`: no node before `k + 1` has a short entry. Assumes nothing.
+use Rattle.std.proofs.Common.{arith}
+use Rattle.model.proofs.Loops.{first_ends}
+use Rattle.model.proofs.Consistency.{verdict_yes}
 use Rattle.consistency.proofs.Gathering.{readable}
+use Rattle.consistency.proofs.Judged.{node_goes, verdict_at}
 use Rattle.consistency.proofs.verdict.Goals as goal
 
 pub having-having-requires : goal.having-having-requires
-having-having-requires c = readable _ _ c.requires
+having-having-requires c = readable _ _ c.args.network.now.sound
 
-pub returns-then-load-before : goal.returns-then-load-before
-returns-then-load-before c = verdict_yes _ _ _ c.whole_nodes-before.ensures (omega arith)
+pub returns-in-Some : goal.returns-in-Some
+returns-in-Some c = verdict_at _ _ c.loop-k.k (omega arith) c.loop-k.invariant _ c.in-Some.ensures.some
 
-pub sharing-sharing-requires : goal.sharing-sharing-requires
-sharing-sharing-requires c =
-    record { ids_readable = readable _ _ c.requires; having = c.having-having.ensures; node = record { low = omega arith; high = omega arith }; i_bound = le_of_lt (level_found c.args.state.now c.args.tables.now _ c.whole_nodes-before.ensures (omega arith) _ c.short_level-i.ensures) }
-
-pub short_digit-requires : goal.short_digit-requires
-short_digit-requires c =
-    record { sound = c.requires; having = c.having-having.ensures; sharing = c.sharing-sharing.ensures; node = record { low = omega arith; high = omega arith }; i_bound = level_found c.args.state.now c.args.tables.now _ c.whole_nodes-before.ensures (omega arith) _ c.short_level-i.ensures }
+pub loop-k-preserved : goal.loop-k-preserved
+loop-k-preserved c = node_goes _ _ c.loop-k.k (omega arith) c.loop-k.invariant c.in_default.ensures.none
 
 pub returns : goal.returns
 returns c =
-    verdict_no _ _ _ c.whole_nodes-before.ensures (omega arith) _ c.short_level-i.ensures _
-    c.short_digit.ensures
+    let ended = c.nodes-k-end.ensures in
+    verdict_yes _ _ c.loop-k.k (first_ends _ _ c.loop-k.k c.loop-k.invariant (omega arith)) (omega arith)

@@ -5,4 +5,4 @@ use Rattle.model.specs.Nodes.{suffix_of}
 use Rattle.routing.proofs.+lookup.Given as goal
 
 abbrev pub decreases-lookup : goal.decreases-lookup
-decreases-lookup l = digits l.state.now - suffix_of l.state.now l.u l.z
+decreases-lookup l = digits l.network.now.state.now - suffix_of l.network.now.state.now l.u l.z

@@ -1,11 +1,10 @@
 -- `having::note`: a turn is the definition's step. Assumes nothing.
-use native.Mathlib.Omega.{arith}
 use Rattle.model.proofs.Loops.{each_loop}
 use Rattle.consistency.proofs.Gathering.{note_step}
 use Rattle.consistency.proofs.having.note.Goals as goal
 
 pub loop-i-init : goal.loop-i-init
-loop-i-init c = (omega arith, search each_loop)
+loop-i-init c = search each_loop
 
 pub loop-i-preserved : goal.loop-i-preserved
-loop-i-preserved c = (omega arith, search (each_loop, note_step))
+loop-i-preserved c = search (each_loop, note_step)

@@ -1,11 +1,7 @@
-use Prim.Native.Nat.{◌≤◌, ◌-◌}
-use mathlib.Core.Path.{◌≡◌}
+use Rattle.std.proofs.Common.{◌≡◌}
 use Rattle.model.specs.Loops.{each_below}
 use Rattle.consistency.specs.NodeSets.{note_at}
 use Rattle.consistency.proofs.having.note.Given as goal
 
 abbrev pub invariant-loop-i : goal.invariant-loop-i
-invariant-loop-i l = (l.i ≤ l.digits) × (l.sets ≡ each_below l.i (note_at l.id l.y) l.initial.sets)
-
-abbrev pub decreases-loop-i : goal.decreases-loop-i
-decreases-loop-i l = l.digits - l.i
+invariant-loop-i l = l.sets ≡ each_below l.i (note_at l.id l.y) l.initial.sets
