@@ -4,12 +4,9 @@
 ghost use Rattle.std.specs.Prelude.{◌≡◌, ◌+◌, ◌*◌, ◌≤◌, length};
 ghost use Rattle.additions.specs.Listed.{blank, AdditionOf};
 
-use image_fields::header::byte;
+pub use filling::measure::LONGEST;
 
-// The longest list, in bytes: at most 84 additions for each of 64 nodes.
-pub const LONGEST: usize = 21504;
-
-// Memory for it.
+// Memory for the longest list.
 pub fn blank() -> [u8; LONGEST]
     ensures { (result ≡ blank) × (length result ≡ 21504) }
 {
@@ -17,7 +14,7 @@ pub fn blank() -> [u8; LONGEST]
 }
 
 // The four bytes as numbers.
-#[derive(Clone, Copy)]
+#[derive(Clone, Copy, Debug, PartialEq, Eq)]
 pub struct Addition {
     pub node: u64,
     pub level: u64,
@@ -32,9 +29,9 @@ pub fn load(list: &[u8], r: usize) -> Addition
 {
     let at = 4 * r;
     Addition {
-        node: byte(list, at) as u64,
-        level: byte(list, at + 1) as u64,
-        digit: byte(list, at + 2) as u64,
-        neighbor: byte(list, at + 3) as u64,
+        node: u64::from(list[at]),
+        level: u64::from(list[at + 1]),
+        digit: u64::from(list[at + 2]),
+        neighbor: u64::from(list[at + 3]),
     }
 }

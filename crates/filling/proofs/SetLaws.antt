@@ -1,15 +1,15 @@
 -- Laws of sets of nodes: those that are left of a set without others, and the lowest one. Assumes nothing.
 use Prim.Native.Nat.{ℕ, zero, suc, ◌+◌, ◌-◌, ◌*◌, ◌/◌, ◌%◌, ◌^◌, ◌≤◌, ◌<◌}
-use mathlib.Core.Path.{◌≡◌, refl, sym, ap, ap₂, subst, ◌∙◌}
+use mathlib.Core.Path.{◌≡◌, refl, sym, ap, ap₂, ◌∙◌}
 use mathlib.Core.Logic.{◌≢◌}
 use mathlib.Core.Bool.{Bool, true, false, not, ◌&&◌, ◌||◌, and-false}
 use mathlib.Core.List.{List}
-use native.Mathlib.Nat.{mod-lt, zero-lt-suc, suc-mul, pow-succ', le_refl, le_antisymm}
-use native.Mathlib.Decide.{ℕ_discrete}
+use native.Mathlib.Nat.{mod-lt, mod-eq_of_lt, zero-lt-suc, suc-mul, pow-succ', le_refl}
+use native.Mathlib.Decide.{ℕ_discrete, dec_lt}
 use native.Mathlib.Omega.{arith}
 use lib.Arith.{mod-mul}
 use lib.Pow.{pow_pos}
-use lib.Count.{count_trailing_zeros, trailing_le}
+use lib.Count.{count_trailing_zeros}
 use lib.Dec.{eqb}
 use borrow.Author.Tests.{eq-eqb, ne_eqb}
 use Rattle.model.specs.Memory.{has_node, remove_node}
@@ -24,10 +24,6 @@ use Rattle.filling.specs.NodeSets.{Rest, First}
 and_true : (a : Bool) → a ≡ (a && true)
 and_true true = refl
 and_true false = refl
-
-pub without_none : (nodes u : ℕ) → u ≡ 0 → (y : ℕ) → 1 ≤ y → has_node nodes y ≡ (has_node nodes y && not (eqb u y))
-without_none nodes u e y l =
-    and_true (has_node nodes y) ∙ ap (λ (b : Bool). has_node nodes y && not b) (sym (ne_eqb u y (λ q. omega (arith, q))))
 
 pub without_one : (nodes u r : ℕ) → u ≢ 0 → r ≡ remove_node nodes u → (y : ℕ) → 1 ≤ y → has_node r y ≡ (has_node nodes y && not (eqb u y))
 without_one nodes u r some e y l = ap (λ (r : ℕ). has_node r y) e ∙ go (ℕ_discrete y u)
@@ -64,9 +60,6 @@ module _ (T : List ℕ) (i j Q : ℕ) where
           ∙ neither (has_node Q y) (holds k T i j y) (eqb (slot_at T i j k) y)
           ∙ ap (λ (b : Bool). has_node Q y && not b) (sym (any_step k (slot_is T i j y)));
     }
-
-    pub rest_ends : (K : ℕ) → k ≤ K → K ≤ k → Rest K T i j Q R
-    rest_ends K l g = subst (λ (n : ℕ). Rest n T i j Q R) (le_antisymm l g) w
 
 -- ---- the lowest
 
@@ -106,5 +99,12 @@ module _ (n : ℕ) where
       let e : low + 1 - 1 ≡ low = omega arith in
       eq-eqb _ 1 (ap (λ (k : ℕ). n / 2 ^ k % 2) e ∙ bit_one _ (mod-lt _ (zero-lt-suc 1)) (odd (omega arith)))
 
-  pub first_is : First n (count_trailing_zeros 64 n + 1)
-  first_is = record { low = omega arith; high = omega (arith, trailing_le 64 n); before = before; here = here }
+  module _ (some : n ≢ 0) (fits : n < 2 ^ 64) where
+    low_lt : Dec (low < 64) → low < 64
+    low_lt (yes l) = l
+    low_lt (no g) = absurd (some (sym (mod-eq_of_lt fits) ∙ trailing_low 64 64 n (omega (arith, g))))
+
+    pub first_is : First n (low + 1)
+    first_is =
+        let l : low < 64 = low_lt (dec_lt low 64) in
+        record { low = omega arith; high = omega arith; before = before; here = here (omega arith) }

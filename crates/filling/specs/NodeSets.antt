@@ -7,9 +7,9 @@ use Rattle.model.specs.Tables.{holds}
 pub record Rest (K : ℕ) (T : List ℕ) (i j Q R : ℕ) : Type 0 where
   pub is : (y : ℕ) → 1 ≤ y → has_node R y ≡ (has_node Q y && not (holds K T i j y))
 
--- r is the lowest node of the set R; 65 where it has none
+-- r is the lowest node of the set R
 pub record First (R r : ℕ) : Type 0 where
   pub low : 1 ≤ r
-  pub high : r ≤ 65
+  pub high : r ≤ 64
   pub before : (y : ℕ) → 1 ≤ y → y < r → has_node R y ≡ false
-  pub here : r ≤ 64 → has_node R r ≡ true
+  pub here : has_node R r ≡ true

@@ -3,10 +3,11 @@ ghost use Rattle.std.specs.Prelude.{◌≤◌, ◌<◌};
 ghost use Rattle.model.specs.Memory as memory;
 ghost use Rattle.model.specs.Fill.{lowest_absent, short_by, added, fill_entry, fill_level, fill_node};
 ghost use Rattle.model.proofs.Status.{IsNode};
-ghost use Rattle.model.proofs.Filling.{Steady, EntryOf};
-ghost use Rattle.consistency.specs.NodeSets.{Having, Sharing, Qualify};
+ghost use Rattle.model.proofs.Filling.{Steady};
+ghost use Rattle.consistency.specs.NodeSets.{Having, Sharing};
 ghost use Rattle.filling.specs.Sofar.{sofar, Fits, Listed};
 
+use crate::entry::Entry;
 use crate::lowest::lowest;
 use consistency::having::{ALL, among};
 use consistency::lack::lack;
@@ -15,53 +16,32 @@ use state::sets::{EMPTY, add};
 use state::{record, settings};
 use tables::part;
 
-// One addition to entry (i, j) of x, which is short, of those that qualify.
-fn once(
-    state: &[u64],
-    tables: &mut [u8],
-    qualified: u64,
-    x: usize,
-    i: usize,
-    j: usize,
-    out: &mut [u8],
-    at: usize,
-) -> usize
-    requires steady { Steady state.now tables.old }
-    requires entry_of { EntryOf state.now x i j }
-    requires qualify { Qualify state.now x i j qualified }
-    requires bound { 1 ≤ short_by state.now tables.old x i j }
-    requires fits { Fits (added state.now x i j (lowest_absent state.now tables.old x i j) (sofar tables.old out.old at)) out.old at }
-    ensures { Listed out.old at (added state.now x i j (lowest_absent state.now tables.old x i j) (sofar tables.old out.old at)) tables.new out.new result }
+// One addition to an entry that is short, of those that qualify.
+fn once(entry: &Entry<'_>, tables: &mut [u8], out: &mut [u8], at: usize) -> usize
+    requires steady { Steady entry.now.state.now tables.old }
+    requires short { 1 ≤ short_by entry.now.state.now tables.old entry.now.node entry.now.level entry.now.digit }
+    requires fits { Fits (added entry.now.state.now entry.now.node entry.now.level entry.now.digit (lowest_absent entry.now.state.now tables.old entry.now.node entry.now.level entry.now.digit) (sofar tables.old out.old at)) out.old at }
+    ensures { Listed out.old at (added entry.now.state.now entry.now.node entry.now.level entry.now.digit (lowest_absent entry.now.state.now tables.old entry.now.node entry.now.level entry.now.digit) (sofar tables.old out.old at)) tables.new out.new result }
 {
-    let y = lowest(state, tables, qualified, x, i, j);
-    part::append(tables, settings::load(state).depth, x, i, j, y);
+    let y = lowest(entry, tables);
+    let (x, i, j) = (entry.node, entry.level, entry.digit);
+    part::append(tables, settings::load(entry.state).depth, x, i, j, y);
+    // `as`: the value is proved to fit, and `u8::try_from` would answer an error that cannot come.
     putting::four(out, at, x as u8, i as u8, j as u8, y as u8)
 }
 
 // As many as the entry is short.
-fn entry(
-    state: &[u64],
-    tables: &mut [u8],
-    qualified: u64,
-    x: usize,
-    i: usize,
-    j: usize,
-    out: &mut [u8],
-    at: usize,
-) -> usize
-    requires steady { Steady state.now tables.old }
-    requires entry_of { EntryOf state.now x i j }
-    requires qualify { Qualify state.now x i j qualified }
-    requires fits { Fits (fill_entry state.now x i j (sofar tables.old out.old at)) out.old at }
-    ensures { Listed out.old at (fill_entry state.now x i j (sofar tables.old out.old at)) tables.new out.new result }
+fn fill(entry: &Entry<'_>, tables: &mut [u8], out: &mut [u8], at: usize) -> usize
+    requires steady { Steady entry.now.state.now tables.old }
+    requires fits { Fits (fill_entry entry.now.state.now entry.now.node entry.now.level entry.now.digit (sofar tables.old out.old at)) out.old at }
+    ensures { Listed out.old at (fill_entry entry.now.state.now entry.now.node entry.now.level entry.now.digit (sofar tables.old out.old at)) tables.new out.new result }
 {
-    let depth = settings::load(state).depth;
-    let many = lack(part::lent(tables, x), depth, i, j, qualified);
+    let depth = settings::load(entry.state).depth;
+    let table = part::lent(tables, entry.node);
+    let many = lack(table, depth, entry.level, entry.digit, entry.qualified);
     let mut end = at;
-    let mut k = 0;
-    while k < many {
-        end = once(state, tables, qualified, x, i, j, out, end);
-        k += 1;
+    for _ in 0..many {
+        end = once(entry, tables, out, end);
     }
     end
 }
@@ -87,16 +67,20 @@ fn level(
 {
     let base = settings::load(state).base;
     let mut end = at;
-    let mut j = 0;
-    while j < base {
-        let qualified = among(having, sharing, i, j);
-        end = entry(state, tables, qualified, x, i, j, out, end);
-        j += 1;
+    for j in 0..base {
+        let entry = Entry {
+            state,
+            node: x,
+            level: i,
+            digit: j,
+            qualified: among(having, sharing, i, j),
+        };
+        end = fill(&entry, tables, out, end);
     }
     end
 }
 
-// Every entry of x. Once nobody else shares the digits of x nothing is lacking above: x stands in its own entries, and for the others there is nobody.
+// Every entry of x, by the walk of `measure::node`. Once nobody else shares the digits of x nothing is lacking above: x stands in its own entries, and for the others there is nobody.
 pub fn node(
     state: &[u64],
     tables: &mut [u8],
@@ -116,14 +100,12 @@ pub fn node(
     let alone = add(EMPTY, x);
     let mut sharing = ALL;
     let mut end = at;
-    let mut i = 0;
-    while i < digits {
+    for i in 0..digits {
         end = level(state, tables, having, sharing, x, i, out, end);
         sharing = among(having, sharing, i, digit(id, i));
         if sharing == alone {
             return end;
         }
-        i += 1;
     }
     end
 }

@@ -2,6 +2,7 @@
 #![tactic(auto)]
 
 mod entries;
+mod entry;
 mod lowest;
 pub mod measure;
 
@@ -21,10 +22,8 @@ pub fn fill(state: &[u64], tables: &mut [u8], out: &mut [u8]) -> usize
     let nodes = settings::load(state).nodes;
     let sets = having(state);
     let mut end = 0;
-    let mut k = 0;
-    while k < nodes {
+    for k in 0..nodes {
         end = entries::node(state, tables, &sets, k + 1, out, end);
-        k += 1;
     }
     end
 }

@@ -1,13 +1,14 @@
 // The node that an entry is filled with next.
-ghost use Rattle.std.specs.Prelude.{◌≡◌, not, ◌&&◌, ℕ, ◌≤◌, eqb};
+ghost use Rattle.std.specs.Prelude.{◌≡◌, not, ◌&&◌, ℕ, ◌≤◌, eqb, IfNone, IfSome};
 ghost use Rattle.model.specs.Memory.{has_node};
 ghost use Rattle.model.specs.Fill.{lowest_absent, short_by};
-ghost use Rattle.model.proofs.Filling.{Steady, EntryOf};
-ghost use Rattle.tables.specs.Places.{Entry, Numbers};
-ghost use Rattle.consistency.specs.NodeSets.{Qualify};
+ghost use Rattle.model.proofs.Filling.{Steady};
+ghost use Rattle.tables.specs.Places as places;
+ghost use Rattle.tables.specs.Places.{Numbers};
 ghost use Rattle.filling.specs.NodeSets.{Rest, First};
 
-use state::sets::remove;
+use crate::entry::Entry;
+use state::sets::{is_empty, remove};
 use state::settings;
 use tables::part;
 
@@ -24,35 +25,37 @@ fn without(nodes: u64, u: usize) -> u64
 
 // The nodes of the set that do not stand in entry (i, j).
 fn absent(table: &[u8], depth: usize, i: usize, j: usize, nodes: u64) -> u64
-    requires entry { Entry table.now depth i j }
+    requires entry { places.Entry table.now depth i j }
     requires numbers { Numbers table.now depth i j }
     ensures { Rest depth table.now i j nodes result }
 {
     let entry = 64 * i + 4 * j;
     let mut rest = nodes;
-    let mut k = 0;
-    while k < depth {
+    for k in 0..depth {
         rest = without(rest, table[entry + k] as usize);
-        k += 1;
     }
     rest
 }
 
-// The lowest node of a set; 65 where it has none.
-fn first(nodes: u64) -> usize
-    ensures { First nodes result }
+// The lowest node of a set.
+fn first(nodes: u64) -> Option<usize>
+    ensures none { IfNone result (nodes ≡ 0) }
+    ensures some { IfSome result (λ y. First nodes y) }
 {
-    u64::trailing_zeros(nodes) as usize + 1
+    if is_empty(nodes) {
+        return None;
+    }
+    Some(u64::trailing_zeros(nodes) as usize + 1)
 }
 
-// The lowest-numbered node that is absent from entry (i, j) of x, which is short, of those that qualify.
-pub fn lowest(state: &[u64], tables: &[u8], qualified: u64, x: usize, i: usize, j: usize) -> usize
-    requires steady { Steady state.now tables.now }
-    requires entry_of { EntryOf state.now x i j }
-    requires qualify { Qualify state.now x i j qualified }
-    requires bound { 1 ≤ short_by state.now tables.now x i j }
-    ensures { (result ≡ lowest_absent state.now tables.now x i j) × (result ≤ 65) }
+// The lowest-numbered node that is absent from the entry of those that qualify: there is one, since the entry is short.
+pub fn lowest(entry: &Entry<'_>, tables: &[u8]) -> usize
+    requires steady { Steady entry.now.state.now tables.now }
+    requires short { 1 ≤ short_by entry.now.state.now tables.now entry.now.node entry.now.level entry.now.digit }
+    ensures { (result ≡ lowest_absent entry.now.state.now tables.now entry.now.node entry.now.level entry.now.digit) × (result ≤ 64) }
 {
-    let depth = settings::load(state).depth;
-    first(absent(part::lent(tables, x), depth, i, j, qualified))
+    let depth = settings::load(entry.state).depth;
+    let table = part::lent(tables, entry.node);
+    let missing = absent(table, depth, entry.level, entry.digit, entry.qualified);
+    first(missing).unwrap()
 }

@@ -10,87 +10,68 @@ ghost use Rattle.filling.specs.Short.{level_short_by, node_short_by};
 use consistency::having::{ALL, among, having};
 use consistency::lack::lack;
 use ident::digit;
+use network::network::Network;
 use state::sets::{EMPTY, add};
-use state::{record, settings};
-use tables::part;
 
 // What the entries of level i of x lack. Those in `sharing` have the digits of x below.
-fn level(
-    state: &[u64],
-    tables: &[u8],
-    having: &[u64; 128],
-    sharing: u64,
-    x: usize,
-    i: usize,
-) -> usize
-    requires steady { Steady state.now tables.now }
-    requires having { Having state.now (memory.node_count state.now) having.now }
-    requires sharing { Sharing state.now x i sharing }
-    requires node { IsNode state.now x }
-    requires i_bound { i < memory.digits state.now }
-    ensures { (result ≡ level_short_by state.now tables.now x i) × (result ≤ 64) }
+fn level(network: &Network<'_>, having: &[u64; 128], sharing: u64, x: usize, i: usize) -> usize
+    requires steady { Steady network.now.state.now network.now.tables.now }
+    requires having { Having network.now.state.now (memory.node_count network.now.state.now) having.now }
+    requires sharing { Sharing network.now.state.now x i sharing }
+    requires node { IsNode network.now.state.now x }
+    requires level { i < memory.digits network.now.state.now }
+    ensures { (result ≡ level_short_by network.now.state.now network.now.tables.now x i) × (result ≤ 64) }
 {
-    let s = settings::load(state);
-    let table = part::lent(tables, x);
+    let s = network.settings();
+    let table = network.table(x);
     let mut total = 0;
-    let mut j = 0;
-    while j < s.base {
+    for j in 0..s.base {
         total += lack(table, s.depth, i, j, among(having, sharing, i, j));
-        j += 1;
     }
     total
 }
 
 // What all its entries lack: nothing above once nobody else shares its digits.
-fn node(state: &[u64], tables: &[u8], having: &[u64; 128], x: usize) -> usize
-    requires steady { Steady state.now tables.now }
-    requires having { Having state.now (memory.node_count state.now) having.now }
-    requires node { IsNode state.now x }
-    ensures { (result ≡ node_short_by state.now tables.now x) × (result ≤ 512) }
+fn node(network: &Network<'_>, having: &[u64; 128], x: usize) -> usize
+    requires steady { Steady network.now.state.now network.now.tables.now }
+    requires having { Having network.now.state.now (memory.node_count network.now.state.now) having.now }
+    requires node { IsNode network.now.state.now x }
+    ensures { (result ≡ node_short_by network.now.state.now network.now.tables.now x) × (result ≤ 512) }
 {
-    let digits = settings::load(state).digits;
-    let id = record::id(state, x) as u32;
+    let id = network.id(x);
     let alone = add(EMPTY, x);
     let mut sharing = ALL;
     let mut total = 0;
-    let mut i = 0;
-    while i < digits {
-        total += level(state, tables, having, sharing, x, i);
+    for i in 0..network.settings().digits {
+        total += level(network, having, sharing, x, i);
         sharing = among(having, sharing, i, digit(id, i));
         if sharing == alone {
             return total;
         }
-        i += 1;
     }
     total
 }
 
-// No list is longer: to each of 64 nodes 84 nodes are added at most.
-const LONGEST: usize = 21504;
+// The longest list, in bytes: to each of 64 nodes 84 nodes are added at most.
+pub const LONGEST: usize = 21504;
 
 // How many bytes the list of additions takes.
-pub fn list(state: &[u64], tables: &[u8]) -> usize
-    requires { Steady state.now tables.now }
-    ensures { (result ≡ length (filling state.now tables.now).list) × (result ≤ 131072) }
+pub fn list(network: &Network<'_>) -> usize
+    requires { Steady network.now.state.now network.now.tables.now }
+    ensures { (result ≡ length (filling network.now.state.now network.now.tables.now).list) × (result ≤ 131072) }
 {
-    let nodes = settings::load(state).nodes;
-    let sets = having(state);
+    let sets = having(network.state);
     let mut total = 0;
-    let mut k = 0;
-    while k < nodes {
-        total += node(state, tables, &sets, k + 1);
-        k += 1;
+    for k in 0..network.nodes() {
+        total += node(network, &sets, k + 1);
     }
     4 * total
 }
 
 // It takes more bytes than there is room for. Where the longest list fits nothing is counted.
-pub fn exceeds(state: &[u64], tables: &[u8], room: usize) -> bool
-    requires { Steady state.now tables.now }
-    ensures { result ≡ ltb room (length (filling state.now tables.now).list) }
+pub fn exceeds(network: &Network<'_>, room: usize) -> bool
+    requires steady { Steady network.now.state.now network.now.tables.now }
+    ensures { result ≡ ltb room (length (filling network.now.state.now network.now.tables.now).list) }
 {
-    if LONGEST <= room {
-        return false;
-    }
-    room < list(state, tables)
+    room < LONGEST && room < list(network)
 }

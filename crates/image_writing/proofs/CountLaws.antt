@@ -1,25 +1,26 @@
--- Laws of counting the joins under way, node by node. Assumes nothing.
-use Prim.Native.Nat.{ℕ, ◌+◌, ◌≤◌}
-use mathlib.Core.Path.{◌≡◌, sym, ap, ap₂, ◌∙◌}
-use mathlib.Core.Bool.{not, cond}
-use mathlib.Core.List.{List}
-use native.Mathlib.Omega.{arith}
-use lib.Dec.{eqb}
+-- The law of counting nodes, which are numbered from 1: those before x are counted. Assumes nothing.
+use Rattle.std.proofs.Common.{ℕ, ◌+◌, ◌-◌, ◌≤◌, ◌≡◌, ◌∙◌, sym, ap, ap₂, refl, Bool, true, false, cond, arith}
+use mir.Val.{bool_byte}
 use Rattle.model.specs.Loops.{count_below, node}
-use Rattle.model.specs.Memory.{node_count, status_of, in_system}
-use Rattle.model.specs.Nodes.{count_nodes}
-use Rattle.model.specs.Image.{under_way}
-use Rattle.model.proofs.Loops.{count_zero, count_step, count_ends}
+use Rattle.model.proofs.Loops.{count_le, count_step}
 
-pub way_none : (s : List ℕ) → 0 ≡ count_below 0 (node (under_way s))
-way_none s = sym (count_zero (node (under_way s)))
+-- a test as a number
+as_number : (b : Bool) → bool_byte b ≡ cond b 1 0
+as_number true = refl
+as_number false = refl
 
-pub way_goes : (s : List ℕ) (k count v w : ℕ) → count ≡ count_below k (node (under_way s)) → v ≡ status_of s (k + 1)
-    → w ≡ cond (not (eqb v in_system)) 1 0 → count + w ≡ count_below (k + 1) (node (under_way s))
-way_goes s k count v w e q u =
-    ap₂ ◌+◌ e (u ∙ ap (λ (v : ℕ). cond (not (eqb v in_system)) 1 0) q) ∙ sym (count_step k (node (under_way s)))
+pub count_goes : (f : ℕ → Bool) (x count w : ℕ) (b : Bool) → 1 ≤ x → count ≡ count_below (x - 1) (node f) → w ≡ bool_byte b → b ≡ f x
+    → (count + w ≤ x + 1 - 1) × (count + w ≡ count_below (x + 1 - 1) (node f))
+count_goes f x count w b l e v q = (omega (arith, is, count_le (x + 1 - 1) (node f)), is)
+  where
+    at : x - 1 + 1 ≡ x
+    at = omega arith
 
-pub way_ends : (s : List ℕ) (n k count : ℕ) → count ≡ count_below k (node (under_way s)) → n ≡ node_count s → k ≤ n → n ≤ k
-    → count ≡ count_nodes s (under_way s)
-way_ends s n k count e en l g =
-    count_ends (node_count s) (node (under_way s)) k count e (omega arith) (omega arith)
+    next : x - 1 + 1 ≡ x + 1 - 1
+    next = omega arith
+
+    is : count + w ≡ count_below (x + 1 - 1) (node f)
+    is =
+        ap₂ ◌+◌ e (v ∙ as_number b ∙ ap (λ (b : Bool). cond b 1 0) (q ∙ ap f (sym at)))
+        ∙ sym (count_step (x - 1) (node f))
+        ∙ ap (λ (k : ℕ). count_below k (node f)) next

@@ -5,11 +5,10 @@ mod measure;
 
 ghost use Rattle.std.specs.Prelude.{◌≡◌, ◌++◌, ◌+◌, ◌≤◌, ◌<◌, length, drop};
 ghost use Rattle.model.specs.Image.{has_joins, records_bytes, rest_bytes, image_of};
-ghost use Rattle.model.proofs.Sound.{Sound};
 ghost use Rattle.putting.specs.Put.{Put};
 
 use image_writing_parts::{counts, ids, joins, slots};
-use state::settings;
+use network::network::Network;
 
 // Version 2 has the sections of joins under way and of counts.
 pub fn has_joins(version: u64) -> bool
@@ -19,48 +18,44 @@ pub fn has_joins(version: u64) -> bool
 }
 
 // How many bytes the image takes.
-pub fn image_length(state: &[u64], tables: &[u8], version: u64) -> usize
-    requires { Sound state.now tables.now }
-    ensures { result ≡ length (image_of version state.now tables.now) }
+pub fn image_length(network: &Network<'_>, version: u64) -> usize
+    ensures { result ≡ length (image_of version network.now.state.now network.now.tables.now) }
 {
-    let nodes = settings::load(state).nodes;
-    8 + 4 * nodes + measure::records(state, tables) + measure::rest(state, version)
+    8 + 4 * network.nodes() + measure::records(network) + measure::rest(network, version)
 }
 
 // The records behind their count, which is known when they are written.
-fn records(state: &[u64], tables: &[u8], out: &mut [u8], at: usize) -> usize
-    requires sound { Sound state.now tables.now }
-    requires tables_in_bounds { at + length (records_bytes state.now tables.now) ≤ length out.old }
-    ensures { Put out.old at (records_bytes state.now tables.now) out.new result }
+fn records(network: &Network<'_>, out: &mut [u8], at: usize) -> usize
+    requires { at + length (records_bytes network.now.state.now network.now.tables.now) ≤ length out.old }
+    ensures { Put out.old at (records_bytes network.now.state.now network.now.tables.now) out.new result }
 {
-    let end = slots::all(state, tables, out, at + 2);
+    let end = slots::all(network, out, at + 2);
     let count = (end - (at + 2)) / 4;
+    // `as`: the value is proved to fit, and `u8::try_from` would answer an error that cannot come.
     putting::two(out, at, (count % 256) as u8, (count / 256 % 256) as u8);
     end
 }
 
 // The joins under way and the counts, where the version has them.
-fn rest(state: &[u64], tables: &[u8], version: u64, out: &mut [u8], at: usize) -> usize
-    requires sound { Sound state.now tables.now }
-    requires state_in_bounds { at + length (rest_bytes version state.now) ≤ length out.old }
-    ensures { Put out.old at (rest_bytes version state.now) out.new result }
+fn rest(network: &Network<'_>, version: u64, out: &mut [u8], at: usize) -> usize
+    requires { at + length (rest_bytes version network.now.state.now) ≤ length out.old }
+    ensures { Put out.old at (rest_bytes version network.now.state.now) out.new result }
 {
     if !has_joins(version) {
         return at;
     }
-    let end = joins::all(state, tables, measure::joins(state), out, at);
-    counts::all(state, tables, out, end)
+    let end = joins::all(network, measure::joins(network), out, at);
+    counts::all(network, out, end)
 }
 
 // Writes it from the start of out, and answers its length. What lies past it stays.
-pub fn write(state: &[u64], tables: &[u8], version: u64, out: &mut [u8]) -> usize
-    requires sound { Sound state.now tables.now }
+pub fn write(network: &Network<'_>, version: u64, out: &mut [u8]) -> usize
     requires version_bound { version < 256 }
-    requires tables_in_bounds { length (image_of version state.now tables.now) ≤ length out.old }
-    ensures { (out.new ≡ image_of version state.now tables.now ++ drop (length (image_of version state.now tables.now)) out.old) × (result ≡ length (image_of version state.now tables.now)) }
+    requires room { length (image_of version network.now.state.now network.now.tables.now) ≤ length out.old }
+    ensures { (out.new ≡ image_of version network.now.state.now network.now.tables.now ++ drop (length (image_of version network.now.state.now network.now.tables.now)) out.old) × (result ≡ length (image_of version network.now.state.now network.now.tables.now)) }
 {
-    let first = ids::header(state, tables, version as u8, out);
-    let at = ids::all(state, tables, out, first);
-    let end = records(state, tables, out, at);
-    rest(state, tables, version, out, end)
+    let first = ids::header(network, version as u8, out);
+    let at = ids::all(network, out, first);
+    let end = records(network, out, at);
+    rest(network, version, out, end)
 }

@@ -1,19 +1,19 @@
 -- Laws of putting the join of a node: its numbers fit a byte each; nothing for a node in system, else 20 bytes. Assumes nothing.
-use Prim.Native.Nat.{ℕ, ◌+◌, ◌/◌, ◌≤◌, ◌<◌}
+use Prim.Native.Nat.{ℕ, ◌+◌, ◌≤◌, ◌<◌}
 use mathlib.Core.Path.{◌≡◌, sym, ap, subst, ◌∙◌}
 use mathlib.Core.List.{List, [], ◌∷◌}
 use native.Mathlib.Omega.{arith}
 use lib.ListN.{length}
 use Rattle.model.specs.Memory as memory
 use Rattle.model.specs.Memory.{node_of, status_of, level_of, target_of, in_system}
-use Rattle.model.specs.Image.{four_bytes, eight_bytes, join_fields, join_bytes}
+use Rattle.model.specs.Image.{eight_bytes, join_fields, join_bytes}
 use Rattle.model.proofs.Status.{IsNode, StatusOk, ok_in_system, ok_copying, ok_waiting, ok_notifying}
 use Rattle.model.proofs.RequestBound.{requests_most, notices_most}
 use Rattle.model.proofs.Sound.{Sound}
 use Rattle.state.specs.Loaded.{book_node}
 use Rattle.state.specs.declared.record.Node.{Node}
 use Rattle.putting.specs.Put.{Put}
-use Rattle.putting.proofs.Putting.{put_then, three_pieces}
+use Rattle.putting.proofs.Putting.{three_pieces}
 use Rattle.image_writing_parts.specs.Joins.{Bytes}
 use Rattle.image_writing_parts.proofs.Unless.{unless_none, unless_room, unless_some}
 
@@ -66,11 +66,8 @@ module _ (s : List ℕ) (x : ℕ) (r : Node) (e : book_node r ≡ node_of s x) w
         unless_some (status_of s x) (join_fields x (node_of s x)) o a p g (λ q. h (sym status ∙ q))
         (subst (λ (r : memory.Node). Put o a (join_fields x r) p g) e P)
 
--- the bytes of a number, and of a join, piece by piece
+-- the bytes of a join, piece by piece
 module _ (o : List ℕ) (a : ℕ) (p : List ℕ) (e : ℕ) (q : List ℕ) (g : ℕ) where
-  pub eight_put : (n : ℕ) → Put o a (four_bytes n) p e → Put p e (four_bytes (n / 4294967296)) q g → Put o a (eight_bytes n) q g
-  eight_put n = put_then o a (four_bytes n) p e (four_bytes (n / 4294967296)) q g
-
   pub fields_put : (x : ℕ) (r : memory.Node) (z : List ℕ) (h : ℕ) → Put o a (x ∷ r.status ∷ r.level ∷ r.target ∷ []) p e
       → Put p e (eight_bytes r.pending) q g → Put q g (eight_bytes r.notified) z h → Put o a (join_fields x r) z h
   unfolding join_fields

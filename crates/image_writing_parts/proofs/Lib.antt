@@ -2,6 +2,5 @@
 pub mod Measuring
 pub mod Unless
 pub mod SlotLaws
-pub mod NodeLaws
 pub mod IdLaws
 pub mod JoinLaws

@@ -1,36 +1,31 @@
 // Both counts of every node.
 ghost use Rattle.std.specs.Prelude.{◌+◌, ◌≤◌, length};
 ghost use Rattle.model.specs.Image.{count_bytes, counts_bytes};
-ghost use Rattle.model.proofs.Sound.{Sound};
 ghost use Rattle.model.proofs.Status.{IsNode};
 ghost use Rattle.putting.specs.Put.{Put};
 
-use state::{record, settings};
+use network::network::Network;
 
 // A node's requests and notices, a byte each.
-fn counts(state: &[u64], tables: &[u8], x: usize, out: &mut [u8], at: usize) -> usize
-    requires sound { Sound state.now tables.now }
-    requires node { IsNode state.now x }
-    requires at_in_bounds { at + 2 ≤ length out.old }
-    ensures { Put out.old at (count_bytes state.now x) out.new result }
+fn counts(network: &Network<'_>, x: usize, out: &mut [u8], at: usize) -> usize
+    requires node { IsNode network.now.state.now x }
+    requires room { at + 2 ≤ length out.old }
+    ensures { Put out.old at (count_bytes network.now.state.now x) out.new result }
 {
-    let r = record::load(state, x);
+    // `as`: the value is proved to fit, and `u8::try_from` would answer an error that cannot come.
+    let r = network.record(x);
     putting::two(out, at, r.requests as u8, r.notices as u8)
 }
 
 // The section: the number of nodes in one byte, then the counts of each.
-pub fn all(state: &[u64], tables: &[u8], out: &mut [u8], at: usize) -> usize
-    requires sound { Sound state.now tables.now }
-    requires state_in_bounds { at + length (counts_bytes state.now) ≤ length out.old }
-    ensures { Put out.old at (counts_bytes state.now) out.new result }
+pub fn all(network: &Network<'_>, out: &mut [u8], at: usize) -> usize
+    requires { at + length (counts_bytes network.now.state.now) ≤ length out.old }
+    ensures { Put out.old at (counts_bytes network.now.state.now) out.new result }
 {
-    let n = settings::load(state).nodes;
-    out[at] = n as u8;
-    let mut end = at + 1;
-    let mut k = 0;
-    while k < n {
-        end = counts(state, tables, k + 1, out, end);
-        k += 1;
+    let n = network.nodes();
+    let mut end = putting::piece(out, at, &[n as u8]);
+    for x in 1..n + 1 {
+        end = counts(network, x, out, end);
     }
     end
 }

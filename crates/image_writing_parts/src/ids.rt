@@ -2,35 +2,38 @@
 ghost use Rattle.std.specs.Prelude.{◌+◌, ◌≤◌, length, [], ◌∷◌};
 ghost use Rattle.model.specs.Memory.{base, digits, depth, node_count};
 ghost use Rattle.model.specs.Image.{id_bytes};
-ghost use Rattle.model.proofs.Sound.{Sound};
 ghost use Rattle.model.specs.Nodes.{join_nodes};
 ghost use Rattle.putting.specs.Put.{Put};
 
-use crate::number;
-use state::{record, settings};
+use network::network::Network;
 
 // The settings after their count, 4: the version, base, digits and depth. Then the number of nodes.
-pub fn header(state: &[u64], tables: &[u8], version: u8, out: &mut [u8]) -> usize
-    requires sound { Sound state.now tables.now }
-    requires in_bounds { 6 ≤ length out.old }
-    ensures { Put out.old 0 (4 ∷ version ∷ base state.now ∷ digits state.now ∷ depth state.now ∷ node_count state.now ∷ []) out.new result }
+pub fn header(network: &Network<'_>, version: u8, out: &mut [u8]) -> usize
+    requires { 6 ≤ length out.old }
+    ensures { Put out.old 0 (4 ∷ version ∷ base network.now.state.now ∷ digits network.now.state.now ∷ depth network.now.state.now ∷ node_count network.now.state.now ∷ []) out.new result }
 {
-    let s = settings::load(state);
-    let at = putting::four(out, 0, 4, version, s.base as u8, s.digits as u8);
-    putting::two(out, at, s.depth as u8, s.nodes as u8)
+    // `as`: the value is proved to fit, and `u8::try_from` would answer an error that cannot come.
+    let s = network.settings();
+    let head = [
+        4,
+        version,
+        s.base as u8,
+        s.digits as u8,
+        s.depth as u8,
+        s.nodes as u8,
+    ];
+    putting::piece(out, 0, &head)
 }
 
-pub fn all(state: &[u64], tables: &[u8], out: &mut [u8], at: usize) -> usize
-    requires sound { Sound state.now tables.now }
-    requires state_in_bounds { at + length (join_nodes state.now (id_bytes state.now)) ≤ length out.old }
-    ensures { Put out.old at (join_nodes state.now (id_bytes state.now)) out.new result }
+// Each id in four bytes, the low byte first.
+pub fn all(network: &Network<'_>, out: &mut [u8], at: usize) -> usize
+    requires { at + length (join_nodes network.now.state.now (id_bytes network.now.state.now)) ≤ length out.old }
+    ensures { Put out.old at (join_nodes network.now.state.now (id_bytes network.now.state.now)) out.new result }
 {
-    let n = settings::load(state).nodes;
     let mut end = at;
-    let mut k = 0;
-    while k < n {
-        end = number::four(record::id(state, k + 1), out, end);
-        k += 1;
+    for x in 1..network.nodes() + 1 {
+        let id = network.id(x).to_le_bytes();
+        end = putting::piece(out, end, &id);
     }
     end
 }

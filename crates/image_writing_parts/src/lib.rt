@@ -4,5 +4,5 @@
 pub mod counts;
 pub mod ids;
 pub mod joins;
-mod number;
 pub mod slots;
+pub mod table;

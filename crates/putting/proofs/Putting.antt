@@ -1,30 +1,17 @@
 -- Laws of putting bytes one piece behind another, and of the loops that put a list of pieces. Assumes nothing.
 use Prim.Native.Nat.{ℕ, ◌+◌, ◌-◌, ◌≤◌, ◌<◌}
 use mathlib.Core.Path.{◌≡◌, refl, sym, ap, ap₂, subst, ◌∙◌}
-use mathlib.Core.List.{List, [], ◌∷◌, ◌++◌, append_assoc}
+use mathlib.Core.List.{List, [], ◌++◌, append_assoc, append-nil}
 use native.Mathlib.Nat.{add-zero, add-sub_cancel_left, le_antisymm}
-use native.Mathlib.Numerals.{towards_suc}
 use native.Mathlib.Omega.{arith}
-use lib.ListN.{length, set, take, drop, length-append, length-drop, take-append-drop}
-use lib.Seq.{sets, sets-eq, length-take-le, take_at, drop_at, take-append-le, take-take, drop-drop}
-use Rattle.model.specs.Loops.{join_below}
+use lib.ListN.{length, take, drop, length-append, length-drop, take-append-drop}
+use lib.Seq.{length-take-le, take_at, drop_at, take-append-le, take-take, drop-drop}
+use Rattle.model.specs.Loops.{join_below, node}
 use Rattle.model.proofs.Loops.{join_step}
 use Rattle.model.proofs.Counting.{join_grows}
 use Rattle.putting.specs.Put.{put, Put}
 
 -- ---- one piece
-
--- a number of stores at rising places
-put_sets : (o : List ℕ) (a : ℕ) (bs : List ℕ) → a + length bs ≤ length o → sets o a bs ≡ put o a bs
-unfolding put
-put_sets o a bs f = sets-eq bs o a f ∙ append_assoc (take a o) bs (drop (a + length bs) o)
-
-pub put_two : (o : List ℕ) (a v w : ℕ) → a + 2 ≤ length o → Put o a (v ∷ w ∷ []) (set (set o a v) (a + 1) w) (a + 2)
-put_two o a v w f = record { fits = f; is = simp towards_suc (put_sets o a (v ∷ w ∷ []) f); ends = refl }
-
-pub put_four : (o : List ℕ) (a v w y z : ℕ) → a + 4 ≤ length o
-    → Put o a (v ∷ w ∷ y ∷ z ∷ []) (set (set (set (set o a v) (a + 1) w) (a + 2) y) (a + 3) z) (a + 4)
-put_four o a v w y z f = record { fits = f; is = simp towards_suc (put_sets o a (v ∷ w ∷ y ∷ z ∷ []) f); ends = refl }
 
 module _ (o : List ℕ) (a : ℕ) (bs : List ℕ) (f : a + length bs ≤ length o) where
   front : length (take a o) ≡ a
@@ -140,3 +127,43 @@ module _ (f : ℕ → List ℕ) (o : List ℕ) (a : ℕ) where
 
   pub pieces_ends : (n i : ℕ) (p : List ℕ) (e : ℕ) → Put o a (join_below i f) p e → i ≤ n → n ≤ i → Put o a (join_below n f) p e
   pieces_ends n i p e P l g = subst (λ (m : ℕ). Put o a (join_below m f) p e) (le_antisymm l g) P
+
+-- ---- loops of pieces of nodes, which are numbered from 1: behind the bytes b stand the pieces f x of the nodes before x
+
+abbrev pub before : ℕ → (ℕ → List ℕ) → List ℕ
+before x f = join_below (x - 1) (node f)
+
+module _ (b : List ℕ) (f : ℕ → List ℕ) (o : List ℕ) (a : ℕ) where
+  pub nodes_start : (c p : List ℕ) (e : ℕ) → Put o a c p e → c ≡ b → Put o a (b ++ before 1 f) p e
+  unfolding join_below
+  nodes_start c p e P q = subst (λ (bs : List ℕ). Put o a bs p e) (q ∙ sym (append-nil b)) P
+
+  pub nodes_room : (x m : ℕ) (p : List ℕ) (e : ℕ) → a + length (b ++ join_below m (node f)) ≤ length o
+      → 1 ≤ x → x < m + 1 → Put o a (b ++ before x f) p e → e + length (f x) ≤ length p
+  nodes_room x m p e h g l P =
+      omega (
+        arith,
+        length-append b (join_below m (node f)),
+        length-append b (before x f),
+        put_same_length o a (b ++ before x f) p e P,
+        P.ends,
+        piece_within (node f) (x - 1) m (omega arith),
+        ap (λ (x : ℕ). length (f x)) (let at : x - 1 + 1 ≡ x = omega arith in at),
+      )
+
+  pub nodes_goes : (x : ℕ) (p : List ℕ) (e : ℕ) (q : List ℕ) (g : ℕ) → 1 ≤ x → Put o a (b ++ before x f) p e
+      → Put p e (f x) q g → Put o a (b ++ before (x + 1) f) q g
+  nodes_goes x p e q g l P Q =
+      let at : x - 1 + 1 ≡ x = omega arith in
+      let next : x - 1 + 1 ≡ x + 1 - 1 = omega arith in
+      let more : before x f ++ f x ≡ before (x + 1) f =
+      ap (λ (y : ℕ). before x f ++ f y) (sym at)
+      ∙ join_step (x - 1) (node f) (before x f) (before x f ++ f (x - 1 + 1)) refl refl
+      ∙ ap (λ (k : ℕ). join_below k (node f)) next in
+      subst (λ (bs : List ℕ). Put o a bs q g) (append_assoc b (before x f) (f x) ∙ ap (λ (l : List ℕ). b ++ l) more)
+      (put_then o a (b ++ before x f) p e (f x) q g P Q)
+
+  pub nodes_end : (x m : ℕ) (p : List ℕ) (e : ℕ) → Put o a (b ++ before x f) p e → x ≤ m + 1 → m + 1 ≤ x
+      → Put o a (b ++ join_below m (node f)) p e
+  nodes_end x m p e P l g =
+      subst (λ (k : ℕ). Put o a (b ++ join_below k (node f)) p e) (let all : x - 1 ≡ m = omega arith in all) P

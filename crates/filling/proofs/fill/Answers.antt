@@ -9,7 +9,7 @@ pub having-sets-requires : goal.having-sets-requires
 having-sets-requires c = search readable
 
 pub loop-k-init : goal.loop-k-init
-loop-k-init c = (omega arith, refl, refl, listed_none _ _ _ _ (omega arith))
+loop-k-init c = (refl, refl, listed_none _ _ _ _ (omega arith))
 
 pub node-end-requires : goal.node-end-requires
 node-end-requires c =
@@ -17,10 +17,10 @@ node-end-requires c =
     let l = c.loop-k in
     let n = c.load-nodes.ensures.nodes in
     let test = c.loop-k-test.true in
-    record { steady = all_steady _ _ _ l.k _ _ _ _ l.invariant.3 n test p.steady; having = c.having-sets.ensures; node = record { low = omega arith; high = omega arith }; fits = all_fits _ _ _ l.k _ _ _ _ l.invariant.3 n test p.tables_in_bounds }
+    record { steady = all_steady _ _ _ l.k _ _ _ _ l.invariant.2 n test p.steady; having = c.having-sets.ensures; node = record { low = omega arith; high = omega arith }; fits = all_fits _ _ _ l.k _ _ _ _ l.invariant.2 n test p.tables_in_bounds }
 
 pub loop-k-preserved : goal.loop-k-preserved
-loop-k-preserved c = (omega arith, omega arith, omega arith, search listed_goes)
+loop-k-preserved c = (omega arith, omega arith, search listed_goes)
 
 pub returns : goal.returns
 returns c = (search all_tables, search all_list, search all_length)

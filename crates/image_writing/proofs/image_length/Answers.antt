@@ -1,5 +1,4 @@
 -- `image_length`: the fixed bytes, the ids, the records and the rest. Assumes nothing.
-use borrow.Author.Rules.{rules}
 use Rattle.image_writing.proofs.ImageLaws.{measured}
 use Rattle.image_writing.proofs.image_length.Goals as goal
 

@@ -1,5 +1,4 @@
 -- `records`: the records, then their count before them. Assumes nothing.
-use borrow.Author.Rules.{rules}
 use Rattle.image_writing.proofs.ImageLaws.{records_put}
 use Rattle.image_writing.proofs.records.Goals as goal
 

@@ -13,7 +13,7 @@ pub overflow_cast-id : goal.overflow_cast-id
 overflow_cast-id c = omega (arith, id_fits _ _ c.requires.steady.sound c.args.x c.requires.node)
 
 pub loop-i-init : goal.loop-i-init
-loop-i-init c = (omega arith, refl, refl, search sharing_start, search listed_none)
+loop-i-init c = (refl, refl, search sharing_start, search listed_none)
 
 pub level-end-requires : goal.level-end-requires
 level-end-requires c =
@@ -22,15 +22,14 @@ level-end-requires c =
 pub returns-then-sharing-alone : goal.returns-then-sharing-alone
 returns-then-sharing-alone c =
     let l = c.loop-i in
-    node_alone _ _ c.requires.node l.i _ (sharing_goes _ _ _ _ _ l.invariant.3 c.requires.having (omega arith) _ _ _ c.id-id.ensures c.digit.ensures.0 c.among-sharing.ensures) (c.if-sharing-alone.true ∙ c.add-alone.ensures) _ c.requires.steady (omega arith) _ _ _ _ _
-    (listed_goes _ _ (fill_level c.args.state.now c.args.x) _ l.i _ _ _ l.invariant.4 _ _ _ c.level-end.ensures)
+    node_alone _ _ c.requires.node l.i _ (sharing_goes _ _ _ _ _ l.invariant.2 c.requires.having (omega arith) _ _ _ c.id-id.ensures c.digit.ensures.0 c.among-sharing.ensures) (c.if-sharing-alone.true ∙ c.add-alone.ensures) _ c.requires.steady (omega arith) _ _ _ _ _
+    (listed_goes _ _ (fill_level c.args.state.now c.args.x) _ l.i _ _ _ l.invariant.3 _ _ _ c.level-end.ensures)
 
 pub loop-i-preserved : goal.loop-i-preserved
 loop-i-preserved c = (
   omega arith,
   omega arith,
-  omega arith,
-  (let l = c.loop-i in sharing_goes _ _ _ _ _ l.invariant.3 c.requires.having (omega arith) _ _ _ c.id-id.ensures c.digit.ensures.0 c.among-sharing.ensures),
+  (let l = c.loop-i in sharing_goes _ _ _ _ _ l.invariant.2 c.requires.having (omega arith) _ _ _ c.id-id.ensures c.digit.ensures.0 c.among-sharing.ensures),
   search listed_goes,
 )
 

@@ -6,7 +6,7 @@ use Rattle.filling.proofs.Shorts.{total_none, total_goes}
 use Rattle.filling.proofs.measure.level.Goals as goal
 
 pub loop-j-init : goal.loop-j-init
-loop-j-init c = (omega arith, omega arith, total_none _)
+loop-j-init c = (omega arith, total_none _)
 
 pub loop-j-preserved : goal.loop-j-preserved
-loop-j-preserved c = (omega arith, omega arith, search (total_goes, lack_is, qualify_of))
+loop-j-preserved c = (omega arith, search (total_goes, lack_is, qualify_of))

@@ -8,10 +8,10 @@ pub having-sets-requires : goal.having-sets-requires
 having-sets-requires c = search readable
 
 pub loop-k-init : goal.loop-k-init
-loop-k-init c = (omega arith, omega arith, total_none _)
+loop-k-init c = (omega arith, total_none _)
 
 pub loop-k-preserved : goal.loop-k-preserved
-loop-k-preserved c = (omega arith, omega arith, search total_goes)
+loop-k-preserved c = (omega arith, search total_goes)
 
 pub returns : goal.returns
 returns c = (search measured, omega arith)

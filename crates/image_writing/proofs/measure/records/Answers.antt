@@ -1,20 +1,16 @@
 -- `measure::records`: each turn adds the length of the next node's records. Assumes nothing.
-use Prim.Native.Nat.{◌≤◌, ◌-◌, ◌*◌}
-use mathlib.Core.Path.{◌≡◌}
-use native.Mathlib.Omega.{arith}
-use lib.ListN.{length}
-use borrow.Author.Rules.{rules}
-use Rattle.model.specs.Loops.{join_below, node}
+use Rattle.std.proofs.Common.{◌∙◌, ap, length, arith}
 use Rattle.model.specs.Image.{node_records}
-use Rattle.image_writing_parts.proofs.Measuring.{total_none}
-use Rattle.image_writing_parts.proofs.SlotLaws.{nodes_total, nodes_length, nodes_whole}
+use Rattle.model.specs.Image.{all_records}
+use Rattle.image_writing_parts.proofs.Measuring.{nodes_total_none, nodes_total_goes, nodes_total_ends}
 use Rattle.image_writing.proofs.measure.records.Goals as goal
 
-pub loop-k-init : goal.loop-k-init
-loop-k-init c = (omega arith, omega arith, total_none _)
+pub loop-x-init : goal.loop-x-init
+loop-x-init c = (omega arith, nodes_total_none (node_records c.args.network.now.state.now c.args.network.now.tables.now))
 
-pub loop-k-preserved : goal.loop-k-preserved
-loop-k-preserved c = (omega arith, omega arith, search (nodes_total, nodes_length))
+pub loop-x-preserved : goal.loop-x-preserved
+loop-x-preserved c = (omega arith, nodes_total_goes (node_records c.args.network.now.state.now c.args.network.now.tables.now) _ _ _ (omega arith) c.loop-x.invariant.1 (c.in_table-total.ensures.0 ∙ ap length c.of.ensures))
 
 pub returns : goal.returns
-returns c = (search nodes_whole, omega arith)
+unfolding all_records
+returns c = (nodes_total_ends (node_records c.args.network.now.state.now c.args.network.now.tables.now) _ _ _ c.loop-x.invariant.1 (omega arith) (omega arith), omega arith)

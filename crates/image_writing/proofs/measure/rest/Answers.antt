@@ -1,6 +1,5 @@
 -- `measure::rest`: none, or 20 bytes a join and 2 a node, with the two counts. Assumes nothing.
 use native.Mathlib.Omega.{arith}
-use borrow.Author.Rules.{rules}
 use Rattle.image_writing.proofs.ImageLaws.{no_rest, rest_measured}
 use Rattle.image_writing.proofs.measure.rest.Goals as goal
 

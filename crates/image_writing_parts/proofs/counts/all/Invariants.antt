@@ -1,17 +1,9 @@
-use Prim.Native.Nat.{◌+◌, ◌≤◌, ◌-◌}
-use mathlib.Core.Path.{◌≡◌}
-use lib.ListN.{length}
-use Rattle.model.specs.Loops.{join_below, node}
-use Rattle.model.specs.Nodes.{join_nodes}
+use Rattle.std.proofs.Common.{◌∷◌}
+use Rattle.model.specs.Memory.{node_count}
 use Rattle.model.specs.Image.{count_bytes}
 use Rattle.putting.specs.Put.{Put}
+use Rattle.putting.proofs.Putting.{before}
 use Rattle.image_writing_parts.proofs.counts.all.Given as goal
 
-abbrev pub invariant-loop-k : goal.invariant-loop-k
-invariant-loop-k l = (l.k ≤ l.n)
-    × (length l.out ≡ length l.initial.out)
-    × (l.initial.end + length (join_nodes l.state (count_bytes l.state)) ≤ length l.initial.out)
-    × Put l.initial.out l.initial.end (join_below l.k (node (count_bytes l.state))) l.out l.end
-
-abbrev pub decreases-loop-k : goal.decreases-loop-k
-decreases-loop-k l = l.n - l.k
+abbrev pub invariant-loop-x : goal.invariant-loop-x
+invariant-loop-x l = Put l.fn.out l.at (node_count l.network.state.now ∷ before l.x (count_bytes l.network.state.now)) l.out l.end

@@ -1,22 +1,23 @@
--- `joins::all`: one byte, and each turn puts the next node's join behind the others. Assumes nothing.
-use mathlib.Core.Path.{refl}
-use native.Mathlib.Omega.{arith}
-use lib.ListN.{length-set}
-use borrow.Author.Rules.{rules}
-use Rattle.model.specs.Image.{join_bytes}
-use Rattle.putting.proofs.Putting.{pieces_none, pieces_goes}
-use Rattle.image_writing_parts.proofs.NodeLaws.{section_put, next_fits}
+-- `joins::all`: their number, and each turn puts the next node's join behind the others. Assumes nothing.
+use Rattle.std.proofs.Common.{ℕ, [], ◌∷◌, ap, arith}
+use Rattle.model.specs.Nodes.{count_nodes}
+use Rattle.model.specs.Image.{under_way, join_bytes}
+use Rattle.putting.proofs.Putting.{nodes_start, nodes_room, nodes_goes, nodes_end}
 use Rattle.image_writing_parts.proofs.joins.all.Goals as goal
 
-pub loop-k-init : goal.loop-k-init
-loop-k-init c = (omega arith, refl, simp length-set (omega arith), pieces_none _ _ _ (simp length-set (omega arith)))
+pub loop-x-init : goal.loop-x-init
+loop-x-init c =
+    nodes_start (count_nodes c.args.network.now.state.now (under_way c.args.network.now.state.now) ∷ []) (join_bytes c.args.network.now.state.now) _ _ _ _ _ c.piece-end.ensures
+    (ap (λ (n : ℕ). n ∷ []) c.requires.count_value)
 
-pub join-end-requires : goal.join-end-requires
-join-end-requires c =
-    record { sound = search rules; node = search rules; x_in_bounds = search (next_fits join_bytes) }
+pub join-end-requires-clause-room : goal.join-end-requires-clause-room
+join-end-requires-clause-room c =
+    nodes_room (count_nodes c.args.network.now.state.now (under_way c.args.network.now.state.now) ∷ []) (join_bytes c.args.network.now.state.now) _ _ _ _ _ _ c.requires.room (omega arith) (omega arith) c.loop-x.invariant
 
-pub loop-k-preserved : goal.loop-k-preserved
-loop-k-preserved c = (omega arith, omega arith, omega arith, search pieces_goes)
+pub loop-x-preserved : goal.loop-x-preserved
+loop-x-preserved c =
+    nodes_goes (count_nodes c.args.network.now.state.now (under_way c.args.network.now.state.now) ∷ []) (join_bytes c.args.network.now.state.now) _ _ _ _ _ _ _ (omega arith) c.loop-x.invariant c.join-end.ensures
 
 pub returns : goal.returns
-returns c = search section_put
+returns c =
+    nodes_end (count_nodes c.args.network.now.state.now (under_way c.args.network.now.state.now) ∷ []) (join_bytes c.args.network.now.state.now) _ _ _ _ _ _ c.loop-x.invariant (omega arith) (omega arith)

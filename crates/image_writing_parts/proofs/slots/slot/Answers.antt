@@ -1,12 +1,19 @@
 -- `slots::slot`: nothing for an empty slot, else four bytes. Assumes nothing.
-use Rattle.image_writing_parts.proofs.SlotLaws.{slot_none, slot_room, slot_some}
+use Rattle.std.proofs.Common.{[], ◌∷◌}
+use Rattle.image_writing_parts.specs.Records.{slot_of}
+use Rattle.image_writing_parts.proofs.Unless.{unless_none, unless_room, unless_some}
 use Rattle.image_writing_parts.proofs.slots.slot.Goals as goal
 
 pub returns-then-u-eq0 : goal.returns-then-u-eq0
-returns-then-u-eq0 c = search slot_none
+unfolding slot_of
+returns-then-u-eq0 c = unless_none _ _ _ _ c.requires.room c.if-u-eq0.true
 
 pub four-requires : goal.four-requires
-four-requires c = search slot_room
+unfolding slot_of
+four-requires c =
+    let a = c.args in
+    unless_room _ (a.x ∷ a.i ∷ a.j ∷ a.u ∷ []) _ _ c.requires.room c.if-u-eq0.false
 
 pub returns : goal.returns
-returns c = search slot_some
+unfolding slot_of
+returns c = unless_some _ _ _ _ _ _ c.if-u-eq0.false c.four.ensures
