@@ -1,15 +1,14 @@
 // The head of an image: the settings after their count, 4, the number of nodes in byte 5, and behind the ids, of four bytes each, the number of
 // records in two bytes, the low one first. Version 2 has two more counts behind the records, a byte each, of the joins under way and of the counts.
 ghost use Rattle.std.specs.Prelude.{◌≡◌, true, not, ◌&&◌, ◌+◌, ◌*◌, ◌≤◌, ◌<◌, leb, length};
-ghost use Rattle.model.specs.Image.{byte_at, four_at, eight_at, has_joins, im_version, im_nodes, im_records, records_end, length_right};
+ghost use Rattle.model.specs.Image.{byte_at, four_at, eight_at, has_joins, im_version, im_nodes, im_records, records_end, im_length, length_right};
 ghost use Rattle.model.specs.Refusals.{no_settings, counts_wrong};
-ghost use Rattle.image_fields.specs.Parts.{CountsRight, Headed};
 
 // No image is longer.
 const LONGEST: usize = 65535;
 
 // The settings and the counts.
-#[derive(Clone, Copy)]
+#[derive(Clone, Copy, Debug, PartialEq, Eq)]
 pub struct Header {
     pub base: usize,
     pub digits: usize,
@@ -31,9 +30,7 @@ pub fn four(image: &[u8], a: usize) -> u32
     requires { a + 4 ≤ length image.now }
     ensures { result ≡ four_at image.now a }
 {
-    let low = byte(image, a) + 256 * byte(image, a + 1);
-    let high = byte(image, a + 2) + 256 * byte(image, a + 3);
-    (low + 65536 * high) as u32
+    u32::from_le_bytes([image[a], image[a + 1], image[a + 2], image[a + 3]])
 }
 
 // The same of eight bytes.
@@ -41,7 +38,16 @@ pub fn eight(image: &[u8], a: usize) -> u64
     requires { a + 8 ≤ length image.now }
     ensures { result ≡ eight_at image.now a }
 {
-    four(image, a) as u64 + 4294967296 * four(image, a + 4) as u64
+    u64::from_le_bytes([
+        image[a],
+        image[a + 1],
+        image[a + 2],
+        image[a + 3],
+        image[a + 4],
+        image[a + 5],
+        image[a + 6],
+        image[a + 7],
+    ])
 }
 
 // The image is of version 2, which has the joins under way and the counts.
@@ -56,14 +62,11 @@ pub fn has_joins(image: &[u8]) -> bool
 pub fn no_settings(image: &[u8]) -> bool
     ensures { result ≡ no_settings image.now }
 {
-    if image.len() < 5 {
-        return true;
-    }
-    image[0] != 4
+    image.len() < 5 || image[0] != 4
 }
 
 // The number of records: the two bytes after the ids.
-fn record_count(image: &[u8], nodes: usize) -> usize
+pub(crate) fn record_count(image: &[u8], nodes: usize) -> usize
     requires nodes_bound { nodes ≤ 64 }
     requires nodes_value { nodes ≡ im_nodes image.now }
     requires nodes_in_bounds { 8 + 4 * nodes ≤ length image.now }
@@ -71,6 +74,14 @@ fn record_count(image: &[u8], nodes: usize) -> usize
 {
     let at = 6 + 4 * nodes;
     byte(image, at) + 256 * byte(image, at + 1)
+}
+
+// The image is not of this length, which its counts give, or longer than any may be.
+fn size_wrong(image: &[u8], size: usize) -> bool
+    requires size_value { size ≡ im_length image.now }
+    ensures { result ≡ not (length_right image.now) }
+{
+    image.len() != size || LONGEST < image.len()
 }
 
 // An image of version 2 whose records end at `end` is not as long as its counts say, or longer than any may be: the number of joins stands behind the
@@ -88,10 +99,7 @@ fn joins_length_wrong(image: &[u8], end: usize) -> bool
     if image.len() <= counts {
         return true;
     }
-    if image.len() != counts + 1 + 2 * byte(image, counts) {
-        return true;
-    }
-    LONGEST < image.len()
+    size_wrong(image, counts + 1 + 2 * byte(image, counts))
 }
 
 // The image is not as long as its counts say, or longer than any may be.
@@ -108,10 +116,7 @@ fn length_wrong(image: &[u8], nodes: usize) -> bool
     if has_joins(image) {
         return joins_length_wrong(image, end);
     }
-    if image.len() != end {
-        return true;
-    }
-    LONGEST < image.len()
+    size_wrong(image, end)
 }
 
 // 6: the number of nodes is missing or not from 1 to 64, or the length is wrong.
@@ -122,37 +127,14 @@ pub fn counts_wrong(image: &[u8]) -> bool
         return true;
     }
     let nodes = byte(image, 5);
-    if nodes == 0 {
-        return true;
-    }
-    if 64 < nodes {
-        return true;
-    }
-    length_wrong(image, nodes)
+    !(1..=64).contains(&nodes) || length_wrong(image, nodes)
 }
 
-// Settings and counts of an image whose counts are right.
-pub fn load(image: &[u8]) -> Header
-    requires { CountsRight image.now }
-    ensures { Headed image.now result }
-{
-    let nodes = byte(image, 5);
-    let records = record_count(image, nodes);
-    Header {
-        base: byte(image, 2),
-        digits: byte(image, 3),
-        depth: byte(image, 4),
-        nodes,
-        records,
+impl Header {
+    // x is the number of a node.
+    pub fn is_node(self, x: usize) -> bool
+        ensures { result ≡ (leb 1 x && leb x self.nodes) }
+    {
+        (1..=self.nodes).contains(&x)
     }
-}
-
-// x is the number of a node.
-pub fn is_node(h: Header, x: usize) -> bool
-    ensures { result ≡ (leb 1 x && leb x h.nodes) }
-{
-    if x < 1 {
-        return false;
-    }
-    x <= h.nodes
 }

@@ -3,4 +3,6 @@
 
 pub mod header;
 pub mod ids;
+pub mod image;
+pub mod opening;
 pub mod record;

@@ -6,15 +6,13 @@ use mathlib.Core.List.{List}
 use lib.Dec.{eqb, leb, ltb}
 use borrow.Author.Tests.{eq-eqb, ne_eqb}
 use Rattle.model.specs.Memory.{in_system}
-use Rattle.model.specs.Loops.{all_below}
-use Rattle.model.specs.Image.{byte_at, im_is_node, im_joins, join_number, join_status, join_listed, joins_listed}
+use Rattle.model.specs.Image.{im_is_node, join_number, join_status, join_listed}
 use Rattle.model.proofs.Bools.{and_leaves, and_goes}
-use Rattle.model.proofs.Early.{true_goes, false_leaves, eq_or_goes, eq_or_leaves}
+use Rattle.model.proofs.Early.{true_goes, false_leaves}
 use Rattle.image_fields.specs.declared.header.Header.{Header}
 use Rattle.image_fields.specs.Parts.{Headed}
 use Rattle.image_joins.specs.declared.joins.Join.{Join}
-use Rattle.image_joins.specs.declared.sections.Sections.{Sections}
-use Rattle.image_joins.specs.Sections.{SectionsOf, JoinOf}
+use Rattle.image_joins.specs.Sections.{JoinOf}
 
 module _ (im : List ℕ) (h : Header) (w : Headed im h) (q : ℕ) (j : Join) (o : JoinOf im q j)
     (a : Bool) (ea : a ≡ (leb 1 j.node && leb j.node h.nodes)) where
@@ -31,20 +29,12 @@ module _ (im : List ℕ) (h : Header) (w : Headed im h) (q : ℕ) (j : Join) (o 
     unfolding join_listed
     past_node s e = and_goes _ _ a s node_is g e
 
-    pub in_system_leaves : j.status ≡ 0 → false ≡ join_listed im q
-    in_system_leaves z = past_node false (false_leaves _ _ (ap not (eq-eqb (join_status im q) 0 (sym o.status ∙ z))))
+    pub in_system_leaves : j.status ≡ 0 → (s : Bool) → s ≡ false → s ≡ join_listed im q
+    in_system_leaves z s e = e ∙ past_node false (false_leaves _ _ (ap not (eq-eqb (join_status im q) 0 (sym o.status ∙ z))))
 
     module _ (nz : j.status ≡ 0 → ⊥) where
       past_status : (s : Bool) → s ≡ (eqb q 0 || ltb (join_number im (q - 1)) (join_number im q)) → s ≡ join_listed im q
       past_status s e = past_node s (true_goes _ _ s (ap not (ne_eqb (join_status im q) 0 (λ z. nz (o.status ∙ z)))) e)
 
-      pub first_listed : q ≡ 0 → true ≡ join_listed im q
-      first_listed z = past_status true (eq_or_leaves q 0 _ z)
-
-      pub later_listed : (q ≡ 0 → ⊥) → (p : Join) → JoinOf im (q - 1) p → ltb p.node j.node ≡ join_listed im q
-      later_listed nq p op = past_status _ (eq_or_goes q 0 _ _ nq (ap₂ ltb op.node o.node))
-
--- the whole list, and then the count of the counts
-pub counts_listed : (im : List ℕ) (h : Header) (t : Sections) (a : Bool) (n : ℕ) → Headed im h → SectionsOf im t
-    → a ≡ all_below (im_joins im) (join_listed im) → not a ≡ false → n ≡ byte_at im t.counts → eqb n h.nodes ≡ joins_listed im
-counts_listed im h t a n w o e g en = and_goes _ _ a _ e g (ap₂ eqb (en ∙ ap (byte_at im) o.counts) w.nodes)
+      pub later_listed : (s : Bool) → s ≡ (eqb q 0 || ltb (join_number im (q - 1)) j.node) → s ≡ join_listed im q
+      later_listed s e = past_status s (e ∙ ap (λ (n : ℕ). eqb q 0 || ltb (join_number im (q - 1)) n) o.node)

@@ -8,47 +8,24 @@ use lib.ListN.{length}
 use Rattle.model.specs.Loops.{each_below}
 use Rattle.model.specs.Memory as memory
 use Rattle.model.specs.Memory.{state_length, node_of, with_node}
-use Rattle.model.specs.Image.{byte_at, has_joins, im_version, im_nodes, records_end, im_joins, joins_listed, joined_node, load_join, load_counts, loaded_joins}
+use Rattle.model.specs.Image.{byte_at, im_nodes, joins_end, im_joins, joins_listed, joined_node, load_join, load_counts, loaded_joins}
 use Rattle.model.proofs.JoinsLoaded.{number_node}
 use Rattle.state.specs.declared.record.Node.{Node}
 use Rattle.state.specs.Loaded.{Placed, book_node}
-use Rattle.image_fields.specs.declared.header.Header.{Header}
-use Rattle.image_fields.specs.Parts.{Headed}
-use Rattle.image_joins.specs.declared.sections.Sections.{Sections}
+use Rattle.image_fields.specs.Parts.{CountsRight}
 use Rattle.image_joins.specs.declared.joins.Join.{Join}
-use Rattle.image_joins.specs.Sections.{SectionsOf, JoinOf, joined_by, counted_by}
-
--- ---- where they stand
-
-module _ (im : List ℕ) (h : Header) (w : Headed im h) (v : has_joins (im_version im) ≡ true) where
-  end : 8 + 4 * h.nodes + 4 * h.records ≡ records_end im
-  end = omega (arith, w.nodes, w.records)
-
-  pub joins_within : 8 + 4 * h.nodes + 4 * h.records < length im
-  joins_within = omega (arith, end, w.counted.rest v)
-
-  pub sections_found : (q : ℕ) → q ≡ byte_at im (8 + 4 * h.nodes + 4 * h.records)
-      → SectionsOf im (record { first = 8 + 4 * h.nodes + 4 * h.records + 1; joins = q; counts = 8 + 4 * h.nodes + 4 * h.records + 1 + 20 * q })
-  sections_found q e =
-      let eq : q ≡ im_joins im = e ∙ ap (byte_at im) end in
-      record {
-        counted = w.counted;
-        whole = w.counted.rest v;
-        first = omega (arith, end);
-        joins = eq;
-        counts = omega (arith, end);
-      }
+use Rattle.image_joins.specs.Sections.{JoinOf, joined_by, counted_by}
 
 -- ---- a join
 
 module _ (im s : List ℕ) (q : ℕ) (j : Join) (o : JoinOf im q j) where
-  pub join_placed : (t : Sections) → SectionsOf im t → state_length ≤ length s → joins_listed im ≡ true → q < im_joins im → Placed s j.node
-  join_placed t w long listed l =
+  pub join_placed : CountsRight im → state_length ≤ length s → joins_listed im ≡ true → q < im_joins im → Placed s j.node
+  join_placed w long listed l =
       let n = number_node im listed q l in
       record {
         long = long;
         first = omega (arith, o.node, n.0);
-        last = omega (arith, o.node, n.1, w.counted.few);
+        last = omega (arith, o.node, n.1, w.few);
       }
 
   joined_is : (r : memory.Node) → joined_by j r ≡ joined_node im q r
@@ -71,16 +48,16 @@ module _ (im s : List ℕ) (q : ℕ) (j : Join) (o : JoinOf im q j) where
 
 -- ---- the counts of a node
 
-pub count_step : (im s s' : List ℕ) (t : Sections) (k a b : ℕ) (r n : Node) → SectionsOf im t → a ≡ byte_at im (t.counts + 1 + 2 * k)
-    → b ≡ byte_at im (t.counts + 1 + 2 * k + 1) → book_node r ≡ node_of s (k + 1) → book_node n ≡ counted_by a b (book_node r)
+pub count_step : (im s s' : List ℕ) (counts k a b : ℕ) (r n : Node) → counts ≡ joins_end im → a ≡ byte_at im (counts + 1 + 2 * k)
+    → b ≡ byte_at im (counts + 1 + 2 * k + 1) → book_node r ≡ node_of s (k + 1) → book_node n ≡ counted_by a b (book_node r)
     → s' ≡ with_node s (k + 1) (book_node n) → s' ≡ load_counts im k s
 unfolding load_counts
-count_step im s s' t k a b r n w ea eb er en e =
+count_step im s s' counts k a b r n w ea eb er en e =
     e
     ∙ ap (with_node s (k + 1))
     (en
     ∙ ap (counted_by a b) er
-    ∙ ap₂ (λ (a b : ℕ). counted_by a b (node_of s (k + 1))) (ea ∙ ap (byte_at im) (omega (arith, w.counts))) (eb ∙ ap (byte_at im) (omega (arith, w.counts))))
+    ∙ ap₂ (λ (a b : ℕ). counted_by a b (node_of s (k + 1))) (ea ∙ ap (byte_at im) (omega (arith, w))) (eb ∙ ap (byte_at im) (omega (arith, w))))
 
 -- ---- the whole
 

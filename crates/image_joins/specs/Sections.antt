@@ -1,18 +1,8 @@
--- What is known of the joins under way and the counts of an image of version 2. im is the image.
-use Rattle.std.specs.Prelude.{ℕ, ◌+◌, ◌*◌, ◌≡◌, List, length}
+-- What is known of the joins under way and of the counts of an image of version 2. im is the image.
+use Rattle.std.specs.Prelude.{ℕ, ◌≡◌, List}
 use Rattle.model.specs.Memory as memory
-use Rattle.model.specs.Image.{records_end, im_joins, joins_end, im_counts, join_number, join_status, join_level, join_target, join_pending, join_notified}
-use Rattle.image_fields.specs.Parts.{CountsRight}
-use Rattle.image_joins.specs.declared.sections.Sections.{Sections}
+use Rattle.model.specs.Image.{join_number, join_status, join_level, join_target, join_pending, join_notified}
 use Rattle.image_joins.specs.declared.joins.Join.{Join}
-
--- where they stand, as the code holds it, and that the image ends with them
-pub record SectionsOf (im : List ℕ) (t : Sections) : Type 0 where
-  pub counted : CountsRight im
-  pub whole : length im ≡ joins_end im + 1 + 2 * im_counts im
-  pub first : t.first ≡ records_end im + 1
-  pub joins : t.joins ≡ im_joins im
-  pub counts : t.counts ≡ joins_end im
 
 -- join q as the code holds it
 pub record JoinOf (im : List ℕ) (q : ℕ) (j : Join) : Type 0 where

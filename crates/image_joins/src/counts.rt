@@ -4,11 +4,10 @@ ghost use Rattle.model.specs.Loops.{each_below};
 ghost use Rattle.model.specs.Memory.{state_length};
 ghost use Rattle.model.specs.Image.{im_nodes, im_counts, load_counts};
 ghost use Rattle.state.specs.Loaded.{book_node};
-ghost use Rattle.image_fields.specs.Parts.{Headed};
-ghost use Rattle.image_joins.specs.Sections.{SectionsOf, counted_by};
+ghost use Rattle.image_joins.specs.Sections.{counted_by};
 
 use crate::sections::Sections;
-use image_fields::header::{Header, byte};
+use image_fields::header::byte;
 use state::record;
 use state::record::Node;
 
@@ -16,40 +15,37 @@ use state::record::Node;
 fn counted(r: Node, requests: u64, notices: u64) -> Node
     ensures { book_node result ≡ counted_by requests notices (book_node r) }
 {
-    let mut n = r;
-    n.requests = requests;
-    n.notices = notices;
-    n
+    Node {
+        requests,
+        notices,
+        ..r
+    }
 }
 
 // The two counts of the node with index k, which counts from 0, into its record.
-fn load_one(state: &mut [u64], image: &[u8], t: Sections, k: usize)
-    requires state_length_in_bounds { state_length ≤ length state.old }
-    requires sections_of { SectionsOf image.now t }
-    requires image_value { im_counts image.now ≡ im_nodes image.now }
-    requires k_bound { k < im_nodes image.now }
-    ensures { state.new ≡ load_counts image.now k state.old }
+fn load_one(state: &mut [u64], sections: &Sections<'_>, k: usize)
+    requires state_long { state_length ≤ length state.old }
+    requires as_many_as_nodes { im_counts sections.now.image.bytes.now ≡ im_nodes sections.now.image.bytes.now }
+    requires k_bound { k < im_nodes sections.now.image.bytes.now }
+    ensures { state.new ≡ load_counts sections.now.image.bytes.now k state.old }
 {
-    let at = t.counts + 1 + 2 * k;
+    let bytes = sections.image.bytes;
+    let at = sections.counts + 1 + 2 * k;
     let r = record::load(state, k + 1);
     record::store(
         state,
         k + 1,
-        counted(r, byte(image, at) as u64, byte(image, at + 1) as u64),
+        counted(r, byte(bytes, at) as u64, byte(bytes, at + 1) as u64),
     );
 }
 
 // Those of every node.
-pub fn load(state: &mut [u64], image: &[u8], h: Header, t: Sections)
-    requires state_length_in_bounds { state_length ≤ length state.old }
-    requires headed { Headed image.now h }
-    requires sections_of { SectionsOf image.now t }
-    requires image_value { im_counts image.now ≡ im_nodes image.now }
-    ensures { state.new ≡ each_below (im_nodes image.now) (load_counts image.now) state.old }
+pub fn load(state: &mut [u64], sections: &Sections<'_>)
+    requires state_long { state_length ≤ length state.old }
+    requires as_many_as_nodes { im_counts sections.now.image.bytes.now ≡ im_nodes sections.now.image.bytes.now }
+    ensures { state.new ≡ each_below (im_nodes sections.now.image.bytes.now) (load_counts sections.now.image.bytes.now) state.old }
 {
-    let mut k = 0;
-    while k < h.nodes {
-        load_one(state, image, t, k);
-        k += 1;
+    for k in 0..sections.image.header.nodes {
+        load_one(state, sections, k);
     }
 }

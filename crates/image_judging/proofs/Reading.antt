@@ -1,11 +1,13 @@
 -- What judging a record and the walk over the records leave, from what their steps say. Assumes nothing.
 use Prim.Native.Nat.{ℕ, ◌+◌, ◌≤◌, ◌<◌}
 use mathlib.Core.Path.{◌≡◌, sym, ap, subst, ◌∙◌}
-use mathlib.Core.Bool.{Bool, true, false, not}
+use mathlib.Core.Bool.{Bool, true, false}
 use mathlib.Core.List.{List}
 use native.Mathlib.Omega.{arith}
-use borrow.Author.Tests.{not-true, not-false, ltb-true}
+use borrow.Author.Tests.{ltb-true}
 use lib.Dec.{eqb}
+use lib.ListN.{replicate}
+use Rattle.std.specs.Prelude.{None, Some}
 use Rattle.model.specs.Loops.{all_below}
 use Rattle.model.specs.Ids.{digit_of}
 use Rattle.model.specs.Image.{im_id, im_records, rec_own, rec_ordered, rec_allowed, rec_owner_first}
@@ -19,8 +21,9 @@ use Rattle.image_judging.specs.Walked.{Walked}
 use Rattle.image_fields.specs.declared.header.Header.{Header}
 use Rattle.image_fields.specs.declared.record.Record.{Record}
 use Rattle.image_judging.specs.declared.cursor.Cursor.{Cursor}
-use Rattle.image_judging.proofs.Faults.{none_fault, fault_here}
+use Rattle.image_judging.proofs.Faults.{none_fault, fault_here, none_some}
 use Rattle.image_judging.proofs.Rules.{key_held, order_held, order_rises, neighbor_held, first_held}
+use Rattle.image_judging.proofs.Marked.{marks_none}
 use Rattle.image_judging.proofs.Runs.{start_follows, enter_enters, enter_next, pass_follows}
 
 -- ---- a record in its order is judged
@@ -61,11 +64,13 @@ module _ (im : List ℕ) (h : Header) (c : Cursor) (e : Record) (w : Headed im h
 abbrev pub Walking : List ℕ → Cursor → List ℕ → Type 0
 Walking im c own = (c.next ≤ im_records im) × (Follows im c × Marks im c.next own)
 
-pub start_held : (im : List ℕ) (c : Cursor) (own : List ℕ) → c ≡ started → Marks im 0 own → Walking im c own
-start_held im c own e m = subst (λ (d : Cursor). Walking im d own) (sym e) (omega arith, (start_follows im, m))
+pub start_held : (im : List ℕ) (c : Cursor) (own : List ℕ) → c ≡ started → own ≡ replicate 512 0 → Walking im c own
+start_held im c own e m =
+    subst (λ (d : Cursor). Walking im d own) (sym e) (omega arith, (start_follows im, subst (Marks im 0) (sym m) (marks_none im)))
 
-pub kept : (h : Header) (c : Cursor) (e : Record) (b : Bool) → b ≡ keeps_order h c e → not b ≡ false → keeps_order h c e ≡ true
-kept h c e b q g = sym q ∙ not-false b g
+-- a record as the code reads it at the cursor
+pub at_cursor : (im : List ℕ) (r n : ℕ) (e : Record) → n ≡ r → RecordOf im r e → RecordOf im n e
+at_cursor im r n e i o = subst (λ (k : ℕ). RecordOf im k e) (sym i) o
 
 -- past one record
 pub step_held : (im : List ℕ) (r : ℕ) (past : Cursor) (own : List ℕ) → r < im_records im → (past.next ≡ r + 1) × Follows im past → Marks im (r + 1) own
@@ -83,18 +88,19 @@ level_low im h c e w q = omega (arith, ltb-true e.level h.digits (and_left _ _ q
 
 -- it ends at a record out of order, or behind the last
 module _ (im : List ℕ) (h : Header) (w : Headed im h) (c : Cursor) (f : Follows im c) (own : List ℕ) where
-  pub ends_early : (e : Record) → RecordOf im c.next e → c.next < h.records → (b : Bool) → b ≡ keeps_order h c e → not b ≡ true
-      → Walked im (record { disordered = c.next + 1; forbidden = c.forbidden; misplaced = c.misplaced }) own
-  ends_early e o l b q g =
+  pub ends_early : (e : Record) (r : ℕ) → c.next ≡ r → RecordOf im r e → r < h.records → (b : Bool) → b ≡ keeps_order h c e → b ≡ false
+      → Walked im (record { disordered = Some (r + 1); forbidden = c.forbidden; misplaced = c.misplaced }) own
+  ends_early e r i o l b q g =
       record {
         disordered =
-            fault_here (im_records im) (rec_ordered im) c.next (omega (arith, w.records)) f.behind.ordered
-            (sym (order_held im w.counted c f h e w o) ∙ sym q ∙ not-true b g);
-        through = λ z. absurd (omega arith);
+            ap (λ (k : ℕ). Some (k + 1)) (sym i)
+            ∙ fault_here (im_records im) (rec_ordered im) c.next (omega (arith, w.records)) f.behind.ordered
+            (sym (order_held im w.counted c f h e w (at_cursor im r c.next e i o)) ∙ sym q ∙ g);
+        through = λ z. absurd (none_some _ (sym z));
       }
 
   pub ends_late : Marks im c.next own → c.next ≤ im_records im → h.records ≤ c.next
-      → Walked im (record { disordered = 0; forbidden = c.forbidden; misplaced = c.misplaced }) own
+      → Walked im (record { disordered = None; forbidden = c.forbidden; misplaced = c.misplaced }) own
   ends_late m l g =
       let n : c.next ≡ im_records im = omega (arith, w.records) in
       record {

@@ -1,8 +1,8 @@
 -- The rules of a record by what the cursor holds, in place of all earlier records. Assumes nothing.
 use Prim.Native.Nat.{ℕ, ◌-◌, ◌≤◌, ◌<◌}
-use mathlib.Core.Path.{◌≡◌, refl, sym, ap, ap₂, subst, ◌∙◌}
+use mathlib.Core.Path.{◌≡◌, sym, ap, ap₂, subst, ◌∙◌}
 use mathlib.Core.Logic.{◌⊎◌, inl, inr}
-use mathlib.Core.Bool.{Bool, true, false, not, ◌&&◌, ◌||◌}
+use mathlib.Core.Bool.{Bool, true, false, not, ◌&&◌, ◌||◌, and_assoc}
 use mathlib.Core.List.{List}
 use native.Mathlib.Decide.{ℕ_discrete}
 use native.Mathlib.Omega.{arith}
@@ -13,8 +13,7 @@ use Rattle.model.specs.Memory.{has_node}
 use Rattle.model.specs.Tables.{qualified}
 use Rattle.model.specs.Image.{im_nodes, im_id, im_records, im_is_node, rec_node, rec_level, rec_digit, rec_neighbor}
 use Rattle.model.specs.Image.{rec_nodes_good, same_entry, rises_from, rec_ordered, same_neighbor, rec_allowed, rec_own, rec_owner_first}
-use Rattle.model.proofs.Bools.{and_left, and_right, and_leaves, and_goes, true_or_false}
-use Rattle.model.proofs.Early.{true_or_leaves, false_or_goes}
+use Rattle.model.proofs.Bools.{and_left, and_right, true_or_false}
 use Rattle.model.proofs.Loops.{all_at, any_at, any_same, any_found, count_same, count_some, count_none, count_le}
 use Rattle.state.specs.Loaded.{Numbered}
 use Rattle.image_fields.specs.Parts.{CountsRight, Headed, ImageNode, RecordOf, key_of}
@@ -131,43 +130,35 @@ module _ (im : List ℕ) (bytes : CountsRight im) (c : Cursor) (w : Enters im c)
 
 -- ---- the ways of the code through these rules
 
+module _ (h : Header) (c : Cursor) (e : Record) (f : Bool) (ef : f ≡ (ltb e.level h.digits && ltb e.digit h.base)) where
+  in_order : (b : Bool) → f ≡ b → (s : Bool) → (b && leb c.key (key_of e)) ≡ s → s ≡ keeps_order h c e
+  unfolding keeps_order
+  in_order b g s q =
+      sym q
+      ∙ ap (λ (b : Bool). b && leb c.key (key_of e)) (sym g ∙ ef)
+      ∙ and_assoc (ltb e.level h.digits) (ltb e.digit h.base) (leb c.key (key_of e))
+
+  pub order_leaves : f ≡ false → f ≡ keeps_order h c e
+  order_leaves g = in_order false g f (sym g)
+
+  pub order_goes : f ≡ true → (k : ℕ) → k ≡ key_of e → leb c.key k ≡ keeps_order h c e
+  order_goes g k ek = in_order true g (leb c.key k) (ap (leb c.key) (sym ek))
+
 module _ (im : List ℕ) (h : Header) (c : Cursor) (e : Record) (w : Headed im h) (n : RecordsNamed im) (v : Enters im c)
-    (l : c.next < im_records im) (o : RecordOf im c.next e) where
-  module _ (x u : ℕ) (ex : x ≡ im_id im e.node) (eu : u ≡ im_id im e.neighbor)
-      (a : Bool) (ea : a ≡ qualified x u e.level e.digit) where
-    quals : a ≡ qualified (im_id im e.node) (im_id im e.neighbor) e.level e.digit
-    quals = ea ∙ ap₂ (λ (y z : ℕ). qualified y z e.level e.digit) ex eu
+    (l : c.next < im_records im) (o : RecordOf im c.next e) (x u : ℕ) (ex : x ≡ im_id im e.node) (eu : u ≡ im_id im e.neighbor)
+    (a : Bool) (ea : a ≡ qualified x u e.level e.digit) where
+  allowed : (b : Bool) → a ≡ b → (s : Bool) → (b && (not (has_node c.named e.neighbor) && ltb c.count h.depth)) ≡ s → s ≡ rec_allowed im c.next
+  allowed b g s q =
+      sym q
+      ∙ ap (λ (b : Bool). b && (not (has_node c.named e.neighbor) && ltb c.count h.depth))
+      (sym g ∙ ea ∙ ap₂ (λ (y z : ℕ). qualified y z e.level e.digit) ex eu)
+      ∙ allowed_held im w.counted c v h e w n l o
 
-    whole : (s : Bool)
-        → s
-        ≡ (qualified (im_id im e.node) (im_id im e.neighbor) e.level e.digit
-        && (not (has_node c.named e.neighbor) && ltb c.count h.depth))
-        → s ≡ rec_allowed im c.next
-    whole s q = q ∙ allowed_held im w.counted c v h e w n l o
+  pub not_qualified : a ≡ false → a ≡ rec_allowed im c.next
+  not_qualified g = allowed false g a (sym g)
 
-    pub not_qualified : not a ≡ true → false ≡ rec_allowed im c.next
-    not_qualified g = whole false (and_leaves _ _ a quals g)
-
-    module _ (g : not a ≡ false) (b : Bool) (eb : b ≡ has_node c.named e.neighbor) where
-      pub named_twice : b ≡ true → false ≡ rec_allowed im c.next
-      named_twice z =
-          whole false
-          (and_goes _ _ a false quals g (ap (λ (t : Bool). not t && ltb c.count h.depth) (sym z ∙ eb)))
-
-      pub room_left : b ≡ false → ltb c.count h.depth ≡ rec_allowed im c.next
-      room_left z =
-          whole _
-          (and_goes _ _ a _ quals g (ap (λ (t : Bool). not t && ltb c.count h.depth) (sym z ∙ eb)))
-
-module _ (c : Cursor) (e : Record) (a : Bool) where
-  pub not_own : not a ≡ true → true ≡ owner_leads c e a
-  not_own g = true_or_leaves (not a) _ g
-
-  pub own_begun : not a ≡ false → (c.count ≡ 0 → ⊥) → true ≡ owner_leads c e a
-  own_begun g z = false_or_goes (not a) _ true g (true_or_leaves _ _ (ap not (ne_eqb c.count 0 z)))
-
-  pub own_begins : not a ≡ false → c.count ≡ 0 → eqb e.neighbor e.node ≡ owner_leads c e a
-  own_begins g z = false_or_goes (not a) _ _ g (false_or_goes _ _ _ (ap not (eq-eqb c.count 0 z)) refl)
+  pub room_left : a ≡ true → (b : Bool) → b ≡ (not (has_node c.named e.neighbor) && ltb c.count h.depth) → b ≡ rec_allowed im c.next
+  room_left g b eb = allowed true g b (sym eb)
 
 -- ---- numbers within their bounds
 

@@ -15,7 +15,6 @@ use Rattle.model.specs.Memory.{has_node, add_node}
 use Rattle.model.specs.Image.{rec_neighbor, rec_ordered, rec_allowed, rec_owner_first}
 use Rattle.model.proofs.Loops.{all_zero_lem, all_step, any_zero, any_step, any_false, count_zero, count_none, count_hit}
 use Rattle.model.proofs.Sets.{has_none, has_added, has_add_other}
-use Rattle.image_judging.specs.Faults.{noted}
 use Rattle.image_judging.specs.Cursors.{rec_key, of_entry, names_in, EntryRead, Follows, Enters, started, moved, entered, passed}
 use Rattle.image_judging.specs.declared.cursor.Cursor.{Cursor}
 use Rattle.image_judging.proofs.Faults.{fault_zero, fault_next}
@@ -135,8 +134,3 @@ enter_stays c k e = rw (eq-eqb c.key k e)
 pub enter_moves : (c : Cursor) (k : ℕ) → (c.key ≡ k → ⊥) → moved c k ≡ entered c k
 unfolding entered
 enter_moves c k e = rw (ne_eqb c.key k e)
-
-pub pass_is : (c : Cursor) (u n f g : ℕ) (a o : Bool) → n ≡ add_node c.named u → f ≡ noted c.forbidden a (c.next + 1)
-    → g ≡ noted c.misplaced o (c.next + 1)
-    → record { next = c.next + 1; key = c.key; count = c.count + 1; named = n; forbidden = f; misplaced = g } ≡ passed c u a o
-pass_is c u n f g a o e ef eg = rw (e, ef, eg)

@@ -1,8 +1,13 @@
 -- The sentences of an image as the code judges them. Assumes nothing.
 use Prim.Native.Nat.{ℕ, ◌<◌}
-use mathlib.Core.Path.{◌≡◌, refl, sym, ap, ◌∙◌}
+use mathlib.Core.Path.{◌≡◌, refl, sym, ap, ap₂, ◌∙◌}
 use mathlib.Core.Bool.{Bool, true, false, cond, not}
 use mathlib.Core.List.{List, []}
+use Rattle.std.specs.Prelude.{None, Some, Result, Ok, Err, IsErr, IsErrAnd}
+use Rattle.answers.specs.Numbers.{number_of}
+use Rattle.answers.specs.Fields.{read_fields}
+use Rattle.answers.specs.declared.error.Refusal.{Refusal}
+use Rattle.answers.specs.declared.error.ImageRefused.{ImageRefused}
 use native.Mathlib.Omega.{arith}
 use lib.Dec.{ltb}
 use lib.ListN.{length, drop}
@@ -14,17 +19,27 @@ use Rattle.model.specs.Refusals.{first_true, no_settings, other_version, counts_
 use Rattle.model.proofs.Bools.{or_none_left}
 use Rattle.model.proofs.Ids.{settings_range}
 use Rattle.model.proofs.Counts.{length_joins, length_least, counts_ok}
-use Rattle.model.proofs.Refusals.{sentence_leaves, sentence_goes, sentence_not_leaves, sentence_not_goes, sentence_none, left_leaves, right_leaves, both_go, numbered, test_of, passed, lacks, lacking, sentences_refused, sentences_later}
+use Rattle.model.proofs.Refusals.{sentence_leaves, sentence_goes, sentence_not_leaves, sentence_not_goes, sentence_none, left_leaves, right_leaves, both_go, numbered, lacks, lacking, sentences_refused, sentences_later}
 use Rattle.model.proofs.Places.{place_none}
-use Rattle.answers.specs.declared.ReadAnswer.{ReadAnswer}
 use Rattle.image_fields.specs.Parts.{CountsRight, Headed}
 use Rattle.image_fields.specs.declared.header.Header.{Header}
-use Rattle.image_judging.specs.Judged.{RecordsNamed, names_refusal, early_refusal, records_refusal, tables_refusal, answer, answer_of}
+use Rattle.image_judging.specs.Judged.{names_refusal, early_refusal, records_refusal, tables_refusal, answer, answer_of}
 use Rattle.image_judging.specs.Marks.{levels_marked}
 use Rattle.image_judging.specs.Walked.{Through, Walked}
 use Rattle.image_judging.specs.declared.walk.Faults.{Faults}
 use Rattle.image_judging.proofs.Faults.{fault_none, fault_some}
 use Rattle.image_judging.proofs.Marked.{own_said}
+
+-- ---- errors
+
+false_true : false ≡ true → ⊥
+false_true e = Prim.cc e
+
+-- a refusal that `?` hands on is about no record
+pub placeless : {A : Type 0} (r : Result A ImageRefused) (e : Refusal) → IsErr r × IsErrAnd r (λ x. (x.refusal ≡ e) × (x.place ≡ 0))
+    → read_fields r ≡ answer (number_of e) 0
+placeless (Ok x) e h = absurd (false_true h.0)
+placeless (Err x) e h = ap₂ answer (ap number_of h.1.0) h.1.1
 
 -- what 5 and 6 leave
 pub counted_of : (im : List ℕ) → ((a : ℕ) → byte_at im a < 256) → settings_in_range (im_base im) (im_digits im) (im_depth im) ≡ true
@@ -100,35 +115,23 @@ early_is im r e nz =
     ap (answer r) (sym none)
     ∙ ap (answer_of im) (sentences_refused (frame_sentences im) (record_sentences im) r e nz)
 
-pub late_is : (im : List ℕ) (r : ℕ) → r ≡ early_refusal im → r ≡ 0 → (a : ReadAnswer) → a ≡ answer_of im (records_refusal im)
+pub late_is : (im : List ℕ) (r : ℕ) → r ≡ early_refusal im → r ≡ 0 → (a : List ℕ) → a ≡ answer_of im (records_refusal im)
     → a ≡ answer_of im (tables_refusal im)
 unfolding early_refusal tables_refusal records_refusal numbered
 late_is im r e z a q =
     q ∙ ap (answer_of im) (sentences_later (frame_sentences im) (record_sentences im) refl r _ e z refl)
 
--- what 3 to 9 leave
-module _ (im : List ℕ) (r : ℕ) (e : r ≡ early_refusal im) (z : r ≡ 0) where
-  pub early_counted : ((a : ℕ) → byte_at im a < 256) → CountsRight im
-  unfolding early_refusal numbered test_of
-  early_counted bytes =
-      let p = passed (frame_sentences im) refl (sym e ∙ z) in
-      counted_of im bytes (not-false _ (p 5)) (p 6)
-
-  pub early_named : RecordsNamed im
-  unfolding early_refusal numbered test_of
-  early_named = record { nodes = not-false _ (passed (frame_sentences im) refl (sym e ∙ z) 9) }
-
 -- the returns of the code, by what the walk found
 module _ (im : List ℕ) (f : Faults) (own : List ℕ) (w : Walked im f own) where
-  pub says_10 : (a : ReadAnswer) → a ≡ answer 10 f.disordered → (f.disordered ≡ 0 → ⊥) → a ≡ answer_of im (records_refusal im)
+  pub says_10 : (place : ℕ) → f.disordered ≡ Some place → (a : List ℕ) → a ≡ answer 10 place → a ≡ answer_of im (records_refusal im)
   unfolding answer_of record_place records_refusal
-  says_10 a i nz =
-      let s = fault_some im (rec_ordered im) f.disordered w.disordered nz in
+  says_10 place some a i =
+      let s = fault_some im (rec_ordered im) f.disordered place w.disordered some in
       i
       ∙ ap (answer 10) s.1
       ∙ ap (answer_of im) (sentence_leaves (not (records_ordered im)) 10 _ true (sym (ap not s.0)) refl)
 
-  module _ (z : f.disordered ≡ 0) where
+  module _ (z : f.disordered ≡ None) where
     T : Through im f own
     T = w.through z
 
@@ -138,15 +141,15 @@ module _ (im : List ℕ) (f : Faults) (own : List ℕ) (w : Walked im f own) whe
         sentence_goes (not (records_ordered im)) 10 _ r false
         (sym (ap not (fault_none (im_records im) (rec_ordered im) f.disordered w.disordered z))) refl q
 
-    pub says_17 : (a : ReadAnswer) → a ≡ answer 17 f.forbidden → (f.forbidden ≡ 0 → ⊥) → a ≡ answer_of im (records_refusal im)
+    pub says_17 : (place : ℕ) → f.forbidden ≡ Some place → (a : List ℕ) → a ≡ answer 17 place → a ≡ answer_of im (records_refusal im)
     unfolding answer_of record_place
-    says_17 a i nz =
-        let s = fault_some im (rec_allowed im) f.forbidden T.forbidden nz in
+    says_17 place some a i =
+        let s = fault_some im (rec_allowed im) f.forbidden place T.forbidden some in
         i
         ∙ ap (answer 17) s.1
         ∙ ap (answer_of im) (past_10 17 (sentence_leaves (not (records_allowed im)) 17 _ true (sym (ap not s.0)) refl))
 
-    module _ (y : f.forbidden ≡ 0) (h : Header) (v : Headed im h) (p : Bool) (q : p ≡ all_below h.nodes (node (levels_marked own h.digits))) where
+    module _ (y : f.forbidden ≡ None) (h : Header) (v : Headed im h) (p : Bool) (q : p ≡ all_below h.nodes (node (levels_marked own h.digits))) where
       ep : p ≡ own_present im
       ep = own_said im own h p v T.marked q
 
@@ -156,7 +159,7 @@ module _ (im : List ℕ) (f : Faults) (own : List ℕ) (w : Walked im f own) whe
           (sentence_goes (not (records_allowed im)) 17 _ r false
           (sym (ap not (fault_none (im_records im) (rec_allowed im) f.forbidden T.forbidden y))) refl q)
 
-      pub says_absent : (a : ReadAnswer) → a ≡ answer 18 0 → not p ≡ true → a ≡ answer_of im (records_refusal im)
+      pub says_absent : (a : List ℕ) → a ≡ answer 18 0 → not p ≡ true → a ≡ answer_of im (records_refusal im)
       unfolding answer_of record_place
       says_absent a i g =
           let absent : own_present im ≡ false = sym ep ∙ not-true p g in
@@ -169,17 +172,17 @@ module _ (im : List ℕ) (f : Faults) (own : List ℕ) (w : Walked im f own) whe
         there : own_present im ≡ true
         there = sym ep ∙ not-false p g
 
-        pub says_misplaced : (a : ReadAnswer) → a ≡ answer 18 f.misplaced → (f.misplaced ≡ 0 → ⊥) → a ≡ answer_of im (records_refusal im)
+        pub says_misplaced : (place : ℕ) → f.misplaced ≡ Some place → (a : List ℕ) → a ≡ answer 18 place → a ≡ answer_of im (records_refusal im)
         unfolding answer_of record_place
-        says_misplaced a i nz =
-            let s = fault_some im (rec_owner_first im) f.misplaced T.misplaced nz in
+        says_misplaced place some a i =
+            let s = fault_some im (rec_owner_first im) f.misplaced place T.misplaced some in
             i
             ∙ ap (answer 18) s.1
             ∙ ap (λ (b : Bool). answer 18 (cond b (first_failing im (rec_owner_first im)) 0)) (sym there)
             ∙ ap (answer_of im)
             (past_17 18 (right_leaves (own_present im) (records_owned im) 18 [] p ep g false (sym s.0) refl))
 
-        pub says_none : (a : ReadAnswer) → a ≡ answer 0 0 → f.misplaced ≡ 0 → a ≡ answer_of im (records_refusal im)
+        pub says_none : (a : List ℕ) → a ≡ answer 0 0 → f.misplaced ≡ None → a ≡ answer_of im (records_refusal im)
         unfolding answer_of record_place
         says_none a i x =
             i

@@ -1,5 +1,5 @@
 -- What the cursor over the records holds. im is the image.
-use Rattle.std.specs.Prelude.{ℕ, ◌+◌, ◌-◌, ◌≤◌, ◌<◌, ◌≡◌, Bool, true, cond, not, ◌&&◌, ◌||◌, List, eqb, leb, ltb}
+use Rattle.std.specs.Prelude.{ℕ, ◌+◌, ◌-◌, ◌≤◌, ◌<◌, ◌≡◌, Bool, true, cond, not, ◌&&◌, ◌||◌, List, None, eqb, leb, ltb}
 use Rattle.model.specs.Loops.{all_below, any_below, count_below}
 use Rattle.model.specs.Memory.{has_node, add_node}
 use Rattle.model.specs.Image.{rec_node, rec_level, rec_digit, rec_neighbor, rec_ordered, rec_allowed, rec_owner_first}
@@ -48,7 +48,7 @@ pub record Enters (im : List ℕ) (c : Cursor) : Type 0 where
 
 -- before the first record
 abbrev pub started : Cursor
-started = record { next = 0; key = 0; count = 0; named = 0; forbidden = 0; misplaced = 0 }
+started = record { next = 0; key = 0; count = 0; named = 0; forbidden = None; misplaced = None }
 
 -- the cursor c at the start of the entry k
 abbrev pub moved : Cursor → ℕ → Cursor

@@ -1,11 +1,13 @@
 -- The first record that fails a test, among those that are read.
-use Rattle.std.specs.Prelude.{ℕ, zero, suc, Bool, cond, eqb}
+use Rattle.std.specs.Prelude.{ℕ, zero, suc, Bool, not, Option, None}
+use Rattle.std.specs.Option.{option_or}
+use Rattle.std.specs.Bool.{then_some}
 
 -- the first place of a fault, where it was `first` before and the record at `place` is good or not
-abbrev pub noted : ℕ → Bool → ℕ → ℕ
-noted first good place = cond (eqb first 0) (cond good 0 place) first
+abbrev pub noted : Option ℕ → Bool → ℕ → Option ℕ
+noted first good place = option_or first (then_some (not good) place)
 
--- the place of the first of n records that fails the test, counted from 1; 0 where there is none
-unfoldable pub fault_below : ℕ → (ℕ → Bool) → ℕ
-fault_below zero test = 0
+-- the place of the first of n records that fails the test, counted from 1
+unfoldable pub fault_below : ℕ → (ℕ → Bool) → Option ℕ
+fault_below zero test = None
 fault_below (suc n) test = noted (fault_below n test) (test n) (suc n)

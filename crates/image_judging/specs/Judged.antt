@@ -1,9 +1,8 @@
 -- What is known of an image after a group of sentences, and the parts of what refuses it. im is the image.
-use Rattle.std.specs.Prelude.{ℕ, ◌≡◌, true, List, ◌++◌, drop}
+use Rattle.std.specs.Prelude.{ℕ, ◌≡◌, true, List, [], ◌∷◌, ◌++◌, drop}
 use Rattle.model.specs.Loops.{all_below}
 use Rattle.model.specs.Image.{im_records, rec_nodes_good}
 use Rattle.model.specs.Refusals.{first_true, frame_sentences, record_sentences, record_place}
-use Rattle.answers.specs.declared.ReadAnswer.{ReadAnswer}
 
 -- after 9: the records' node numbers are nodes'
 pub record RecordsNamed (im : List ℕ) : Type 0 where
@@ -26,9 +25,9 @@ records_refusal im = first_true (record_sentences im)
 unfoldable pub tables_refusal : List ℕ → ℕ
 tables_refusal im = first_true (frame_sentences im ++ record_sentences im)
 
-abbrev pub answer : ℕ → ℕ → ReadAnswer
-answer number place = record { refusal = number; place = place }
+abbrev pub answer : ℕ → ℕ → List ℕ
+answer number place = number ∷ place ∷ []
 
 -- a refusal of the image, and its place
-unfoldable pub answer_of : List ℕ → ℕ → ReadAnswer
+unfoldable pub answer_of : List ℕ → ℕ → List ℕ
 answer_of im number = answer number (record_place im number)

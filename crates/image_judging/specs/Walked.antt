@@ -1,5 +1,5 @@
 -- What the walk over the records of an image finds. im is the image.
-use Rattle.std.specs.Prelude.{ℕ, ◌≡◌, List}
+use Rattle.std.specs.Prelude.{ℕ, ◌≡◌, List, None}
 use Rattle.model.specs.Image.{im_records, rec_ordered, rec_allowed, rec_owner_first}
 use Rattle.image_judging.specs.Faults.{fault_below}
 use Rattle.image_judging.specs.Marks.{Marks}
@@ -13,4 +13,4 @@ pub record Through (im : List ℕ) (f : Faults) (marks : List ℕ) : Type 0 wher
 
 pub record Walked (im : List ℕ) (f : Faults) (marks : List ℕ) : Type 0 where
   pub disordered : f.disordered ≡ fault_below (im_records im) (rec_ordered im)
-  pub through : f.disordered ≡ 0 → Through im f marks
+  pub through : f.disordered ≡ None → Through im f marks

@@ -2,19 +2,22 @@
 // asked of the bytes or of their number; the time is in proportion to the number of records.
 #![tactic(auto)]
 
-ghost use Rattle.std.specs.Prelude.{◌≡◌, ◌<◌, length};
+ghost use Rattle.std.specs.Prelude.{◌≡◌, ◌<◌, length, IfOk};
 ghost use Rattle.model.specs.Image.{is_version, im_version};
 ghost use Rattle.model.specs.Refusals.{other_version};
-ghost use Rattle.image_fields.specs.Parts.{CountsRight};
+ghost use Rattle.answers.specs.Numbers.{answered};
+ghost use Rattle.answers.specs.Fields.{read_fields};
 ghost use Rattle.image_judging.specs.Judged.{names_refusal, early_refusal, tables_refusal, answer_of};
 
-use answers::ReadAnswer;
-use answers::refusal::Refusal;
+use crate::named::NamedImage;
+use answers::error::{ImageRefused, Refusal};
 use ident::settings_in_range;
+use image_fields::header;
 use image_fields::header::byte;
-use image_fields::{header, ids};
+use image_fields::image::Image;
 
 mod cursor;
+mod named;
 mod own;
 mod records;
 mod walk;
@@ -23,10 +26,7 @@ mod walk;
 pub fn is_version(version: u64) -> bool
     ensures { result ≡ is_version version }
 {
-    if version == 1 {
-        return true;
-    }
-    version == 2
+    version == 1 || version == 2
 }
 
 // 4: the image's version is none.
@@ -38,56 +38,51 @@ fn other_version(image: &[u8]) -> bool
 }
 
 // 7 to 9, once the counts are right.
-fn names_refusal(image: &[u8]) -> u64
-    requires { CountsRight image.now }
-    ensures { result ≡ names_refusal image.now }
+fn name_nodes<'a>(image: Image<'a>) -> Result<NamedImage<'a>, Refusal>
+    ensures refusal { answered result ≡ names_refusal image.entry.bytes.now }
+    ensures ok { IfOk result (λ named. named.image.bytes.now ≡ image.entry.bytes.now) }
 {
-    let h = header::load(image);
-    if !ids::valid(image, h) {
-        return Refusal::BAD_ID;
+    if !image.ids_valid() {
+        return Err(Refusal::BadId);
     }
-    if !ids::different(image, h) {
-        return Refusal::ID_TAKEN;
+    if !image.ids_different() {
+        return Err(Refusal::IdTaken);
     }
-    if !records::named(image, h) {
-        return Refusal::NO_SUCH_NODE;
+    if !records::named(&image) {
+        return Err(Refusal::NoSuchNode);
     }
-    0
+    Ok(NamedImage { image })
 }
 
 // 3 to 9.
-fn early_refusal(image: &[u8]) -> u64
-    ensures { result ≡ early_refusal image.now }
+fn open<'a>(image: &'a [u8]) -> Result<NamedImage<'a>, Refusal>
+    ensures refusal { answered result ≡ early_refusal image.now }
+    ensures ok { IfOk result (λ named. named.image.bytes.now ≡ image.now) }
 {
     if header::no_settings(image) {
-        return Refusal::NOT_AN_IMAGE;
+        return Err(Refusal::NotAnImage);
     }
     if other_version(image) {
-        return Refusal::IMAGE_VERSION;
+        return Err(Refusal::ImageVersion);
     }
     if !settings_in_range(
         byte(image, 2) as u64,
         byte(image, 3) as u64,
         byte(image, 4) as u64,
     ) {
-        return Refusal::BAD_SETTING;
+        return Err(Refusal::BadSetting);
     }
     if header::counts_wrong(image) {
-        return Refusal::IMAGE_COUNTS;
+        return Err(Refusal::ImageCounts);
     }
-    names_refusal(image)
+    name_nodes(Image::open(image))
 }
 
-// The number of the first sentence but 24 that refuses the image, 3 to 10, 17 or 18, or 0; and the place of the record that it is about.
-pub fn judge(image: &[u8]) -> ReadAnswer
-    ensures { result ≡ answer_of image.now (tables_refusal image.now) }
+// The first sentence but 24 that refuses the image, 3 to 10, 17 or 18, and the place of the record
+// that it is about.
+pub fn judge(image: &[u8]) -> Result<(), ImageRefused>
+    ensures { read_fields result ≡ answer_of image.now (tables_refusal image.now) }
 {
-    let early = early_refusal(image);
-    if early != 0 {
-        return ReadAnswer {
-            refusal: early,
-            place: 0,
-        };
-    }
-    records::judge(image, header::load(image))
+    let image = open(image)?;
+    records::judge(&image)
 }

@@ -2,58 +2,49 @@
 ghost use Rattle.std.specs.Prelude.{◌≡◌};
 ghost use Rattle.model.specs.Loops.{all_below};
 ghost use Rattle.model.specs.Image.{im_records, rec_nodes_good};
-ghost use Rattle.image_fields.specs.Parts.{Headed};
-ghost use Rattle.image_judging.specs.Judged.{RecordsNamed, records_refusal, answer, answer_of};
+ghost use Rattle.answers.specs.Fields.{read_fields};
+ghost use Rattle.image_judging.specs.Judged.{records_refusal, answer_of};
 
-use crate::{own, walk};
-use answers::ReadAnswer;
-use answers::refusal::Refusal;
-use image_fields::header::Header;
-use image_fields::record;
+use crate::named::NamedImage;
+use crate::own::OwnMarks;
+use crate::walk;
+use answers::error::{ImageRefused, Refusal};
+use image_fields::image::Image;
 
 // Not 9: every record names nodes.
-pub fn named(image: &[u8], h: Header) -> bool
-    requires { Headed image.now h }
-    ensures { result ≡ all_below (im_records image.now) (rec_nodes_good image.now) }
+pub fn named(image: &Image<'_>) -> bool
+    ensures { result ≡ all_below (im_records image.now.bytes.now) (rec_nodes_good image.now.bytes.now) }
 {
-    let mut r = 0;
-    while r < h.records {
-        if !record::nodes_good(image, h, r) {
-            return false;
-        }
-        r += 1;
-    }
-    true
+    (0..image.header.records).all(|r| image.names_nodes(r))
 }
 
-fn answered(refusal: u64, place: usize) -> ReadAnswer
-    ensures { result ≡ answer refusal place }
+// A refusal about the record at this place.
+fn at(refusal: Refusal, place: usize) -> ImageRefused
+    ensures { (result.refusal ≡ refusal) × (result.place ≡ place) }
 {
-    ReadAnswer {
+    ImageRefused {
         refusal,
         place: place as u64,
     }
 }
 
 // 10, 17 and 18, once every record names nodes.
-pub fn judge(image: &[u8], h: Header) -> ReadAnswer
-    requires headed { Headed image.now h }
-    requires records_named { RecordsNamed image.now }
-    ensures { result ≡ answer_of image.now (records_refusal image.now) }
+pub fn judge(named: &NamedImage<'_>) -> Result<(), ImageRefused>
+    ensures { read_fields result ≡ answer_of named.now.image.bytes.now (records_refusal named.now.image.bytes.now) }
 {
-    let mut marks = [0u8; 512];
-    let f = walk::walk(image, h, &mut marks);
-    if f.disordered != 0 {
-        return answered(Refusal::RECORD_ORDER, f.disordered);
+    let mut marks = OwnMarks::none();
+    let f = walk::walk(named, &mut marks);
+    if let Some(place) = f.disordered {
+        return Err(at(Refusal::RecordOrder, place));
     }
-    if f.forbidden != 0 {
-        return answered(Refusal::RECORD_NEIGHBOR, f.forbidden);
+    if let Some(place) = f.forbidden {
+        return Err(at(Refusal::RecordNeighbor, place));
     }
-    if !own::all_marked(&marks, h) {
-        return answered(Refusal::OWN_ENTRY, 0);
+    if !marks.all_marked(named.image.header) {
+        return Err(at(Refusal::OwnEntry, 0));
     }
-    if f.misplaced != 0 {
-        return answered(Refusal::OWN_ENTRY, f.misplaced);
+    if let Some(place) = f.misplaced {
+        return Err(at(Refusal::OwnEntry, place));
     }
-    answered(0, 0)
+    Ok(())
 }

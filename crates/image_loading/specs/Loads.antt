@@ -3,13 +3,11 @@ use Rattle.std.specs.Prelude.{ℕ, ◌≤◌, ◌≡◌, true, List, length}
 use Rattle.model.specs.Memory.{zeroed, state_length, tables_length}
 use Rattle.model.specs.Image.{has_joins, im_version, joins_listed}
 use Rattle.model.proofs.LoadingIsSound.{GoodImage}
-use Rattle.image_fields.specs.Parts.{CountsRight}
 
 -- nothing refuses the image but, of version 2, its state; and the memory is long enough
 pub record Loads (s t im : List ℕ) : Type 0 where
   pub state : state_length ≤ length s
   pub tables : tables_length ≤ length t
-  pub counts : CountsRight im
   pub good : GoodImage im
   pub listed : has_joins (im_version im) ≡ true → joins_listed im ≡ true
 

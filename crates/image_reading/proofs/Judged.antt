@@ -6,7 +6,7 @@ use mathlib.Core.List.{List, ◌++◌}
 use native.Mathlib.Nat.{le_of_eq}
 use lib.ListN.{length, take, drop, replicate}
 use lib.Seq.{length-take-le}
-use borrow.Author.Tests.{le-ltb, not-true, not-false}
+use borrow.Author.Tests.{le-ltb}
 use Rattle.model.specs.Memory.{Memory, state_length, tables_length}
 use Rattle.model.specs.Sound.{sound}
 use Rattle.model.specs.Image.{has_joins, im_version, joins_listed, loaded, held}
@@ -32,7 +32,7 @@ abbrev wrong : Bool → Bool → Bool → Bool
 wrong joins listed right = joins && not (listed && right)
 
 loads : (s t im : List ℕ) → Reads s t im → (has_joins (im_version im) ≡ true → joins_listed im ≡ true) → Loads s t im
-loads s t im R listed = record { state = R.state; tables = R.tables; counts = R.counts; good = R.good; listed = listed }
+loads s t im R listed = record { state = R.state; tables = R.tables; good = R.good; listed = listed }
 
 -- version 1 has no joins; b is what the code found of the version
 module _ (im : List ℕ) (b : Bool) (e : b ≡ has_joins (im_version im)) (g : b ≡ false) where
@@ -41,14 +41,6 @@ module _ (im : List ℕ) (b : Bool) (e : b ≡ has_joins (im_version im)) (g : b
 
   pub plain_loads : (s t : List ℕ) → Reads s t im → Loads s t im
   plain_loads s t R = loads s t im R (λ v. absurd (not_both (has_joins (im_version im)) v (sym e ∙ g)))
-
--- in version 2 the joins are listed as they must be, or not; b is what the code found of them
-module _ (im : List ℕ) (b : Bool) (e : b ≡ joins_listed im) where
-  pub listed_wrong : has_joins (im_version im) ≡ true → not b ≡ true → joins_wrong im ≡ true
-  listed_wrong v g = ap₂ (λ (a b : Bool). wrong a b (sound (held im).state (held im).tables)) v (sym e ∙ not-true b g)
-
-  pub listed_loads : (s t : List ℕ) → Reads s t im → not b ≡ false → Loads s t im
-  listed_loads s t R g = loads s t im R (λ v. sym e ∙ not-false b g)
 
 -- the state in memory w and z of the fixed lengths, where r is what the check said of it
 module _ (s t im : List ℕ) (L : Loads s t im) (v : has_joins (im_version im) ≡ true) (w z : List ℕ)

@@ -1,18 +1,15 @@
 -- `judge`: 3 to 9 without a place, or what the records say. Assumes nothing.
-use native.Mathlib.Omega.{arith}
-use borrow.Author.Rules.{rules}
-use Rattle.image_judging.proofs.Sentences.{early_is, late_is, early_counted, early_named}
+use Rattle.std.proofs.Common.{ap, refl, ◌∙◌}
+use Rattle.answers.proofs.Errors.{numbered_from_one}
+use Rattle.image_judging.specs.Judged.{records_refusal, answer_of}
+use Rattle.image_judging.proofs.Sentences.{placeless, early_is, late_is}
 use Rattle.image_judging.proofs.judge.Goals as goal
 
-pub returns-then-early-ne0 : goal.returns-then-early-ne0
-returns-then-early-ne0 c = search early_is
-
-pub load-requires : goal.load-requires
-load-requires c = early_counted c.args.image.now _ c.early_refusal-early.ensures c.if-early-ne0.false (λ a. omega (arith, c.shared_slice_known-1.given a))
-
-pub judge-requires : goal.judge-requires
-judge-requires c =
-    record { headed = search rules; records_named = early_named c.args.image.now _ c.early_refusal-early.ensures c.if-early-ne0.false }
+pub returns-in_err-image : goal.returns-in_err-image
+returns-in_err-image c =
+    placeless _ _ c.from_residual.ensures ∙ early_is _ _ c.in_err-image.ensures.refusal (numbered_from_one _)
 
 pub returns : goal.returns
-returns c = search late_is
+returns c =
+    late_is _ 0 c.in_ok-image.ensures.refusal refl _
+    (c.judge.ensures ∙ ap (λ im. answer_of im (records_refusal im)) c.in_ok-image.ensures.ok)

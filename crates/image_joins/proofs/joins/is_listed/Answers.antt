@@ -1,15 +1,18 @@
 -- `is_listed`: its tests are those of `join_listed`, in its order. Assumes nothing.
-use Rattle.image_joins.proofs.Judged.{no_node_leaves, in_system_leaves, first_listed, later_listed}
+use Rattle.std.proofs.Common.{ap, not, eq-eqb}
+use Rattle.image_joins.proofs.Judged.{no_node_leaves, in_system_leaves, later_listed}
 use Rattle.image_joins.proofs.joins.is_listed.Goals as goal
 
 pub returns-then-not-is_node : goal.returns-then-not-is_node
-returns-then-not-is_node c = search no_node_leaves
+returns-then-not-is_node c =
+    no_node_leaves _ _ c.args.sections.now.image.headed _ _ c.read-j.ensures _ c.is_node.ensures (ap not c.if-not-is_node.true)
 
-pub returns-then-j-eq-IN_SYSTEM : goal.returns-then-j-eq-IN_SYSTEM
-returns-then-j-eq-IN_SYSTEM c = search in_system_leaves
+pub returns-then-j-ne-IN_SYSTEM : goal.returns-then-j-ne-IN_SYSTEM
+returns-then-j-ne-IN_SYSTEM c =
+    later_listed _ _ c.args.sections.now.image.headed _ _ c.read-j.ensures _ c.is_node.ensures (ap not c.if-not-is_node.false)
+    c.if-j-ne-IN_SYSTEM.true _ c.rises.ensures
 
-pub returns-then-q-eq0 : goal.returns-then-q-eq0
-returns-then-q-eq0 c = search first_listed
-
-pub returns : goal.returns
-returns c = search later_listed
+pub returns-else-j-ne-IN_SYSTEM : goal.returns-else-j-ne-IN_SYSTEM
+returns-else-j-ne-IN_SYSTEM c =
+    in_system_leaves _ _ c.args.sections.now.image.headed _ _ c.read-j.ensures _ c.is_node.ensures (ap not c.if-not-is_node.false)
+    c.if-j-ne-IN_SYSTEM.false _ (ap not (eq-eqb _ _ c.if-j-ne-IN_SYSTEM.false))

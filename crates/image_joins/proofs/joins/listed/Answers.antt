@@ -1,13 +1,9 @@
--- `listed`: the loop's invariant is the book's test of the joins up to `q`. Assumes nothing.
-use borrow.Author.Rules.{rules}
-use Rattle.model.proofs.Nodes.{all_loop_to}
+-- `listed`: each call of the chain is the book's test of a join. Assumes nothing.
+use Rattle.std.proofs.Common.{rules}
+use Rattle.model.specs.Image.{join_listed}
+use Rattle.model.proofs.Ranges.{all_of_range}
 use Rattle.image_joins.proofs.joins.listed.Goals as goal
 
-pub loop-q-init : goal.loop-q-init
-loop-q-init c = search (rules, all_loop_to)
-
-pub returns-then-not-is_listed : goal.returns-then-not-is_listed
-returns-then-not-is_listed c = search (rules, all_loop_to)
-
-pub loop-q-preserved : goal.loop-q-preserved
-loop-q-preserved c = search (rules, all_loop_to)
+pub returns : goal.returns
+returns c =
+    all_of_range _ _ _ _ (join_listed c.args.sections.now.image.bytes.now) _ c.all.ensures.ran c.args.sections.now.found.joins (λ q b k h. search rules)

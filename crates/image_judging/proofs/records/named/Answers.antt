@@ -1,13 +1,9 @@
--- `named`: the loop's invariant is the book's test of the records below `r`. Assumes nothing.
-use borrow.Author.Rules.{rules}
-use Rattle.model.proofs.Nodes.{all_loop_to}
+-- `named`: each call of the chain is the book's test of a record. Assumes nothing.
+use Rattle.std.proofs.Common.{rules}
+use Rattle.model.specs.Image.{rec_nodes_good}
+use Rattle.model.proofs.Ranges.{all_of_range}
 use Rattle.image_judging.proofs.records.named.Goals as goal
 
-pub loop-r-init : goal.loop-r-init
-loop-r-init c = search (rules, all_loop_to)
-
-pub returns-then-not-nodes_good : goal.returns-then-not-nodes_good
-returns-then-not-nodes_good c = search (rules, all_loop_to)
-
-pub loop-r-preserved : goal.loop-r-preserved
-loop-r-preserved c = search (rules, all_loop_to)
+pub returns : goal.returns
+returns c =
+    all_of_range _ _ _ _ (rec_nodes_good c.args.image.now.bytes.now) _ c.all.ensures.ran c.args.image.now.headed.records (λ r b q h. search rules)
