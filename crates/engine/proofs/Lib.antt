@@ -1,2 +1,3 @@
--- The laws by which the public calls meet the book.
+-- The laws by which the calls meet the book's.
 pub mod Laws
+pub mod ReadLaws

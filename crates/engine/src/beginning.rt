@@ -1,25 +1,16 @@
 // Beginning a join.
-ghost use Rattle.std.specs.Prelude.{◌≡◌, [], ◌∷◌};
+ghost use Rattle.std.specs.Prelude.{◌≡◌};
 ghost use Rattle.model.specs.Calls.{begin_call};
 ghost use Rattle.state.specs.Lent.{memory};
+ghost use Rattle.answers.specs.Fields.{number_fields};
 ghost use Rattle.engine.specs.Outcomes.{leaves};
 
-use answers::BeginAnswer;
+use answers::error::Refusal;
 
-// Adds a node that is to join by the gateway. Refusals: 1, 2, 7, 8, 9, 11, 12.
-pub fn begin(state: &mut [u64], tables: &mut [u8], id: u32, gateway: u64) -> BeginAnswer
-    ensures { leaves (memory state.new tables.new) (result.refusal ∷ result.node ∷ []) ≡ begin_call (memory state.old tables.old) id gateway }
+// Adds a node that is to join by the gateway, and answers its number. Refusals: 1, 2, 7, 8, 9, 11, 12.
+pub fn begin(state: &mut [u64], tables: &mut [u8], id: u32, gateway: u64) -> Result<usize, Refusal>
+    ensures { leaves (memory state.new tables.new) (number_fields result) ≡ begin_call (memory state.old tables.old) id gateway }
 {
-    let r = refusals::beginning::refusal(state, tables, id, gateway);
-    if r != 0 {
-        return BeginAnswer {
-            refusal: r,
-            node: 0,
-        };
-    }
-    let x = join::beginning::begin(state, tables, id, gateway as usize);
-    BeginAnswer {
-        refusal: 0,
-        node: x as u64,
-    }
+    let g = refusals::beginning::judge(state, tables, id, gateway)?;
+    Ok(join::beginning::begin(state, tables, id, g))
 }

@@ -1,10 +1,13 @@
 // Founding.
-ghost use Rattle.std.specs.Prelude.{◌≡◌, [], ◌∷◌};
+ghost use Rattle.std.specs.Prelude.{◌≡◌};
 ghost use Rattle.model.specs.Calls.{found_call};
 ghost use Rattle.state.specs.Lent.{memory};
+ghost use Rattle.answers.specs.Fields.{done_fields};
 ghost use Rattle.engine.specs.Outcomes.{leaves};
 
-// Makes node 1 of a new network in the lent memory, whatever it held. Answers the refusal: 1, 5 or 7, or 0.
+use answers::error::Refusal;
+
+// Makes node 1 of a new network in the lent memory, whatever it held. Refusals: 1, 5, 7.
 pub fn found(
     state: &mut [u64],
     tables: &mut [u8],
@@ -12,13 +15,10 @@ pub fn found(
     digits: u64,
     depth: u64,
     id: u32,
-) -> u64
-    ensures { leaves (memory state.new tables.new) (result ∷ []) ≡ found_call (memory state.old tables.old) base digits depth id }
+) -> Result<(), Refusal>
+    ensures { leaves (memory state.new tables.new) (done_fields result) ≡ found_call (memory state.old tables.old) base digits depth id }
 {
-    let r = refusals::founding::refusal(state, tables, base, digits, depth, id);
-    if r != 0 {
-        return r;
-    }
+    refusals::founding::judge(state, tables, base, digits, depth, id)?;
     join::founding::found(
         state,
         tables,
@@ -27,5 +27,5 @@ pub fn found(
         depth as usize,
         id,
     );
-    0
+    Ok(())
 }

@@ -1,4 +1,4 @@
-// The public calls: each judges the sentences that may refuse it, in the paper's order, and then has the work done. None of them asks
+// The public calls: each judges the sentences that may refuse it, in the documents' order, and then has the work done. None of them asks
 // anything of its caller; the contract of each equates the memory and the answer with the book's call.
 #![tactic(auto)]
 

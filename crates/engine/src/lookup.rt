@@ -1,29 +1,23 @@
 // Lookup.
-ghost use Rattle.std.specs.Prelude.{◌≡◌, cond, [], ◌∷◌};
+ghost use Rattle.std.specs.Prelude.{◌≡◌};
 ghost use Rattle.model.specs.Calls.{lookup_call};
 ghost use Rattle.state.specs.Lent.{memory};
+ghost use Rattle.answers.specs.Fields.{lookup_fields};
 ghost use Rattle.engine.specs.Outcomes.{leaves};
 
-use answers::LookupAnswer;
+use answers::error::Refusal;
+use answers::lookup::Lookup;
 
 // Follows the lookup from one node to another around the failed ones. Refusals: 1, 2, 9, 21.
-pub fn lookup(state: &[u64], tables: &[u8], from: u64, to: u64, failed: u64) -> LookupAnswer
-    ensures { leaves (memory state.now tables.now) (result.refusal ∷ cond result.arrived 1 0 ∷ result.hops ∷ result.last ∷ []) ≡ lookup_call (memory state.now tables.now) from to failed }
+pub fn lookup(
+    state: &[u64],
+    tables: &[u8],
+    from: u64,
+    to: u64,
+    failed: u64,
+) -> Result<Lookup, Refusal>
+    ensures { leaves (memory state.now tables.now) (lookup_fields result) ≡ lookup_call (memory state.now tables.now) from to failed }
 {
-    let r = refusals::lookup::refusal(state, tables, from, to, failed);
-    if r != 0 {
-        return LookupAnswer {
-            refusal: r,
-            arrived: false,
-            hops: 0,
-            last: 0,
-        };
-    }
-    let found = routing::lookup(state, tables, from as usize, to as usize, failed);
-    LookupAnswer {
-        refusal: 0,
-        arrived: found.arrived,
-        hops: found.hops as u64,
-        last: found.last as u64,
-    }
+    let (network, u, z) = refusals::lookup::judge(state, tables, from, to, failed)?;
+    Ok(routing::lookup(&network, u, z, failed))
 }

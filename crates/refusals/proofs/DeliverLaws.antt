@@ -1,13 +1,12 @@
--- The tests of 13 and 14, by what the code found. Assumes nothing.
+-- The test of 13, by what the code found. Assumes nothing.
 use Prim.Native.Nat.{ℕ}
 use mathlib.Core.Path.{◌≡◌, sym, ap, ◌∙◌}
-use mathlib.Core.Bool.{Bool, true, false, not, ◌&&◌, ◌||◌}
+use mathlib.Core.Bool.{Bool, true, false, ◌&&◌, ◌||◌}
 use mathlib.Core.List.{List}
 use lib.Dec.{eqb}
-use Rattle.model.specs.Memory.{Node as Record, node_of, status_of, target_of, pending_of, copying, waiting, has_node, is_in_system, is_joining}
+use Rattle.model.specs.Memory.{Node as Record, node_of, target_of, pending_of, copying, waiting, has_node, is_joining}
 use Rattle.model.specs.Join.{outstanding}
-use Rattle.model.specs.Refusals.{wait_held}
-use Rattle.model.proofs.Early.{true_or_leaves, false_or_goes, eq_goes, eq_leaves}
+use Rattle.model.proofs.Early.{true_or_leaves, false_or_goes}
 use Rattle.state.specs.declared.record.Node.{Node}
 use Rattle.state.specs.Loaded.{book_node}
 
@@ -28,11 +27,3 @@ module _ (s : List ℕ) (x y : ℕ) (n : Node) (o : book_node n ≡ node_of s x)
   asks_pending b h q =
       false_or_goes (is_joining s x && eqb (target_of s x) y) (has_node (pending_of s x) y) b (sym asks_is ∙ h)
       (q ∙ ap (λ (n : Record). has_node n.pending y) o)
-
-module _ (s : List ℕ) (x y v : ℕ) (e : v ≡ status_of s x) where
-  pub not_waiting : (v ≡ 2 → ⊥) → false ≡ wait_held s x y
-  not_waiting h = eq_leaves (status_of s x) waiting (not (is_in_system s y)) (λ q. h (e ∙ q))
-
-  pub waits_on : v ≡ 2 → (w : ℕ) → w ≡ status_of s y → not (eqb w 0) ≡ wait_held s x y
-  waits_on q w f =
-      eq_goes (status_of s x) waiting (not (is_in_system s y)) (not (eqb w 0)) (sym e ∙ q) (ap (λ (w : ℕ). not (eqb w 0)) f)

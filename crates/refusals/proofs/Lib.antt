@@ -1,6 +1,6 @@
 -- The laws by which the refusals meet the book.
-pub mod ReadLaws
-pub mod WriteLaws
-pub mod TraceLaws
-pub mod State
+pub mod AnyNode
 pub mod DeliverLaws
+pub mod ReadLaws
+pub mod State
+pub mod TraceLaws

@@ -1,63 +1,42 @@
 // The refusals of beginning a join.
-ghost use Rattle.std.specs.Prelude.{◌≡◌};
-ghost use Rattle.model.specs.Memory.{node_count};
-ghost use Rattle.model.specs.Refusals.{first_true, id_taken, begin_sentences, begin_refusal};
+ghost use Rattle.std.specs.Prelude.{◌≡◌, IfOk};
+ghost use Rattle.model.specs.Refusals.{id_taken, begin_refusal};
 ghost use Rattle.state.specs.Lent.{memory};
-ghost use Rattle.model.proofs.Sound.{Sound};
-ghost use Rattle.refusals.specs.Refused.{NodesPlaced};
+ghost use Rattle.answers.specs.Numbers.{answered};
 
-use crate::sentences;
-use answers::refusal::Refusal;
+use crate::sentences::{judged, node};
+use answers::error::Refusal;
 use ident::valid_id;
+use network::network::Network;
+use state::record;
 use state::status::Status;
-use state::{record, settings};
 
 // 8: some node has this id.
-fn id_taken(state: &[u64], nodes: usize, id: u32) -> bool
-    requires nodes_placed { NodesPlaced state.now }
-    requires nodes_value { nodes ≡ node_count state.now }
-    ensures { result ≡ id_taken state.now id }
+fn id_taken(network: &Network<'_>, id: u32) -> bool
+    ensures { result ≡ id_taken network.now.state.now id }
 {
-    let mut k = 0;
-    while k < nodes {
-        if record::id(state, k + 1) == id as u64 {
-            return true;
-        }
-        k += 1;
-    }
-    false
+    (1..network.nodes() + 1).any(|x| network.id(x) == id)
 }
 
-// 7, 8, 9, 11 and 12, on a sound state.
-fn sentences_on(state: &[u64], tables: &[u8], id: u32, gateway: u64) -> u64
-    requires { Sound state.now tables.now }
-    ensures { result ≡ first_true (begin_sentences state.now id gateway) }
+// Answers the gateway, which is a node.
+pub fn judge(state: &[u64], tables: &[u8], id: u32, gateway: u64) -> Result<usize, Refusal>
+    ensures refusal { answered result ≡ begin_refusal (memory state.now tables.now) id gateway }
+    ensures ok { IfOk result (λ g. g ≡ gateway) }
 {
-    let s = settings::load(state);
+    let network = judged(state, tables)?;
+    let s = network.settings();
     if !valid_id(s.base, s.digits, id) {
-        return Refusal::BAD_ID;
+        return Err(Refusal::BadId);
     }
-    if id_taken(state, s.nodes, id) {
-        return Refusal::ID_TAKEN;
+    if id_taken(&network, id) {
+        return Err(Refusal::IdTaken);
     }
-    if !settings::is_node(state, gateway) {
-        return Refusal::NO_SUCH_NODE;
-    }
+    let g = node(&network, gateway)?;
     if s.nodes == 64 {
-        return Refusal::FULL;
+        return Err(Refusal::Full);
     }
-    if record::status(state, gateway as usize) != Status::IN_SYSTEM {
-        return Refusal::GATEWAY_NOT_IN_SYSTEM;
+    if record::status(network.state, g) != Status::IN_SYSTEM {
+        return Err(Refusal::GatewayNotInSystem);
     }
-    0
-}
-
-pub fn refusal(state: &[u64], tables: &[u8], id: u32, gateway: u64) -> u64
-    ensures { result ≡ begin_refusal (memory state.now tables.now) id gateway }
-{
-    let r = sentences::state_refusal(state, tables);
-    if r != 0 {
-        return r;
-    }
-    sentences_on(state, tables, id, gateway)
+    Ok(g)
 }

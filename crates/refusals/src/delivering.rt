@@ -1,16 +1,18 @@
 // The refusals of delivering.
-ghost use Rattle.std.specs.Prelude.{◌≡◌, ◌&&◌, ◌||◌, eqb, drop};
+ghost use Rattle.std.specs.Prelude.{◌≡◌, ◌&&◌, ◌||◌, eqb, IfOk};
 ghost use Rattle.model.specs.Memory.{copying, waiting};
 ghost use Rattle.model.specs.Join as book;
-ghost use Rattle.model.specs.Refusals.{first_true, wait_held, deliver_sentences, deliver_refusal};
+ghost use Rattle.model.specs.Refusals.{wait_held, deliver_refusal};
+ghost use Rattle.model.proofs.Status.{IsNode};
 ghost use Rattle.state.specs.Lent.{memory};
-ghost use Rattle.state.specs.Loaded.{Placed};
+ghost use Rattle.answers.specs.Numbers.{answered};
 
-use crate::sentences;
-use answers::refusal::Refusal;
+use crate::sentences::{judged, node};
+use answers::error::Refusal;
+use network::network::Network;
 use state::record::Node;
 use state::status::Status;
-use state::{record, sets, settings};
+use state::{record, sets};
 
 // The node copies or waits, and its request goes to y.
 fn asks_target(node: Node, y: usize) -> bool
@@ -19,64 +21,47 @@ fn asks_target(node: Node, y: usize) -> bool
     let status = Status {
         number: node.status,
     };
-    if !status.joining() {
-        return false;
-    }
-    node.target == y as u64
+    status.joining() && node.target == y as u64
 }
 
 // x has a request to y outstanding: y is its target while it copies or waits, or is in its pending set.
-fn outstanding(state: &[u64], x: usize, y: usize) -> bool
-    requires placed { Placed state.now x }
-    requires placed_2 { Placed state.now y }
-    ensures { result ≡ book.outstanding state.now x y }
+fn outstanding(network: &Network<'_>, x: usize, y: usize) -> bool
+    requires sender { IsNode network.now.state.now x }
+    requires receiver { IsNode network.now.state.now y }
+    ensures { result ≡ book.outstanding network.now.state.now x y }
 {
-    let node = record::load(state, x);
-    if asks_target(node, y) {
-        return true;
-    }
-    sets::has(node.pending, y)
+    let node = network.record(x);
+    asks_target(node, y) || sets::has(node.pending, y)
 }
 
 // 14: x waits, and y is not in system.
-fn wait_held(state: &[u64], x: usize, y: usize) -> bool
-    requires placed { Placed state.now x }
-    requires placed_2 { Placed state.now y }
-    ensures { result ≡ wait_held state.now x y }
+fn wait_held(network: &Network<'_>, x: usize, y: usize) -> bool
+    requires sender { IsNode network.now.state.now x }
+    requires receiver { IsNode network.now.state.now y }
+    ensures { result ≡ wait_held network.now.state.now x y }
 {
-    if record::status(state, x) != Status::WAITING {
-        return false;
-    }
-    record::status(state, y) != Status::IN_SYSTEM
+    record::status(network.state, x) == Status::WAITING
+        && record::status(network.state, y) != Status::IN_SYSTEM
 }
 
-// 13, x has no request to y outstanding, and 14.
-fn sentences_on(state: &[u64], x: usize, y: usize) -> u64
-    requires placed { Placed state.now x }
-    requires placed_2 { Placed state.now y }
-    ensures { result ≡ first_true (drop 1 (deliver_sentences state.now x y)) }
+// The sender and the receiver, as nodes.
+pub fn judge(
+    state: &[u64],
+    tables: &[u8],
+    sender: u64,
+    receiver: u64,
+) -> Result<(usize, usize), Refusal>
+    ensures refusal { answered result ≡ deliver_refusal (memory state.now tables.now) sender receiver }
+    ensures ok { IfOk result (λ nodes. (nodes.0 ≡ sender) × (nodes.1 ≡ receiver)) }
 {
-    if !outstanding(state, x, y) {
-        return Refusal::NOT_OUTSTANDING;
+    let network = judged(state, tables)?;
+    let x = node(&network, sender)?;
+    let y = node(&network, receiver)?;
+    if !outstanding(&network, x, y) {
+        return Err(Refusal::NotOutstanding);
     }
-    if wait_held(state, x, y) {
-        return Refusal::HELD;
+    if wait_held(&network, x, y) {
+        return Err(Refusal::Held);
     }
-    0
-}
-
-pub fn refusal(state: &[u64], tables: &[u8], sender: u64, receiver: u64) -> u64
-    ensures { result ≡ deliver_refusal (memory state.now tables.now) sender receiver }
-{
-    let r = sentences::state_refusal(state, tables);
-    if r != 0 {
-        return r;
-    }
-    if !settings::is_node(state, sender) {
-        return Refusal::NO_SUCH_NODE;
-    }
-    if !settings::is_node(state, receiver) {
-        return Refusal::NO_SUCH_NODE;
-    }
-    sentences_on(state, sender as usize, receiver as usize)
+    Ok((x, y))
 }

@@ -2,22 +2,20 @@
 ghost use Rattle.std.specs.Prelude.{◌≡◌};
 ghost use Rattle.model.specs.Refusals.{fill_refusal};
 ghost use Rattle.state.specs.Lent.{memory};
+ghost use Rattle.answers.specs.Numbers.{answered};
 
-use crate::sentences;
-use answers::refusal::Refusal;
+use crate::sentences::{all_in_system, judged};
+use answers::error::Refusal;
 
-pub fn refusal(state: &[u64], tables: &[u8], out: &[u8]) -> u64
-    ensures { result ≡ fill_refusal (memory state.now tables.now) out.now }
+pub fn judge(state: &[u64], tables: &[u8], out: &[u8]) -> Result<(), Refusal>
+    ensures { answered result ≡ fill_refusal (memory state.now tables.now) out.now }
 {
-    let r = sentences::state_refusal(state, tables);
-    if r != 0 {
-        return r;
+    let network = judged(state, tables)?;
+    if !all_in_system(&network) {
+        return Err(Refusal::JoinInFlight);
     }
-    if !sentences::all_in_system(state) {
-        return Refusal::JOIN_IN_FLIGHT;
+    if filling::measure::exceeds(&network, out.len()) {
+        return Err(Refusal::ShortOutput);
     }
-    if filling::measure::exceeds(state, tables, out.len()) {
-        return Refusal::SHORT_OUTPUT;
-    }
-    0
+    Ok(())
 }

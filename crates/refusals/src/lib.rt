@@ -1,4 +1,5 @@
-// What refuses each public call: its sentences, in the paper's order. Every `refusal` answers the number of the first that holds, or 0.
+// What refuses each public call: its sentences, in the documents' order, each a test that is left by `?`. Every `judge` answers what the work of its
+// call needs, or the first refusal that holds.
 #![tactic(auto)]
 
 pub mod beginning;

@@ -1,27 +1,32 @@
 // The refusals of lookup.
-ghost use Rattle.std.specs.Prelude.{◌≡◌};
+ghost use Rattle.std.specs.Prelude.{◌≡◌, IfOk};
 ghost use Rattle.model.specs.Refusals.{lookup_refusal};
+ghost use Rattle.model.proofs.Status.{IsNode};
 ghost use Rattle.state.specs.Lent.{memory};
+ghost use Rattle.answers.specs.Numbers.{answered};
 
-use crate::sentences;
-use answers::refusal::Refusal;
-use state::{sets, settings};
+use crate::sentences::{judged, node};
+use answers::error::Refusal;
+use network::network::Network;
+use state::sets;
 
-pub fn refusal(state: &[u64], tables: &[u8], from: u64, to: u64, failed: u64) -> u64
-    ensures { result ≡ lookup_refusal (memory state.now tables.now) from to failed }
+// The network, and the two ends as its nodes.
+pub fn judge<'a>(
+    state: &'a [u64],
+    tables: &'a [u8],
+    from: u64,
+    to: u64,
+    failed: u64,
+) -> Result<(Network<'a>, usize, usize), Refusal>
+    ensures refusal { answered result ≡ lookup_refusal (memory state.now tables.now) from to failed }
+    ensures ok { IfOk result (λ r. (r.0.state.now ≡ state.now) × (r.0.tables.now ≡ tables.now)) }
+    ensures ends { IfOk result (λ r. ((r.1 ≡ from) × IsNode r.0.state.now r.1) × ((r.2 ≡ to) × IsNode r.0.state.now r.2)) }
 {
-    let r = sentences::state_refusal(state, tables);
-    if r != 0 {
-        return r;
+    let network = judged(state, tables)?;
+    let u = node(&network, from)?;
+    let z = node(&network, to)?;
+    if sets::has_either(failed, u, z) {
+        return Err(Refusal::HasFailed);
     }
-    if !settings::is_node(state, from) {
-        return Refusal::NO_SUCH_NODE;
-    }
-    if !settings::is_node(state, to) {
-        return Refusal::NO_SUCH_NODE;
-    }
-    if sets::has_either(failed, from as usize, to as usize) {
-        return Refusal::HAS_FAILED;
-    }
-    0
+    Ok((network, u, z))
 }

@@ -1,20 +1,20 @@
 // The refusals of the verdict.
-ghost use Rattle.std.specs.Prelude.{◌≡◌};
+ghost use Rattle.std.specs.Prelude.{◌≡◌, IfOk};
 ghost use Rattle.model.specs.Refusals.{verdict_refusal};
 ghost use Rattle.state.specs.Lent.{memory};
+ghost use Rattle.answers.specs.Numbers.{answered};
 
-use crate::sentences;
-use answers::refusal::Refusal;
+use crate::sentences::{all_in_system, judged};
+use answers::error::Refusal;
+use network::network::Network;
 
-pub fn refusal(state: &[u64], tables: &[u8]) -> u64
-    ensures { result ≡ verdict_refusal (memory state.now tables.now) }
+pub fn judge<'a>(state: &'a [u64], tables: &'a [u8]) -> Result<Network<'a>, Refusal>
+    ensures refusal { answered result ≡ verdict_refusal (memory state.now tables.now) }
+    ensures ok { IfOk result (λ n. (n.state.now ≡ state.now) × (n.tables.now ≡ tables.now)) }
 {
-    let r = sentences::state_refusal(state, tables);
-    if r != 0 {
-        return r;
+    let network = judged(state, tables)?;
+    if !all_in_system(&network) {
+        return Err(Refusal::JoinInFlight);
     }
-    if !sentences::all_in_system(state) {
-        return Refusal::JOIN_IN_FLIGHT;
-    }
-    0
+    Ok(network)
 }

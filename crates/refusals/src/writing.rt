@@ -1,39 +1,39 @@
 // The refusals of writing an image.
-ghost use Rattle.std.specs.Prelude.{◌≡◌, not, ◌&&◌};
+ghost use Rattle.std.specs.Prelude.{◌≡◌, not, ◌&&◌, IfOk};
 ghost use Rattle.model.specs.Image.{has_joins};
 ghost use Rattle.model.specs.Refusals.{some_not_in_system, write_refusal};
 ghost use Rattle.state.specs.Lent.{memory};
-ghost use Rattle.refusals.specs.Refused.{NodesPlaced};
+ghost use Rattle.answers.specs.Numbers.{answered};
 
-use crate::sentences;
-use answers::refusal::Refusal;
+use crate::sentences::{all_in_system, judged};
+use answers::error::Refusal;
+use network::network::Network;
 
 // Not 15: version 2 holds joins under way, and for version 1 every node is in system.
-fn can_hold(state: &[u64], version: u64) -> bool
-    requires { NodesPlaced state.now }
-    ensures { not result ≡ (not (has_joins version) && some_not_in_system state.now) }
+fn can_hold(network: &Network<'_>, version: u64) -> bool
+    ensures { not result ≡ (not (has_joins version) && some_not_in_system network.now.state.now) }
 {
-    if image_writing::has_joins(version) {
-        return true;
-    }
-    sentences::all_in_system(state)
+    image_writing::has_joins(version) || all_in_system(network)
 }
 
-pub fn refusal(state: &[u64], tables: &[u8], version: u64, out: &[u8]) -> u64
-    ensures { result ≡ write_refusal (memory state.now tables.now) version out.now }
+pub fn judge<'a>(
+    state: &'a [u64],
+    tables: &'a [u8],
+    version: u64,
+    out: &[u8],
+) -> Result<Network<'a>, Refusal>
+    ensures refusal { answered result ≡ write_refusal (memory state.now tables.now) version out.now }
+    ensures ok { IfOk result (λ n. (n.state.now ≡ state.now) × (n.tables.now ≡ tables.now)) }
 {
-    let r = sentences::state_refusal(state, tables);
-    if r != 0 {
-        return r;
-    }
+    let network = judged(state, tables)?;
     if !image_judging::is_version(version) {
-        return Refusal::IMAGE_VERSION;
+        return Err(Refusal::ImageVersion);
     }
-    if !can_hold(state, version) {
-        return Refusal::JOIN_IN_FLIGHT;
+    if !can_hold(&network, version) {
+        return Err(Refusal::JoinInFlight);
     }
-    if out.len() < image_writing::image_length(state, tables, version) {
-        return Refusal::SHORT_OUTPUT;
+    if out.len() < image_writing::image_length(&network, version) {
+        return Err(Refusal::ShortOutput);
     }
-    0
+    Ok(network)
 }

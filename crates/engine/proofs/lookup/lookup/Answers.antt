@@ -1,20 +1,13 @@
 -- `lookup`: refused, or the lookup of the sound state. Assumes nothing.
-use mathlib.Core.Path.{refl}
-use Rattle.routing.specs.Answer.{book_lookup}
-use Rattle.model.specs.Calls.{unless_refused, lookup_call}
-use Rattle.model.proofs.Calls.{refused_end, taken_end, work_left}
-use Rattle.engine.proofs.Laws.{looks, lookup_fields_lem}
+use Rattle.model.specs.Calls.{lookup_call}
+use Rattle.engine.proofs.Laws.{refused_by, looked_up}
 use Rattle.engine.proofs.lookup.lookup.Goals as goal
 
-pub returns-then-r-ne0 : goal.returns-then-r-ne0
-unfolding lookup_call unless_refused
-returns-then-r-ne0 c = search refused_end
-
-pub lookup-found-requires : goal.lookup-found-requires
-lookup-found-requires c =
-    let r = looks _ _ _ _ _ c.refusal-r.ensures c.if-r-ne0.false in
-    record { sound = r.0; node = r.1.0; node_2 = r.1.1 }
+pub returns-in_err-network : goal.returns-in_err-network
+unfolding lookup_call
+returns-in_err-network c = refused_by _ _ c.from_residual.ensures _ _ 3 _ _ c.in_err-network.ensures.refusal _
 
 pub returns : goal.returns
-unfolding lookup_call
-returns c = taken_end _ _ _ _ _ c.refusal-r.ensures c.if-r-ne0.false (work_left _ _ _ _ _ _ refl refl (lookup_fields_lem (book_lookup c.lookup-found.result) _ c.lookup-found.ensures))
+returns c =
+    let j = c.in_ok-network.ensures in
+    looked_up _ _ _ _ j.ok _ _ _ _ _ _ j.refusal j.ends.0.0 j.ends.1.0 c.lookup.ensures

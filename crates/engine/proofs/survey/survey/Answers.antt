@@ -1,19 +1,11 @@
 -- `survey`: refused, or the counts of the sound state. Assumes nothing.
-use mathlib.Core.Path.{refl}
-use Rattle.model.specs.Calls.{unless_refused, survey_call}
-use Rattle.model.proofs.Calls.{refused_end, taken_end, work_left}
-use Rattle.engine.proofs.Laws.{surveys}
+use Rattle.model.specs.Calls.{survey_call}
+use Rattle.engine.proofs.Laws.{refused_by, counted}
 use Rattle.engine.proofs.survey.survey.Goals as goal
 
-pub returns-then-r-ne0 : goal.returns-then-r-ne0
-unfolding survey_call unless_refused
-returns-then-r-ne0 c = search refused_end
-
-pub survey-requires : goal.survey-requires
-survey-requires c = surveys _ _ c.state_refusal-r.ensures c.if-r-ne0.false
+pub returns-in_err-network : goal.returns-in_err-network
+unfolding survey_call
+returns-in_err-network c = refused_by _ _ c.from_residual.ensures _ _ 9 _ _ c.in_err-network.ensures.refusal _
 
 pub returns : goal.returns
-unfolding survey_call
-returns c =
-    taken_end _ _ _ _ _ c.state_refusal-r.ensures c.if-r-ne0.false
-    (work_left _ _ _ _ _ _ refl refl c.survey.ensures)
+returns c = counted _ _ _ _ c.in_ok-network.ensures.ok _ _ c.in_ok-network.ensures.refusal c.survey.ensures

@@ -3,4 +3,4 @@ use Rattle.engine.proofs.Laws.{trace_done}
 use Rattle.engine.proofs.tracing.trace.Goals as goal
 
 pub returns : goal.returns
-returns c = search trace_done
+returns c = trace_done _ _ _ _ c.judge.ensures

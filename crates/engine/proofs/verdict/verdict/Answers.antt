@@ -1,18 +1,11 @@
 -- `verdict`: refused, or the verdict of the sound state. Assumes nothing.
-use Rattle.consistency.specs.Answer.{book_verdict}
-use Rattle.model.specs.Calls.{unless_refused, verdict_call}
-use Rattle.model.proofs.Calls.{refused_end, taken_end, work_left}
-use Rattle.engine.proofs.Laws.{judges, verdict_fields_lem}
-use mathlib.Core.Path.{refl}
+use Rattle.model.specs.Calls.{verdict_call}
+use Rattle.engine.proofs.Laws.{refused_by, judged_short}
 use Rattle.engine.proofs.verdict.verdict.Goals as goal
 
-pub returns-then-r-ne0 : goal.returns-then-r-ne0
-unfolding verdict_call unless_refused
-returns-then-r-ne0 c = search refused_end
-
-pub verdict-found-requires : goal.verdict-found-requires
-verdict-found-requires c = judges _ _ c.refusal-r.ensures c.if-r-ne0.false
+pub returns-in_err-network : goal.returns-in_err-network
+unfolding verdict_call
+returns-in_err-network c = refused_by _ _ c.from_residual.ensures _ _ 4 _ _ c.in_err-network.ensures.refusal _
 
 pub returns : goal.returns
-unfolding verdict_call
-returns c = taken_end _ _ _ _ _ c.refusal-r.ensures c.if-r-ne0.false (work_left _ _ _ _ _ _ refl refl (verdict_fields_lem (book_verdict c.verdict-found.result) _ c.verdict-found.ensures))
+returns c = judged_short _ _ _ _ c.in_ok-network.ensures.ok _ c.in_ok-network.ensures.refusal c.verdict.ensures

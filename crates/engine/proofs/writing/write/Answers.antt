@@ -1,18 +1,16 @@
--- `writing::write`: refused, or the image is written. Assumes nothing.
-use Rattle.model.specs.Calls.{unless_refused, write_call}
-use Rattle.model.proofs.Calls.{refused_end, taken_end, work_left}
-use Rattle.engine.proofs.Laws.{writes_image, one_field}
+-- `write`: refused, or the image at the start of the output. Assumes nothing.
+use Rattle.model.specs.Calls.{write_call}
+use Rattle.engine.proofs.Laws.{refused_by, writes_image, written}
 use Rattle.engine.proofs.writing.write.Goals as goal
 
-pub returns-then-r-ne0 : goal.returns-then-r-ne0
-unfolding write_call unless_refused
-returns-then-r-ne0 c = search refused_end
+pub returns-in_err-network : goal.returns-in_err-network
+unfolding write_call
+returns-in_err-network c = refused_by _ _ c.from_residual.ensures _ _ 1 _ _ c.in_err-network.ensures.refusal _
 
-pub write-length-requires : goal.write-length-requires
-write-length-requires c =
-    let w = writes_image _ _ _ _ c.refusal-r.ensures c.if-r-ne0.false in
-    record { sound = w.0; version_bound = w.1; tables_in_bounds = w.2 }
+pub write-requires : goal.write-requires
+write-requires c =
+    let w = writes_image _ _ _ _ c.in_ok-network.ensures.ok _ _ c.in_ok-network.ensures.refusal in
+    record { version_bound = w.0; room = w.1 }
 
 pub returns : goal.returns
-unfolding write_call
-returns c = search (taken_end, work_left, one_field)
+returns c = written _ _ _ _ c.in_ok-network.ensures.ok _ _ _ _ c.in_ok-network.ensures.refusal c.write.ensures

@@ -1,7 +1,7 @@
--- `refusal`: each return is a sentence of the chain. Assumes nothing.
+-- `judge`: each return is a sentence of the chain. Assumes nothing.
 use Rattle.model.specs.Refusals.{found_refusal}
 use Rattle.model.proofs.Refusals.{sentences}
-use Rattle.refusals.proofs.founding.refusal.Goals as goal
+use Rattle.refusals.proofs.founding.judge.Goals as goal
 
 pub returns-then-short : goal.returns-then-short
 unfolding found_refusal
