@@ -1,24 +1,29 @@
 -- The fields of a packed answer are below 256, so none reaches into another, and shift and mask give each back. Assumes nothing.
-use Prim.Native.Nat.{ℕ, zero, suc, ◌+◌, ◌*◌, ◌/◌, ◌%◌, ◌^◌, ◌<◌}
-use mathlib.Core.Path.{◌≡◌, sym, ap, subst, ◌∙◌}
-use mathlib.Core.Bool.{Bool, cond}
+use Prim.Native.Nat.{ℕ, zero, suc, ◌+◌, ◌*◌, ◌/◌, ◌%◌, ◌^◌, ◌<◌, ◌≤◌}
+use mathlib.Core.Path.{◌≡◌, refl, sym, ap, subst, ◌∙◌}
 use mathlib.Core.List.{List, [], ◌∷◌}
 use native.Mathlib.Omega.{arith}
 use native.Mathlib.Nat.{pow-succ', div-div-eq-div-mul, zero-div}
-use lib.ListN.{get_or}
+use lib.ListN.{get_or, length}
+use Rattle.std.specs.Prelude.{Option, None, Some, Result, Ok, Err, replicate}
 use Rattle.model.specs.Memory.{Memory}
-use Rattle.model.specs.Traces.{path_count}
-use Rattle.model.specs.Calls.{Outcome, begin_call, deliver_call, lookup_call, verdict_call, trace_call}
-use Rattle.answers.specs.declared.DeliverAnswer.{DeliverAnswer}
-use Rattle.delivery_parts.specs.Answers.{outcome, answer_fields}
-use Rattle.state.specs.Lent.{memory}
-use Rattle.engine.specs.Outcomes.{leaves}
-use Rattle.packing.specs.declared.delivered.Numbers.{Numbers}
-use Rattle.packing.specs.Numbers.{listed}
-use Rattle.packing.specs.Packed.{packed, Fit}
-use Rattle.overlay.specs.Packed.{packing, gives}
+use Rattle.model.specs.Calls.{Outcome}
+use Rattle.answers.specs.Numbers.{number_of}
+use Rattle.answers.specs.Fields.{fields_of, done_fields, kind_fields, taken_fields, short_fields, trace_fields}
+use Rattle.answers.specs.declared.error.Refusal.{Refusal}
+use Rattle.answers.specs.declared.error.TraceRefused.{TraceRefused}
+use Rattle.answers.specs.declared.delivery.Kind.{Kind}
+use Rattle.answers.specs.declared.delivery.Kind.TheVariants.{Copied, SentOn, Attached, Notified}
+use Rattle.answers.specs.declared.delivery.Delivery.{Delivery}
+use Rattle.answers.specs.declared.verdict.ShortEntry.{ShortEntry}
+use Rattle.engine.specs.Outcomes.{writes}
+use Rattle.packing.specs.declared.numbers.Numbers.{Numbers}
+use Rattle.packing.specs.Listed.{listed}
+use Rattle.packing.specs.Numbers.{first_five}
+use Rattle.packing.specs.Packed.{packed, Fits}
+use Rattle.overlay.specs.Packed.{packing, outputs}
 use Rattle.model.proofs.BytesFrom.{low_byte}
-use Rattle.model.proofs.Fields.{Below, Bytes, below_at, begin_bytes, deliver_bytes, lookup_bytes, verdict_bytes, trace_bytes}
+use Rattle.model.proofs.Fields.{Below, Bytes, below_at}
 
 -- ---- shift and mask give a field back
 
@@ -36,72 +41,85 @@ unpacked [] k h = ap (λ (n : ℕ). n % 256) (zero-div (256 ^ k))
 unpacked (field ∷ fields) zero h = ap (λ (n : ℕ). n % 256) (omega arith) ∙ low_byte field (packed fields) h.0
 unpacked (field ∷ fields) (suc k) h = ap (λ (n : ℕ). n % 256) (later_fields field (packed fields) k h.0) ∙ unpacked fields k h.1
 
--- ---- what the calls pack
+-- ---- an answer in five numbers
+
+-- zeros behind the last field add nothing
+pub packed_five : (fields : List ℕ) → length fields ≤ 5 → packed (first_five fields) ≡ packed fields
+unfolding packed
+packed_five [] h = refl
+packed_five (a ∷ []) h = omega arith
+packed_five (a ∷ b ∷ []) h = omega arith
+packed_five (a ∷ b ∷ c ∷ []) h = omega arith
+packed_five (a ∷ b ∷ c ∷ d ∷ []) h = omega arith
+packed_five (a ∷ b ∷ c ∷ d ∷ e ∷ []) h = omega arith
+packed_five (a ∷ b ∷ c ∷ d ∷ e ∷ x ∷ xs) h = absurd (omega arith)
+
+five_fit : (a b c d e : ℕ) → a < 256 → b < 256 → c < 256 → d < 256 → e < 256 → Fits (a ∷ b ∷ c ∷ d ∷ e ∷ [])
+unfolding packed
+five_fit a b c d e p q r s t = omega (arith, p, q, r, s, t)
 
 -- a call whose outcome is o, with at most five fields
-module _ (o : Outcome) (bytes : Bytes o.answer) (m : Memory) (fields : List ℕ) (e : leaves m fields ≡ o) where
-  abbrev at : ℕ → ℕ
-  at k = get_or fields k 0
-
-  fits : Fit (at 0) (at 1) (at 2) (at 3) (at 4)
-  fits =
-      let b : Bytes fields = subst (λ (o : Outcome). Bytes o.answer) (sym e) bytes in
-      let f : (k : ℕ) → at k < 256 = λ k. below_at 256 fields (omega arith) b k in
-      record { refusal = f 0; first = f 1; second = f 2; third = f 3; fourth = f 4 }
-
-  packs : (n : ℕ) → n ≡ packed fields → gives m n ≡ packing o
+module _ (o : Outcome) (m : Memory) (out fields : List ℕ) (few : length fields ≤ 5) (e : writes m out fields ≡ o) (n : Numbers) (q : listed n ≡ first_five fields) where
+  pub packs : (p : ℕ) → p ≡ packed (first_five (listed n)) → outputs m out p ≡ packing o
   unfolding packing
-  packs n f = ap (λ (n : ℕ). gives m n) f ∙ ap packing e
+  packs p f =
+      ap (λ (p : ℕ). outputs m out p) (f ∙ ap (λ (l : List ℕ). packed (first_five l)) q ∙ packed_five fields few) ∙ ap packing e
 
-module _ (m m₁ : Memory) (id g r x : ℕ) (e : leaves m₁ (r ∷ x ∷ []) ≡ begin_call m id g) where
-  pub begin_fits : Fit r x 0 0 0
-  begin_fits = fits (begin_call m id g) (begin_bytes m id g) m₁ (r ∷ x ∷ []) e
+  pub bytes_fit : Bytes o.answer → Fits (first_five (listed n))
+  bytes_fit bytes =
+      let b : Bytes fields = subst (λ (o : Outcome). Bytes o.answer) (sym e) bytes in
+      let f : (k : ℕ) → get_or fields k 0 < 256 = λ k. below_at 256 fields (omega arith) b k in
+      subst (λ (l : List ℕ). Fits (first_five l)) (sym q) (five_fit _ _ _ _ _ (f 0) (f 1) (f 2) (f 3) (f 4))
 
-  pub begin_packs : (n : ℕ) → n ≡ packed (r ∷ x ∷ 0 ∷ 0 ∷ 0 ∷ []) → gives m₁ n ≡ packing (begin_call m id g)
-  unfolding packed
-  begin_packs n f = packs (begin_call m id g) (begin_bytes m id g) m₁ (r ∷ x ∷ []) e n f
+-- ---- the fields of a result
 
-module _ (m : Memory) (s₁ t₁ : List ℕ) (x y : ℕ) (a : DeliverAnswer) (n : Numbers) (e : outcome s₁ t₁ a ≡ deliver_call m x y) (f : listed n ≡ answer_fields a) where
-  delivered_is : leaves (memory s₁ t₁) (listed n) ≡ deliver_call m x y
-  delivered_is = ap (leaves (memory s₁ t₁)) f ∙ e
+abbrev zeros : ℕ → List ℕ
+zeros k = replicate k 0
 
-  pub deliver_fits : Fit n.refusal n.kind n.level n.settled 0
-  deliver_fits = fits (deliver_call m x y) (deliver_bytes m x y) (memory s₁ t₁) (listed n) delivered_is
+zeros_at : (k j : ℕ) → get_or (zeros k) j 0 ≡ 0
+zeros_at zero j = refl
+zeros_at (suc k) zero = refl
+zeros_at (suc k) (suc j) = zeros_at k j
 
-  pub deliver_packs : (p : ℕ) → p ≡ packed (n.refusal ∷ n.kind ∷ n.level ∷ n.settled ∷ 0 ∷ []) → gives (memory s₁ t₁) p ≡ packing (deliver_call m x y)
-  unfolding packed
-  deliver_packs p h = packs (deliver_call m x y) (deliver_bytes m x y) (memory s₁ t₁) (listed n) delivered_is p h
+zeros_long : (k : ℕ) → length (zeros k) ≡ k
+zeros_long zero = refl
+zeros_long (suc k) = ap suc (zeros_long k)
 
--- a bit that the code made of a test
-bit_field : (m : Memory) (o : Outcome) (b : ℕ) (a : Bool) (r : ℕ) (fields : List ℕ) → b ≡ cond a 1 0 → leaves m (r ∷ cond a 1 0 ∷ fields) ≡ o
-    → leaves m (r ∷ b ∷ fields) ≡ o
-bit_field m o b a r fields q e = ap (λ (b : ℕ). leaves m (r ∷ b ∷ fields)) q ∙ e
+module _ {A : Type 0} (k : ℕ) (f : A → List ℕ) where
+  pub five_of : (r : Result A Refusal) → first_five (fields_of 4 f r) ≡ first_five (fields_of k f r)
+  five_of (Ok a) = refl
+  five_of (Err e) = cc (zeros_at k 0, zeros_at k 1, zeros_at k 2, zeros_at k 3)
 
-module _ (m : Memory) (u z failed r b hops last : ℕ) (a : Bool) (e : leaves m (r ∷ cond a 1 0 ∷ hops ∷ last ∷ []) ≡ lookup_call m u z failed) (q : b ≡ cond a 1 0) where
-  found_is : leaves m (r ∷ b ∷ hops ∷ last ∷ []) ≡ lookup_call m u z failed
-  found_is = bit_field m (lookup_call m u z failed) b a r (hops ∷ last ∷ []) q e
+  pub few_of : k ≤ 4 → ((a : A) → length (f a) ≤ 4) → (r : Result A Refusal) → length (fields_of k f r) ≤ 5
+  few_of h g (Ok a) = omega (arith, g a)
+  few_of h g (Err e) = omega (arith, h, zeros_long k)
 
-  pub lookup_fits : Fit r b hops last 0
-  lookup_fits = fits (lookup_call m u z failed) (lookup_bytes m u z failed) m (r ∷ b ∷ hops ∷ last ∷ []) found_is
+  -- a call that answers r
+  module _ (h : k ≤ 4) (g : (a : A) → length (f a) ≤ 4) (r : Result A Refusal) (o : Outcome) (m : Memory) (out : List ℕ) (e : writes m out (fields_of k f r) ≡ o) (n : Numbers) (q : listed n ≡ first_five (fields_of 4 f r)) where
+    pub call_packs : (p : ℕ) → p ≡ packed (first_five (listed n)) → outputs m out p ≡ packing o
+    call_packs = packs o m out (fields_of k f r) (few_of h g r) e n (q ∙ five_of r)
 
-  pub lookup_packs : (n : ℕ) → n ≡ packed (r ∷ b ∷ hops ∷ last ∷ 0 ∷ []) → gives m n ≡ packing (lookup_call m u z failed)
-  unfolding packed
-  lookup_packs n h = packs (lookup_call m u z failed) (lookup_bytes m u z failed) m (r ∷ b ∷ hops ∷ last ∷ []) found_is n h
+    pub call_fits : Bytes o.answer → Fits (first_five (listed n))
+    call_fits = bytes_fit o m out (fields_of k f r) (few_of h g r) e n (q ∙ five_of r)
 
-module _ (m : Memory) (r b x i j : ℕ) (a : Bool) (e : leaves m (r ∷ cond a 1 0 ∷ x ∷ i ∷ j ∷ []) ≡ verdict_call m) (q : b ≡ cond a 1 0) where
-  judged_is : leaves m (r ∷ b ∷ x ∷ i ∷ j ∷ []) ≡ verdict_call m
-  judged_is = bit_field m (verdict_call m) b a r (x ∷ i ∷ j ∷ []) q e
+-- the refusal alone
+pub done_is : {A : Type 0} (f : A → List ℕ) (r : Result A Refusal) (n : Numbers) → listed n ≡ first_five (fields_of 4 f r) → (n.refusal ∷ []) ≡ done_fields r
+done_is f (Ok a) n q = ap (λ (l : List ℕ). get_or l 0 0 ∷ []) q
+done_is f (Err e) n q = ap (λ (l : List ℕ). get_or l 0 0 ∷ []) q
 
-  pub verdict_fits : Fit r b x i j
-  verdict_fits = fits (verdict_call m) (verdict_bytes m) m (r ∷ b ∷ x ∷ i ∷ j ∷ []) judged_is
+kind_few : (kind : Kind) (settled : ℕ) → length (kind_fields kind settled) ≤ 4
+kind_few Copied settled = omega arith
+kind_few SentOn settled = omega arith
+kind_few (Attached level) settled = omega arith
+kind_few Notified settled = omega arith
 
-  pub verdict_packs : (n : ℕ) → n ≡ packed (r ∷ b ∷ x ∷ i ∷ j ∷ []) → gives m n ≡ packing (verdict_call m)
-  verdict_packs n h = packs (verdict_call m) (verdict_bytes m) m (r ∷ b ∷ x ∷ i ∷ j ∷ []) judged_is n h
+pub taken_few : (d : Delivery) → length (taken_fields d) ≤ 4
+taken_few d = kind_few d.kind _
 
-module _ (m : Memory) (trace : List ℕ) (few : path_count trace < 256) (r p k : ℕ) (e : leaves m (r ∷ p ∷ k ∷ []) ≡ trace_call m trace) where
-  pub trace_fits : Fit r p k 0 0
-  trace_fits = fits (trace_call m trace) (trace_bytes m trace few) m (r ∷ p ∷ k ∷ []) e
+pub short_few : (v : Option ShortEntry) → length (short_fields v) ≤ 4
+short_few None = omega arith
+short_few (Some e) = omega arith
 
-  pub trace_packs : (n : ℕ) → n ≡ packed (r ∷ p ∷ k ∷ 0 ∷ 0 ∷ []) → gives m n ≡ packing (trace_call m trace)
-  unfolding packed
-  trace_packs n h = packs (trace_call m trace) (trace_bytes m trace few) m (r ∷ p ∷ k ∷ []) e n h
+pub trace_few : {A : Type 0} (r : Result A TraceRefused) → length (trace_fields r) ≤ 5
+trace_few (Ok a) = omega arith
+trace_few (Err e) = omega arith

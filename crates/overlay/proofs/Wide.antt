@@ -1,12 +1,13 @@
--- The answers of a filling, a writing and a reading: a refusal fits a byte, and a number, a length or a place two, so neither reaches into the other and shift and
--- mask give both back. Assumes nothing.
-use Prim.Native.Nat.{ℕ, ◌/◌, ◌%◌, ◌≤◌, ◌<◌}
+-- The answers of a filling, a writing and a reading: a refusal fits a byte, and a number, a length or a place two, so neither reaches into
+-- the other and shift and mask give both back. Assumes nothing.
+use Prim.Native.Nat.{ℕ, ◌+◌, ◌*◌, ◌/◌, ◌%◌, ◌≤◌, ◌<◌}
 use mathlib.Core.Path.{◌≡◌, refl, sym, ap, subst, ◌∙◌}
 use mathlib.Core.List.{List, [], ◌∷◌}
 use native.Mathlib.Omega.{arith}
-use lib.ListN.{get_or}
+use lib.ListN.{get_or, length}
+use Rattle.std.specs.Prelude.{Result, Ok, Err}
 use Rattle.model.specs.Memory.{Memory}
-use Rattle.model.specs.Refusals.{read_refusal, fill_refusal, write_refusal}
+use Rattle.model.specs.Refusals.{fill_refusal, read_refusal, write_refusal}
 use Rattle.model.specs.Calls.{Outcome, refused_at, refused, taken, read_call, filled_by, fill_call, write_call}
 use Rattle.model.proofs.Refusals.{numbered, sentences_below}
 use Rattle.model.proofs.Calls.{either_end}
@@ -14,9 +15,14 @@ use Rattle.model.proofs.FillingFew.{filling_few}
 use Rattle.model.proofs.JoinSections.{image_most}
 use Rattle.model.proofs.Taken.{fill_taken, write_taken}
 use Rattle.model.proofs.Places.{place_few}
-use Rattle.engine.specs.Outcomes.{leaves, writes}
-use Rattle.packing.specs.Packed.{packed}
-use Rattle.overlay.specs.Packed.{packing, gives, outputs}
+use Rattle.answers.specs.Fields.{number_fields, read_fields}
+use Rattle.answers.specs.declared.error.Refusal.{Refusal}
+use Rattle.answers.specs.declared.error.ImageRefused.{ImageRefused}
+use Rattle.engine.specs.Outcomes.{writes}
+use Rattle.packing.specs.declared.numbers.Numbers.{Numbers}
+use Rattle.packing.specs.Listed.{listed}
+use Rattle.packing.specs.Numbers.{first_five}
+use Rattle.packing.specs.Packed.{packed, Fits}
 
 -- the two fields of an answer are a refusal and a number of two bytes
 unfoldable pub Short : List ℕ → Type 0
@@ -34,10 +40,6 @@ module _ (o : Outcome) (short : Short o.answer) (m : Memory) (after : List ℕ) 
   unfolding Short
   fits_wide = let h : n ≤ 65535 = both_short.1 in omega arith
 
-  packs : (p : ℕ) → p ≡ packed (r ∷ n ∷ []) → outputs m after p ≡ packing o
-  unfolding packing
-  packs p f = ap (λ (p : ℕ). outputs m after p) f ∙ ap packing e
-
   -- bits 0 to 7 are the refusal
   pub refusal_back : packed (r ∷ n ∷ []) % 256 ≡ r
   unfolding packed
@@ -48,7 +50,26 @@ module _ (o : Outcome) (short : Short o.answer) (m : Memory) (after : List ℕ) 
   unfolding packed
   wide_back = omega (arith, fits_byte, fits_wide)
 
--- ---- filling
+two_fit : (fields : List ℕ) → length fields ≤ 2 → Short fields → Fits (first_five fields)
+unfolding packed Short
+two_fit [] h s = omega arith
+two_fit (a ∷ []) h s = omega (arith, s.0)
+two_fit (a ∷ b ∷ []) h s = omega (arith, s.0, s.1)
+two_fit (a ∷ b ∷ c ∷ xs) h s = absurd (omega arith)
+
+-- a call whose outcome is o, with two fields
+pub short_fits : (o : Outcome) → Short o.answer → (m : Memory) (out fields : List ℕ) → length fields ≤ 2 → writes m out fields ≡ o → (n : Numbers)
+    → listed n ≡ first_five fields → Fits (first_five (listed n))
+short_fits o s m out fields few e n q =
+    subst (λ (l : List ℕ). Fits (first_five l)) (sym q) (two_fit fields few (subst (λ (o : Outcome). Short o.answer) (sym e) s))
+
+pub number_few : (r : Result ℕ Refusal) → length (number_fields r) ≤ 2
+number_few (Ok a) = omega arith
+number_few (Err e) = omega arith
+
+pub read_few : {A : Type 0} (r : Result A ImageRefused) → length (read_fields r) ≤ 2
+read_few (Ok a) = omega arith
+read_few (Err e) = omega arith
 
 pub fill_short : (m : Memory) (out : List ℕ) → Short (fill_call m out).answer
 unfolding Short fill_refusal fill_call filled_by refused_at taken numbered
@@ -57,20 +78,6 @@ fill_short m out =
     (λ nz. (sentences_below _ refl, omega arith))
     (λ z. let h = filling_few m.state m.tables (fill_taken m out z).0 in (omega arith, omega (arith, h)))
 
-module _ (m m₁ : Memory) (out after : List ℕ) (r n : ℕ) (e : writes m₁ after (r ∷ n ∷ []) ≡ fill_call m out) where
-  pub filled_refusal : r < 256
-  filled_refusal = fits_byte (fill_call m out) (fill_short m out) m₁ after r n e
-
-  pub filled_number : n < 4294967296
-  filled_number = fits_wide (fill_call m out) (fill_short m out) m₁ after r n e
-
-  pub fill_packs : (p : ℕ) → p ≡ packed (r ∷ n ∷ []) → outputs m₁ after p ≡ packing (fill_call m out)
-  fill_packs = packs (fill_call m out) (fill_short m out) m₁ after r n e
-
-pub ruleset filled_fits = (filled_refusal, filled_number)
-
--- ---- writing
-
 pub write_short : (m : Memory) (v : ℕ) (out : List ℕ) → Short (write_call m v out).answer
 unfolding Short write_refusal write_call refused_at taken numbered
 write_short m v out =
@@ -78,34 +85,8 @@ write_short m v out =
     (λ nz. (sentences_below _ refl, omega arith))
     (λ z. let h = image_most v m.state m.tables (write_taken m v out z).sound in (omega arith, omega arith))
 
-module _ (m : Memory) (v : ℕ) (out after : List ℕ) (r n : ℕ) (e : writes m after (r ∷ n ∷ []) ≡ write_call m v out) where
-  pub written_refusal : r < 256
-  written_refusal = fits_byte (write_call m v out) (write_short m v out) m after r n e
-
-  pub written_length : n < 4294967296
-  written_length = fits_wide (write_call m v out) (write_short m v out) m after r n e
-
-  pub write_packs : (p : ℕ) → p ≡ packed (r ∷ n ∷ []) → outputs m after p ≡ packing (write_call m v out)
-  write_packs = packs (write_call m v out) (write_short m v out) m after r n e
-
-pub ruleset written_fits = (written_refusal, written_length)
-
--- ---- reading
-
 pub read_short : (m : Memory) (im : List ℕ) → Short (read_call m im).answer
 unfolding Short read_refusal read_call refused_at taken numbered
 read_short m im =
     either_end (λ (o : Outcome). Short o.answer) (read_refusal m im) _ _
     (λ nz. (sentences_below _ refl, let h = place_few m im in omega arith)) (λ z. (omega arith, omega arith))
-
-module _ (m : Memory) (im : List ℕ) (m₁ : Memory) (r n : ℕ) (e : leaves m₁ (r ∷ n ∷ []) ≡ read_call m im) where
-  pub read_refusal_lem : r < 256
-  read_refusal_lem = fits_byte (read_call m im) (read_short m im) m₁ [] r n e
-
-  pub read_place : n < 4294967296
-  read_place = fits_wide (read_call m im) (read_short m im) m₁ [] r n e
-
-  pub read_packs : (p : ℕ) → p ≡ packed (r ∷ n ∷ []) → gives m₁ p ≡ packing (read_call m im)
-  read_packs = packs (read_call m im) (read_short m im) m₁ [] r n e
-
-pub ruleset read_fits = (read_refusal_lem, read_place)

@@ -8,8 +8,8 @@ ghost use Rattle.state.specs.Lent.{memory};
 ghost use Rattle.engine.specs.Outcomes.{leaves};
 ghost use Rattle.overlay.specs.Packed.{gives, outputs, packing, surveying};
 
-use packing::delivered::as_numbers;
-use packing::pack::{bit, pack, pack_wide};
+use packing::numbers::{of_call, of_reading, of_trace};
+use packing::pack::pack;
 
 // Founding: base, digits, depth and the id of node 1. Answers the refusal.
 #[unsafe(no_mangle)]
@@ -23,7 +23,7 @@ pub extern "C" fn overlay_found(
 ) -> u64
     ensures { leaves (memory state.new tables.new) (result ∷ []) ≡ found_call (memory state.old tables.old) base digits depth id }
 {
-    engine::founding::found(state, tables, base, digits, depth, id)
+    of_call(engine::founding::found(state, tables, base, digits, depth, id)).refusal
 }
 
 // Reading an image into the memory; of version 1 every node is in system. Answers with 10, 17 and 18 the place of the record.
@@ -31,8 +31,7 @@ pub extern "C" fn overlay_found(
 pub extern "C" fn overlay_read(state: &mut [u64], tables: &mut [u8], image: &[u8]) -> u64
     ensures { gives (memory state.new tables.new) result ≡ packing (read_call (memory state.old tables.old) image.now) }
 {
-    let answer = engine::reading::read(state, tables, image);
-    pack_wide(answer.refusal, answer.place)
+    pack(of_reading(engine::reading::read(state, tables, image)))
 }
 
 // Beginning a join: the id and the gateway. Answers the new node.
@@ -40,8 +39,7 @@ pub extern "C" fn overlay_read(state: &mut [u64], tables: &mut [u8], image: &[u8
 pub extern "C" fn overlay_begin(state: &mut [u64], tables: &mut [u8], id: u32, gateway: u64) -> u64
     ensures { gives (memory state.new tables.new) result ≡ packing (begin_call (memory state.old tables.old) id gateway) }
 {
-    let begun = engine::beginning::begin(state, tables, id, gateway);
-    pack(begun.refusal, begun.node, 0, 0, 0)
+    pack(of_call(engine::beginning::begin(state, tables, id, gateway)))
 }
 
 // Withdrawing a join: the highest-numbered node, while it copies or waits. Answers the refusal.
@@ -49,7 +47,7 @@ pub extern "C" fn overlay_begin(state: &mut [u64], tables: &mut [u8], id: u32, g
 pub extern "C" fn overlay_withdraw(state: &mut [u64], tables: &mut [u8], node: u64) -> u64
     ensures { leaves (memory state.new tables.new) (result ∷ []) ≡ withdraw_call (memory state.old tables.old) node }
 {
-    engine::withdrawing::withdraw(state, tables, node)
+    of_call(engine::withdrawing::withdraw(state, tables, node)).refusal
 }
 
 // Delivering the request of one node to another. Answers what it was, the attach level if it attached, and whether the sender settled.
@@ -62,8 +60,7 @@ pub extern "C" fn overlay_deliver(
 ) -> u64
     ensures { gives (memory state.new tables.new) result ≡ packing (deliver_call (memory state.old tables.old) sender receiver) }
 {
-    let answer = as_numbers(engine::delivering::deliver(state, tables, sender, receiver));
-    pack(answer.refusal, answer.kind, answer.level, answer.settled, 0)
+    pack(of_call(engine::delivering::deliver(state, tables, sender, receiver)))
 }
 
 // Lookup from one node to another around the failed ones. Answers whether it arrived, the hops and the last node.
@@ -77,8 +74,7 @@ pub extern "C" fn overlay_lookup(
 ) -> u64
     ensures { gives (memory state.now tables.now) result ≡ packing (lookup_call (memory state.now tables.now) from to failed) }
 {
-    let found = engine::lookup::lookup(state, tables, from, to, failed);
-    pack(found.refusal, bit(found.arrived), found.hops, found.last, 0)
+    pack(of_call(engine::lookup::lookup(state, tables, from, to, failed)))
 }
 
 // The hop survey of the nodes that have not failed. Answers the refusal; where that is 0, counts are the pairs for 1 to 8 hops and the lost ones, else
@@ -92,13 +88,13 @@ pub extern "C" fn overlay_survey(
 ) -> u64
     ensures { outputs (memory state.now tables.now) counts.new result ≡ surveying (survey_call (memory state.now tables.now) failed) counts.old }
 {
-    let surveyed = engine::survey::survey(state, tables, failed);
-    if surveyed.refusal != 0 {
-        return surveyed.refusal;
+    match engine::survey::survey(state, tables, failed) {
+        Ok(found) => {
+            *counts = found;
+            0
+        },
+        Err(refusal) => refusal.into(),
     }
-    let found = surveyed.counts;
-    *counts = found;
-    0
 }
 
 // The verdict. Answers whether the network is K-consistent, and if not, node, level and digit of the first entry that falls short.
@@ -106,14 +102,7 @@ pub extern "C" fn overlay_survey(
 pub extern "C" fn overlay_verdict(state: &[u64], tables: &[u8]) -> u64
     ensures { gives (memory state.now tables.now) result ≡ packing (verdict_call (memory state.now tables.now)) }
 {
-    let judged = engine::verdict::verdict(state, tables);
-    pack(
-        judged.refusal,
-        bit(judged.consistent),
-        judged.node,
-        judged.level,
-        judged.digit,
-    )
+    pack(of_call(engine::verdict::verdict(state, tables)))
 }
 
 // Filling short tables: the additions are listed in out. Answers how many they are, in bits 8 to 39.
@@ -121,8 +110,7 @@ pub extern "C" fn overlay_verdict(state: &[u64], tables: &[u8]) -> u64
 pub extern "C" fn overlay_fill(state: &[u64], tables: &mut [u8], out: &mut [u8]) -> u64
     ensures { outputs (memory state.now tables.new) out.new result ≡ packing (fill_call (memory state.now tables.old) out.old) }
 {
-    let filled = engine::fill::fill(state, tables, out);
-    pack_wide(filled.refusal, filled.additions)
+    pack(of_call(engine::fill::fill(state, tables, out)))
 }
 
 // Writing the image of this version to out. Answers its length, in bits 8 to 39.
@@ -130,8 +118,7 @@ pub extern "C" fn overlay_fill(state: &[u64], tables: &mut [u8], out: &mut [u8])
 pub extern "C" fn overlay_write(state: &[u64], tables: &[u8], version: u64, out: &mut [u8]) -> u64
     ensures { outputs (memory state.now tables.now) out.new result ≡ packing (write_call (memory state.now tables.now) version out.old) }
 {
-    let written = engine::writing::write(state, tables, version, out);
-    pack_wide(written.refusal, written.bytes)
+    pack(of_call(engine::writing::write(state, tables, version, out)))
 }
 
 // The check of a state. Answers the refusal: 1 too short, 2 not sound, 0 neither.
@@ -139,7 +126,7 @@ pub extern "C" fn overlay_write(state: &[u64], tables: &[u8], version: u64, out:
 pub extern "C" fn overlay_sound(state: &[u64], tables: &[u8]) -> u64
     ensures { leaves (memory state.now tables.now) (result ∷ []) ≡ sound_call (memory state.now tables.now) }
 {
-    engine::sound::sound(state, tables)
+    of_call(engine::sound::sound(state, tables)).refusal
 }
 
 // The check of a trace of another router. Answers, with refusals 9 and 23, path and place.
@@ -147,6 +134,5 @@ pub extern "C" fn overlay_sound(state: &[u64], tables: &[u8]) -> u64
 pub extern "C" fn overlay_trace(state: &[u64], tables: &[u8], trace: &[u8]) -> u64
     ensures { gives (memory state.now tables.now) result ≡ packing (trace_call (memory state.now tables.now) trace.now) }
 {
-    let traced = engine::tracing::trace(state, tables, trace);
-    pack(traced.refusal, traced.path, traced.place, 0, 0)
+    pack(of_trace(engine::tracing::trace(state, tables, trace)))
 }

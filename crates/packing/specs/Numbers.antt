@@ -1,10 +1,9 @@
--- A delivery's answer as numbers.
-use Rattle.std.specs.Prelude.{ℕ, Bool, cond, List, [], ◌∷◌}
-use Rattle.packing.specs.declared.delivered.Numbers.{Numbers}
+-- The first numbers of a list of fields, with zeros where it has fewer.
+use Rattle.std.specs.Prelude.{ℕ, List, [], ◌∷◌, get_or}
 
-abbrev pub listed : Numbers → List ℕ
-listed n = n.refusal ∷ n.kind ∷ n.level ∷ n.settled ∷ []
+abbrev pub first_four : List ℕ → List ℕ
+first_four fields = get_or fields 0 0 ∷ get_or fields 1 0 ∷ get_or fields 2 0 ∷ get_or fields 3 0 ∷ []
 
--- those of a delivery that was taken
-abbrev pub taken_fields : ℕ → ℕ → Bool → List ℕ
-taken_fields kind level settled = 0 ∷ kind ∷ level ∷ cond settled 1 0 ∷ []
+-- the refusal and four more
+abbrev pub first_five : List ℕ → List ℕ
+first_five fields = get_or fields 0 0 ∷ get_or fields 1 0 ∷ get_or fields 2 0 ∷ get_or fields 3 0 ∷ get_or fields 4 0 ∷ []

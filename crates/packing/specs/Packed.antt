@@ -6,15 +6,6 @@ unfoldable pub packed : List ℕ → ℕ
 packed [] = 0
 packed (field ∷ fields) = field + 256 * packed fields
 
--- five fields that fit a byte each
-pub record Fit (f₀ f₁ f₂ f₃ f₄ : ℕ) : Type 0 where
-  pub refusal : f₀ < 256
-  pub first : f₁ < 256
-  pub second : f₂ < 256
-  pub third : f₃ < 256
-  pub fourth : f₄ < 256
-
--- a refusal that fits a byte and one field that fits 32 bits
-pub record FitWide (f₀ f₁ : ℕ) : Type 0 where
-  pub refusal : f₀ < 256
-  pub wide : f₁ < 4294967296
+-- the packed answer fits 64 bits
+abbrev pub Fits : List ℕ → Type 0
+Fits fields = packed fields < 18446744073709551616

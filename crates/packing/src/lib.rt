@@ -1,5 +1,6 @@
-// The answer of a call as one number of 64 bits.
+// The answer of a call as numbers, and as one number of 64 bits.
 #![tactic(auto)]
 
-pub mod delivered;
+pub mod fields;
+pub mod numbers;
 pub mod pack;

@@ -1,9 +1,13 @@
 -- `overlay_fill`: the answer of `fill`, packed. Assumes nothing.
-use Rattle.overlay.proofs.Wide.{filled_fits, fill_packs}
+use mathlib.Core.Path.{◌∙◌}
+use native.Mathlib.Omega.{arith}
+use Rattle.overlay.proofs.Fields.{five_of, call_packs}
+use Rattle.overlay.proofs.Wide.{short_fits, fill_short, number_few}
 use Rattle.overlay.proofs.overlay_fill.Goals as goal
 
-pub pack_wide-requires : goal.pack_wide-requires
-pack_wide-requires c = search filled_fits
+pub pack-requires : goal.pack-requires
+pack-requires c =
+    short_fits _ (fill_short _ _) _ _ _ (number_few _) c.fill.ensures _ (c.of_call.ensures ∙ five_of 1 _ _)
 
 pub returns : goal.returns
-returns c = search fill_packs
+returns c = call_packs 1 _ (omega arith) (λ a. omega arith) _ _ _ _ c.fill.ensures _ c.of_call.ensures _ c.pack.ensures

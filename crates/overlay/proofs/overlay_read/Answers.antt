@@ -1,9 +1,11 @@
 -- `overlay_read`: the answer of `read`, packed. Assumes nothing.
-use Rattle.overlay.proofs.Wide.{read_fits, read_packs}
+use native.Mathlib.Omega.{arith}
+use Rattle.overlay.proofs.Fields.{packs}
+use Rattle.overlay.proofs.Wide.{short_fits, read_short, read_few}
 use Rattle.overlay.proofs.overlay_read.Goals as goal
 
-pub pack_wide-requires : goal.pack_wide-requires
-pack_wide-requires c = search read_fits
+pub pack-requires : goal.pack-requires
+pack-requires c = short_fits _ (read_short _ _) _ _ _ (read_few _) c.read.ensures _ c.of_reading.ensures
 
 pub returns : goal.returns
-returns c = search read_packs
+returns c = packs _ _ _ _ (omega (arith, read_few c.read.result)) c.read.ensures _ c.of_reading.ensures _ c.pack.ensures

@@ -1,0 +1,9 @@
+-- `overlay_withdraw`: the refusal. Assumes nothing.
+use mathlib.Core.Path.{ap, ◌∙◌}
+use Rattle.state.specs.Lent.{memory}
+use Rattle.engine.specs.Outcomes.{leaves}
+use Rattle.overlay.proofs.Fields.{done_is}
+use Rattle.overlay.proofs.overlay_withdraw.Goals as goal
+
+pub returns : goal.returns
+returns c = ap (leaves (memory c.withdraw.new.state c.withdraw.new.tables)) (done_is _ _ _ c.of_call.ensures) ∙ c.withdraw.ensures

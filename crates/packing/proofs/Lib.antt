@@ -1,2 +1,0 @@
--- The laws by which the answers of a delivery are numbers.
-pub mod NumbersLaws
