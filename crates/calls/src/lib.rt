@@ -1,7 +1,7 @@
 #![tactic(auto)]
 
 // A call on a network with its arguments, as programs hold it.
-#[derive(Clone, Copy)]
+#[derive(Clone, Copy, Debug, PartialEq, Eq)]
 pub enum Call {
     // base, digits, depth, id
     Found(u64, u64, u64, u32),

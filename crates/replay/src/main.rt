@@ -1,9 +1,9 @@
 // Plays a script of calls from standard input, one a line, and prints each answer. docs/REPLAY.md has the language.
 #![tactic(auto)]
 
-ghost use Rattle.std.specs.Prelude.{◌≡◌, ◌+◌, ◌≤◌, length, drop};
+ghost use Rattle.std.specs.Prelude.{◌≡◌, length, position};
+ghost use Rattle.std.specs.List.{before_first, after_first};
 ghost use Rattle.state.specs.Lent.{memory};
-ghost use Rattle.script.specs.Words.{until};
 ghost use Rattle.replay.specs.Script.{ends_line, lines_of, Follows};
 
 mod files;
@@ -12,30 +12,35 @@ mod said;
 mod turn;
 
 use input::read_full;
-use script::words;
 use state::lent::{STATE_LENGTH, TABLES_LENGTH};
 use std::io;
+use std::io::Write;
 use std::rt::Files;
 
-// The place of the first line end from here on; the script's end where there is none.
-fn line_end(script: &[u8], from: usize) -> usize
-    requires { from ≤ length script.now }
-    ensures value { result ≡ from + until ends_line (drop from script.now) }
-    ensures in_bounds { result ≤ length script.now }
+// The place of the first line end.
+#[tactic(auto, unfolding(crate::specs::Script::ends_line))]
+fn line_end(text: &[u8]) -> Option<usize>
+    ensures { result ≡ position ends_line text.now }
 {
-    let mut at = from;
-    while at < script.len() {
-        if script[at] == b'\n' {
-            return at;
-        }
-        at += 1;
-    }
-    at
+    text.iter().position(|b| *b == b'\n')
 }
 
-// Plays all lines, also where an answer cannot be printed: the result is the first failure of printing.
-fn lines(
-    rt: &(impl Files + Print),
+// The first line of a text, and what stands behind its end.
+fn first_line(text: &[u8]) -> (&[u8], &[u8])
+    ensures line { result.0.now ≡ before_first ends_line text.now }
+    ensures behind { result.1.now ≡ after_first ends_line text.now }
+{
+    match line_end(text) {
+        Some(end) => (&text[..end], &text[end + 1..]),
+        None => (text, &text[text.len()..]),
+    }
+}
+
+// Plays all lines, also where an answer cannot be printed: the result is the first failure of printing. What is said of a line is written before the
+// next is played.
+fn lines<W: Write>(
+    rt: &impl Files,
+    output: &mut W,
     state: &mut [u64],
     tables: &mut [u8],
     script: &[u8],
@@ -44,18 +49,19 @@ fn lines(
 {
     let mut printed = Ok(());
     let mut number = 0;
-    let mut at = 0;
-    while at < script.len() {
-        let end = line_end(script, at);
+    let mut rest = script;
+    while !rest.is_empty() {
+        let (line, behind) = first_line(rest);
         number += 1;
-        let is_printed = turn::line(rt, state, tables, words::part(script, at, end), number);
-        printed = printed.and(is_printed);
-        at = end + 1;
+        let is_printed = turn::line(rt, output, state, tables, line, number);
+        printed = printed.and(is_printed).and(output.flush());
+        rest = behind;
     }
     printed
 }
 
-// Memory for a script, of which one that fills it is not played, or for the lines of a list.
+// Memory for a script, of which one that fills it is not played: the check computes a value of this
+// size that stands in a larger body.
 fn room() -> [u8; 1048576]
     ensures { 1048576 ≡ length result }
 {
@@ -70,5 +76,5 @@ fn main(rt: HostRuntime) -> io::Result<()> {
     }
     let mut state = [0u64; STATE_LENGTH];
     let mut tables = [0u8; TABLES_LENGTH];
-    lines(&rt, &mut state, &mut tables, &script[..n])
+    lines(&rt, &mut rt.stdout(), &mut state, &mut tables, &script[..n])
 }

@@ -1,124 +1,150 @@
 // One call, played by the public call of its kind.
-ghost use Rattle.std.specs.Prelude.{◌≡◌, [], ◌∷◌};
+ghost use Rattle.std.specs.Prelude.{◌≡◌, ℕ, List};
+ghost use Rattle.model.specs.Memory.{digits};
 ghost use Rattle.model.specs.Calls.{found_call, read_call, begin_call, withdraw_call, deliver_call, lookup_call, survey_call, verdict_call, fill_call, write_call, trace_call, sound_call};
 ghost use Rattle.model.specs.Run.{step};
+ghost use Rattle.model.specs.Traces.{path_count};
 ghost use Rattle.state.specs.Lent.{memory};
+ghost use Rattle.calls.specs.declared.Call.TheVariants as kind;
 ghost use Rattle.replay_calls.specs.Called.{called, out_after};
-ghost use Rattle.replay_calls.specs.Answered.{padded, listed, playing, shown};
+ghost use Rattle.replay_calls.specs.Answered.{playing, shown, said_of, Says};
 
-use crate::answer::Words;
 use calls::Call;
 use engine::{beginning, delivering, founding, reading, tracing, withdrawing, writing};
-use packing::delivered::as_numbers;
-use packing::pack::bit;
+use replay_refusals::Refused;
+use replay_survey::Survey;
+use replay_words::said::Said;
+use state::settings;
 
-// An answer of at most four fields behind the refusal.
-fn first_fields(refusal: u64, first: u64, second: u64, third: u64, fourth: u64) -> Words
-    ensures { listed result ≡ padded (refusal ∷ first ∷ second ∷ third ∷ fourth ∷ []) }
+fn found(
+    state: &mut [u64],
+    tables: &mut [u8],
+    base: u64,
+    digits: u64,
+    depth: u64,
+    id: u32,
+) -> Result<Said, Refused>
+    ensures result_after { shown (memory state.new tables.new) (said_of result) ≡ playing (found_call (memory state.old tables.old) base digits depth id) }
+    ensures says { (d : ℕ) (file : List ℕ) → Says d file (kind.Found base digits depth id) (said_of result) }
 {
-    Words {
-        refusal,
-        fields: [first, second, third, fourth, 0, 0, 0, 0, 0],
-    }
+    founding::found(state, tables, base, digits, depth, id)?;
+    Ok(Said::Founded)
 }
 
-fn found(state: &mut [u64], tables: &mut [u8], base: u64, digits: u64, depth: u64, id: u32) -> Words
-    ensures { shown (memory state.new tables.new) result ≡ playing (found_call (memory state.old tables.old) base digits depth id) }
+fn begin(state: &mut [u64], tables: &mut [u8], id: u32, gateway: u64) -> Result<Said, Refused>
+    ensures result_after { shown (memory state.new tables.new) (said_of result) ≡ playing (begin_call (memory state.old tables.old) id gateway) }
+    ensures says { (d : ℕ) (file : List ℕ) → Says d file (kind.Begin id gateway) (said_of result) }
 {
-    first_fields(
-        founding::found(state, tables, base, digits, depth, id),
-        0,
-        0,
-        0,
-        0,
-    )
+    let node = beginning::begin(state, tables, id, gateway)?;
+    Ok(Said::Begun(node as u64))
 }
 
-fn begin(state: &mut [u64], tables: &mut [u8], id: u32, gateway: u64) -> Words
-    ensures { shown (memory state.new tables.new) result ≡ playing (begin_call (memory state.old tables.old) id gateway) }
+fn withdraw(state: &mut [u64], tables: &mut [u8], node: u64) -> Result<Said, Refused>
+    ensures result_after { shown (memory state.new tables.new) (said_of result) ≡ playing (withdraw_call (memory state.old tables.old) node) }
+    ensures says { (d : ℕ) (file : List ℕ) → Says d file (kind.Withdraw node) (said_of result) }
 {
-    let r = beginning::begin(state, tables, id, gateway);
-    first_fields(r.refusal, r.node, 0, 0, 0)
+    withdrawing::withdraw(state, tables, node)?;
+    Ok(Said::Withdrawn(node))
 }
 
-fn withdraw(state: &mut [u64], tables: &mut [u8], node: u64) -> Words
-    ensures { shown (memory state.new tables.new) result ≡ playing (withdraw_call (memory state.old tables.old) node) }
+fn deliver(
+    state: &mut [u64],
+    tables: &mut [u8],
+    sender: u64,
+    receiver: u64,
+) -> Result<Said, Refused>
+    ensures result_after { shown (memory state.new tables.new) (said_of result) ≡ playing (deliver_call (memory state.old tables.old) sender receiver) }
+    ensures says { (d : ℕ) (file : List ℕ) → Says d file (kind.Deliver sender receiver) (said_of result) }
 {
-    first_fields(withdrawing::withdraw(state, tables, node), 0, 0, 0, 0)
+    let delivery = delivering::deliver(state, tables, sender, receiver)?;
+    Ok(Said::Delivered(delivery))
 }
 
-fn deliver(state: &mut [u64], tables: &mut [u8], sender: u64, receiver: u64) -> Words
-    ensures { shown (memory state.new tables.new) result ≡ playing (deliver_call (memory state.old tables.old) sender receiver) }
+fn lookup(state: &[u64], tables: &[u8], from: u64, to: u64, failed: u64) -> Result<Said, Refused>
+    ensures result_after { shown (memory state.now tables.now) (said_of result) ≡ playing (lookup_call (memory state.now tables.now) from to failed) }
+    ensures says { (d : ℕ) (file : List ℕ) → Says d file (kind.Lookup from to failed) (said_of result) }
 {
-    let n = as_numbers(delivering::deliver(state, tables, sender, receiver));
-    first_fields(n.refusal, n.kind, n.level, n.settled, 0)
+    let lookup = engine::lookup::lookup(state, tables, from, to, failed)?;
+    Ok(Said::LookedUp(lookup))
 }
 
-fn lookup(state: &[u64], tables: &[u8], from: u64, to: u64, failed: u64) -> Words
-    ensures { shown (memory state.now tables.now) result ≡ playing (lookup_call (memory state.now tables.now) from to failed) }
+fn survey(state: &[u64], tables: &[u8], failed: u64) -> Result<Said, Refused>
+    ensures result_after { shown (memory state.now tables.now) (said_of result) ≡ playing (survey_call (memory state.now tables.now) failed) }
+    ensures says { (file : List ℕ) → Says (digits state.now) file (kind.Survey failed) (said_of result) }
 {
-    let r = engine::lookup::lookup(state, tables, from, to, failed);
-    first_fields(r.refusal, bit(r.arrived), r.hops, r.last, 0)
+    let counts = engine::survey::survey(state, tables, failed)?;
+    let digits = settings::digits(state);
+    Ok(Said::Surveyed(Survey { digits, counts }))
 }
 
-fn survey(state: &[u64], tables: &[u8], failed: u64) -> Words
-    ensures { shown (memory state.now tables.now) result ≡ playing (survey_call (memory state.now tables.now) failed) }
+fn verdict(state: &[u64], tables: &[u8]) -> Result<Said, Refused>
+    ensures result_after { shown (memory state.now tables.now) (said_of result) ≡ playing (verdict_call (memory state.now tables.now)) }
+    ensures says { (d : ℕ) (file : List ℕ) → Says d file kind.Verdict (said_of result) }
 {
-    let r = engine::survey::survey(state, tables, failed);
-    let fields = r.counts;
-    Words {
-        refusal: r.refusal,
-        fields,
-    }
+    let short = engine::verdict::verdict(state, tables)?;
+    Ok(Said::Judged(short))
 }
 
-fn verdict(state: &[u64], tables: &[u8]) -> Words
-    ensures { shown (memory state.now tables.now) result ≡ playing (verdict_call (memory state.now tables.now)) }
+fn read(state: &mut [u64], tables: &mut [u8], image: &[u8]) -> Result<Said, Refused>
+    ensures result_after { shown (memory state.new tables.new) (said_of result) ≡ playing (read_call (memory state.old tables.old) image.now) }
+    ensures says { (d : ℕ) → Says d image.now kind.Read (said_of result) }
 {
-    let r = engine::verdict::verdict(state, tables);
-    first_fields(r.refusal, bit(r.consistent), r.node, r.level, r.digit)
+    reading::read(state, tables, image)?;
+    Ok(Said::Loaded(image.len() as u64))
 }
 
-fn read(state: &mut [u64], tables: &mut [u8], image: &[u8]) -> Words
-    ensures { shown (memory state.new tables.new) result ≡ playing (read_call (memory state.old tables.old) image.now) }
-{
-    let r = reading::read(state, tables, image);
-    first_fields(r.refusal, r.place, 0, 0, 0)
-}
-
-fn fill(state: &[u64], tables: &mut [u8], out: &mut [u8]) -> Words
-    ensures result_after { shown (memory state.now tables.new) result ≡ playing (fill_call (memory state.now tables.old) out.old) }
+fn fill(state: &[u64], tables: &mut [u8], out: &mut [u8]) -> Result<Said, Refused>
+    ensures result_after { shown (memory state.now tables.new) (said_of result) ≡ playing (fill_call (memory state.now tables.old) out.old) }
     ensures out_after { out.new ≡ (fill_call (memory state.now tables.old) out.old).out }
+    ensures says { (d : ℕ) (file : List ℕ) → Says d file kind.Fill (said_of result) }
 {
-    let r = engine::fill::fill(state, tables, out);
-    first_fields(r.refusal, r.additions, 0, 0, 0)
+    let additions = engine::fill::fill(state, tables, out)?;
+    Ok(Said::Filled(additions as u64))
 }
 
-fn write(state: &[u64], tables: &[u8], version: u64, out: &mut [u8]) -> Words
-    ensures result_value { shown (memory state.now tables.now) result ≡ playing (write_call (memory state.now tables.now) version out.old) }
+fn write(state: &[u64], tables: &[u8], version: u64, out: &mut [u8]) -> Result<Said, Refused>
+    ensures result_value { shown (memory state.now tables.now) (said_of result) ≡ playing (write_call (memory state.now tables.now) version out.old) }
     ensures out_after { out.new ≡ (write_call (memory state.now tables.now) version out.old).out }
+    ensures says { (d : ℕ) (file : List ℕ) → Says d file (kind.Write version) (said_of result) }
 {
-    let r = writing::write(state, tables, version, out);
-    first_fields(r.refusal, r.bytes, 0, 0, 0)
+    let bytes = writing::write(state, tables, version, out)?;
+    Ok(Said::Saved(bytes as u64))
 }
 
-fn trace(state: &[u64], tables: &[u8], trace: &[u8]) -> Words
-    ensures { shown (memory state.now tables.now) result ≡ playing (trace_call (memory state.now tables.now) trace.now) }
+// A trace's count of paths, 0 of one that is empty.
+fn path_count(trace: &[u8]) -> u64
+    ensures { result ≡ path_count trace.now }
 {
-    let r = tracing::trace(state, tables, trace);
-    first_fields(r.refusal, r.path, r.place, 0, 0)
+    trace.first().copied().unwrap_or(0) as u64
 }
 
-fn sound(state: &[u64], tables: &[u8]) -> Words
-    ensures { shown (memory state.now tables.now) result ≡ playing (sound_call (memory state.now tables.now)) }
+fn trace(state: &[u64], tables: &[u8], trace: &[u8]) -> Result<Said, Refused>
+    ensures result_after { shown (memory state.now tables.now) (said_of result) ≡ playing (trace_call (memory state.now tables.now) trace.now) }
+    ensures says { (d : ℕ) → Says d trace.now kind.Trace (said_of result) }
 {
-    first_fields(engine::sound::sound(state, tables), 0, 0, 0, 0)
+    tracing::trace(state, tables, trace)?;
+    Ok(Said::Traced(path_count(trace)))
 }
 
-// Plays the call on the lent memory: reading and tracing are of `file`, and filling and writing to `out`.
-pub fn play(state: &mut [u64], tables: &mut [u8], file: &[u8], out: &mut [u8], call: Call) -> Words
-    ensures result_after { shown (memory state.new tables.new) result ≡ playing (step (memory state.old tables.old) (called file.now out.old call)) }
+fn sound(state: &[u64], tables: &[u8]) -> Result<Said, Refused>
+    ensures result_after { shown (memory state.now tables.now) (said_of result) ≡ playing (sound_call (memory state.now tables.now)) }
+    ensures says { (d : ℕ) (file : List ℕ) → Says d file kind.Sound (said_of result) }
+{
+    engine::sound::sound(state, tables)?;
+    Ok(Said::Sound)
+}
+
+// What is said of the call where it is taken, or its refusal.
+fn taken(
+    state: &mut [u64],
+    tables: &mut [u8],
+    file: &[u8],
+    out: &mut [u8],
+    call: Call,
+) -> Result<Said, Refused>
+    ensures result_after { shown (memory state.new tables.new) (said_of result) ≡ playing (step (memory state.old tables.old) (called file.now out.old call)) }
     ensures out_after { out.new ≡ out_after (memory state.old tables.old) out.old call }
+    ensures says { Says (digits state.old) file.now call (said_of result) }
 {
     match call {
         Call::Found(base, digits, depth, id) => {
@@ -135,5 +161,17 @@ pub fn play(state: &mut [u64], tables: &mut [u8], file: &[u8], out: &mut [u8], c
         Call::Write(version) => return write(state, tables, version, out),
         Call::Trace => return trace(state, tables, file),
         Call::Sound => return sound(state, tables),
+    }
+}
+
+// Plays the call on the lent memory, and answers what is said of it: reading and tracing are of `file`, and filling and writing to `out`.
+pub fn play(state: &mut [u64], tables: &mut [u8], file: &[u8], out: &mut [u8], call: Call) -> Said
+    ensures result_after { shown (memory state.new tables.new) result ≡ playing (step (memory state.old tables.old) (called file.now out.old call)) }
+    ensures out_after { out.new ≡ out_after (memory state.old tables.old) out.old call }
+    ensures says { Says (digits state.old) file.now call result }
+{
+    match taken(state, tables, file, out, call) {
+        Ok(said) => said,
+        Err(refused) => Said::Refused(refused),
     }
 }

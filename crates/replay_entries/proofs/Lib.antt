@@ -1,2 +1,2 @@
 -- The laws of entries in words.
-pub mod Texts
+pub mod Written

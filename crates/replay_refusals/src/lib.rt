@@ -1,177 +1,132 @@
 // A refusal in words: what `replay` says of its number and of the answer's next two fields.
 #![tactic(auto)]
 
-ghost use Rattle.std.specs.Prelude.{◌+◌, ◌≤◌, length};
-ghost use Rattle.putting.specs.Put.{Put};
-ghost use Rattle.replay_refusals.specs.Refused.{sentence_to_8, sentence_from_9, own_entry, sentence_from_17, sentence as sentence_text, path_text, place_text, refused_text};
+ghost use Rattle.std.specs.Prelude.{Some, ◌≡◌};
+ghost use Rattle.answers.specs.Numbers.{number_of};
+ghost use Rattle.replay_refusals.specs.Refused.{sentence as sentence_text, place_text, refused_text};
 
-use answers::refusal::Refusal;
-use putting::piece;
+use answers::error::{ImageRefused, Refusal, TraceRefused};
+use std::fmt;
 
-fn to_8(out: &mut [u8], at: usize, number: u64) -> usize
-    requires { at + 80 ≤ length out.old }
-    ensures put { Put out.old at (sentence_to_8 number) out.new result }
-    ensures upper_bound { result ≤ at + 80 }
+// The sentence of a refusal: of an own entry it says at place 0 that it has no record.
+#[tactic(auto, unfolding(crate::specs::Refused::sentence, crate::specs::Refused::sentence_to_8, crate::specs::Refused::sentence_from_9, crate::specs::Refused::sentence_from_17, crate::specs::Refused::own_entry))]
+fn sentence(refusal: Refusal, place: u64) -> &'static str
+    ensures { result.now ≡ sentence_text (number_of refusal) place }
 {
-    match number {
-        Refusal::SHORT_MEMORY => return piece(out, at, b"the lent memory is too short"),
-        Refusal::UNSOUND => return piece(out, at, b"the state is not sound"),
-        Refusal::NOT_AN_IMAGE => {
-            return piece(
-                out,
-                at,
-                b"the image has fewer than 5 bytes or does not begin with 4",
-            );
-        }
-        Refusal::IMAGE_VERSION => return piece(out, at, b"the version is neither 1 nor 2"),
-        Refusal::BAD_SETTING => return piece(out, at, b"a setting is out of range"),
-        Refusal::IMAGE_COUNTS => {
-            return piece(
-                out,
-                at,
-                b"the image's node count is wrong, or its length differs from its counts",
-            );
-        }
-        Refusal::BAD_ID => {
-            return piece(
-                out,
-                at,
-                b"an id has a digit not below the base, or a bit above its digits",
-            );
-        }
-        Refusal::ID_TAKEN => return piece(out, at, b"an id is taken already"),
-        _ => return at,
+    match refusal {
+        Refusal::ShortMemory => "the lent memory is too short",
+        Refusal::Unsound => "the state is not sound",
+        Refusal::NotAnImage => "the image has fewer than 5 bytes or does not begin with 4",
+        Refusal::ImageVersion => "the version is neither 1 nor 2",
+        Refusal::BadSetting => "a setting is out of range",
+        Refusal::ImageCounts =>
+            "the image's node count is wrong, or its length differs from its counts",
+        Refusal::BadId => "an id has a digit not below the base, or a bit above its digits",
+        Refusal::IdTaken => "an id is taken already",
+        Refusal::NoSuchNode => "a node number is 0 or above the number of nodes",
+        Refusal::RecordOrder =>
+            "a level or digit is out of range, or the record is below the one before it",
+        Refusal::Full => "there are 64 nodes already",
+        Refusal::GatewayNotInSystem => "the gateway is not settled",
+        Refusal::NotOutstanding => "no request from the first node to the second is outstanding",
+        Refusal::Held => "the receiver of a wait request is not settled",
+        Refusal::JoinInFlight => "a node is not settled",
+        Refusal::ShortOutput => "the memory for the output is too short",
+        Refusal::RecordNeighbor =>
+            "the neighbour is not qualified, is in its entry already, or finds it full",
+        Refusal::OwnEntry if place == 0 => "an own entry has no record",
+        Refusal::OwnEntry => "an own entry does not start with its owner",
+        Refusal::NotHighest => "the node is not the highest-numbered one",
+        Refusal::HasAttached => "the node is settled or notifying",
+        Refusal::HasFailed => "the start or the destination has failed",
+        Refusal::TraceCounts =>
+            "the trace is empty, a path's count is not 1 to 9, or the length does not fit",
+        Refusal::StepNotAllowed =>
+            "the step goes to no node of the lookup's entry, or past the destination",
+        Refusal::UnsoundImage => "the image's state is not sound",
     }
 }
 
-fn from_9(out: &mut [u8], at: usize, number: u64) -> usize
-    requires { at + 80 ≤ length out.old }
-    ensures put { Put out.old at (sentence_from_9 number) out.new result }
-    ensures upper_bound { result ≤ at + 80 }
-{
-    match number {
-        Refusal::NO_SUCH_NODE => {
-            return piece(out, at, b"a node number is 0 or above the number of nodes");
+// What a refusal is about; nothing, where first is 0.
+#[derive(Clone, Copy)]
+struct About {
+    refusal: Refusal,
+    first: u64,
+    second: u64,
+}
+
+impl fmt::Display for About {
+    ghost output = { λ a. Some (place_text (number_of a.refusal) a.first a.second) };
+
+    fn fmt<W: fmt::Write>(&self, f: &mut fmt::Formatter<W>) -> fmt::Result {
+        let first = self.first;
+        let second = self.second;
+        if first == 0 {
+            return Ok(());
         }
-        Refusal::RECORD_ORDER => {
-            return piece(
-                out,
-                at,
-                b"a level or digit is out of range, or the record is below the one before it",
-            );
+        match self.refusal {
+            Refusal::NoSuchNode => write!(f, " at path {first}, place {second}"),
+            Refusal::StepNotAllowed => write!(f, " at path {first}, step {second}"),
+            _ => write!(f, " at record {first}"),
         }
-        Refusal::FULL => return piece(out, at, b"there are 64 nodes already"),
-        Refusal::GATEWAY_NOT_IN_SYSTEM => return piece(out, at, b"the gateway is not settled"),
-        Refusal::NOT_OUTSTANDING => {
-            return piece(
-                out,
-                at,
-                b"no request from the first node to the second is outstanding",
-            );
-        }
-        Refusal::HELD => return piece(out, at, b"the receiver of a wait request is not settled"),
-        Refusal::JOIN_IN_FLIGHT => return piece(out, at, b"a node is not settled"),
-        Refusal::SHORT_OUTPUT => return piece(out, at, b"the memory for the output is too short"),
-        _ => return at,
     }
 }
 
-fn own_entry(out: &mut [u8], at: usize, place: u64) -> usize
-    requires { at + 80 ≤ length out.old }
-    ensures put { Put out.old at (own_entry place) out.new result }
-    ensures upper_bound { result ≤ at + 80 }
-{
-    if place == 0 {
-        return piece(out, at, b"an own entry has no record");
-    }
-    piece(out, at, b"an own entry does not start with its owner")
+// A refusal as a line, with the answer's next two fields.
+#[derive(Clone, Copy, Debug, PartialEq, Eq)]
+pub struct Refused {
+    pub refusal: Refusal,
+    pub first: u64,
+    pub second: u64,
 }
 
-fn from_17(out: &mut [u8], at: usize, number: u64, first: u64) -> usize
-    requires { at + 80 ≤ length out.old }
-    ensures put { Put out.old at (sentence_from_17 number first) out.new result }
-    ensures upper_bound { result ≤ at + 80 }
-{
-    match number {
-        Refusal::RECORD_NEIGHBOR => {
-            return piece(
-                out,
-                at,
-                b"the neighbour is not qualified, is in its entry already, or finds it full",
-            );
+impl fmt::Display for Refused {
+    ghost output = { λ r. Some (refused_text (number_of r.refusal) r.first r.second) };
+
+    fn fmt<W: fmt::Write>(&self, f: &mut fmt::Formatter<W>) -> fmt::Result {
+        let number = u64::from(self.refusal);
+        let about = About {
+            refusal: self.refusal,
+            first: self.first,
+            second: self.second,
+        };
+        let sentence = sentence(self.refusal, self.first);
+        write!(f, "refused {number}{about}: {sentence}\n")
+    }
+}
+
+impl From<Refusal> for Refused {
+    ghost from_gives = { λ r e. e ≡ record { refusal = r; first = 0; second = 0 } };
+
+    fn from(refusal: Refusal) -> Refused {
+        Refused {
+            refusal,
+            first: 0,
+            second: 0,
         }
-        Refusal::OWN_ENTRY => return own_entry(out, at, first),
-        Refusal::NOT_HIGHEST => return piece(out, at, b"the node is not the highest-numbered one"),
-        Refusal::HAS_ATTACHED => return piece(out, at, b"the node is settled or notifying"),
-        Refusal::HAS_FAILED => return piece(out, at, b"the start or the destination has failed"),
-        Refusal::TRACE_COUNTS => {
-            return piece(
-                out,
-                at,
-                b"the trace is empty, a path's count is not 1 to 9, or the length does not fit",
-            );
+    }
+}
+
+impl From<ImageRefused> for Refused {
+    ghost from_gives = { λ i e. e ≡ record { refusal = i.refusal; first = i.place; second = 0 } };
+
+    fn from(image: ImageRefused) -> Refused {
+        Refused {
+            refusal: image.refusal,
+            first: image.place,
+            second: 0,
         }
-        Refusal::STEP_NOT_ALLOWED => {
-            return piece(
-                out,
-                at,
-                b"the step goes to no node of the lookup's entry, or past the destination",
-            );
+    }
+}
+
+impl From<TraceRefused> for Refused {
+    ghost from_gives = { λ t e. e ≡ record { refusal = t.refusal; first = t.path; second = t.place } };
+
+    fn from(trace: TraceRefused) -> Refused {
+        Refused {
+            refusal: trace.refusal,
+            first: trace.path,
+            second: trace.place,
         }
-        Refusal::UNSOUND_IMAGE => return piece(out, at, b"the image's state is not sound"),
-        _ => return at,
     }
-}
-
-fn sentence(out: &mut [u8], at: usize, number: u64, first: u64) -> usize
-    requires { at + 80 ≤ length out.old }
-    ensures put { Put out.old at (sentence_text number first) out.new result }
-    ensures upper_bound { result ≤ at + 80 }
-{
-    if number < 9 {
-        return to_8(out, at, number);
-    }
-    if number < 17 {
-        return from_9(out, at, number);
-    }
-    from_17(out, at, number, first)
-}
-
-// A path, and a place or step of it.
-fn in_path(out: &mut [u8], at: usize, label: &[u8], path: u64, k: u64) -> usize
-    requires { at + length label.now + 49 ≤ length out.old }
-    ensures put { Put out.old at (path_text label.now path k) out.new result }
-    ensures upper_bound { result ≤ at + length label.now + 49 }
-{
-    let end = text::labelled(out, at, b" at path ", path);
-    text::labelled(out, end, label, k)
-}
-
-// What the refusal is about; nothing, where first is 0.
-fn at_place(out: &mut [u8], at: usize, number: u64, first: u64, second: u64) -> usize
-    requires { at + 57 ≤ length out.old }
-    ensures put { Put out.old at (place_text number first second) out.new result }
-    ensures upper_bound { result ≤ at + 57 }
-{
-    if first == 0 {
-        return at;
-    }
-    match number {
-        Refusal::NO_SUCH_NODE => return in_path(out, at, b", place ", first, second),
-        Refusal::STEP_NOT_ALLOWED => return in_path(out, at, b", step ", first, second),
-        _ => return text::labelled(out, at, b" at record ", first),
-    }
-}
-
-// Puts the refusal's line at the start of out, and answers how many bytes it has.
-pub fn put(out: &mut [u8], number: u64, first: u64, second: u64) -> usize
-    requires { 168 ≤ length out.old }
-    ensures put { Put out.old 0 (refused_text number first second) out.new result }
-    ensures upper_bound { result ≤ 168 }
-{
-    let place = text::labelled(out, 0, b"refused ", number);
-    let colon = at_place(out, place, number, first, second);
-    let words = piece(out, colon, b": ");
-    let end = sentence(out, words, number, first);
-    piece(out, end, b"\n")
 }

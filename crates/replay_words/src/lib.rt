@@ -1,4 +1,4 @@
-// What `replay` says of an answer, put into lent memory.
+// What `replay` says of an answer.
 #![tactic(auto)]
 
-pub mod answer;
+pub mod said;

@@ -4,14 +4,14 @@ use mathlib.Core.Path.{◌≡◌, refl}
 use Rattle.calls.specs.declared.Call.TheVariants as call
 use Rattle.model.specs.Memory.{has_node, add_node}
 use Rattle.text.specs.Ascii.{ascii}
-use Rattle.script.specs.Words.{is_blank, is_solid, is_hash, until, before_comment, from_word, to_blank, from_blank, first_word, behind_word, is_empty, wordless, same_text, starts, after_words, behind}
+use Rattle.script.specs.Words.{is_blank, is_solid, is_hash, before_comment, from_word, to_blank, from_blank, first_word, behind_word, is_empty, wordless, same_text, starts, after_words, behind}
 use Rattle.script.specs.Numbers.{digit, are_digits, value_from, is_number, value_of, number_of, hexadecimal_of}
 use Rattle.script.specs.Failed.{add_number, add_words, failed_in, failed_of}
 use Rattle.script.specs.Commands.{ends_with, of_node, of_file, found, begin, deliver, lookup, survey, save, file_or_shown, command_of}
 use Rattle.script.specs.declared.command.Command.TheVariants.{Nothing, Unknown, Call, Fill, Save, Trace, Panel, Table}
 
 unfoldable computing : Unit {0}
-unfolding is_blank is_solid is_hash until before_comment from_word to_blank from_blank first_word behind_word is_empty wordless same_text starts after_words behind digit are_digits value_from is_number value_of number_of hexadecimal_of has_node add_node add_number add_words failed_in failed_of ends_with of_node of_file found begin deliver lookup survey save file_or_shown command_of
+unfolding is_blank is_solid is_hash before_comment from_word to_blank from_blank first_word behind_word is_empty wordless same_text starts after_words behind digit are_digits value_from is_number value_of number_of hexadecimal_of has_node add_node add_number add_words failed_in failed_of ends_with of_node of_file found begin deliver lookup survey save file_or_shown command_of
 computing = tt
 
 pub founding : command_of (ascii "found 16 8 4 0fFfffffF") ≡ Call (call.Found 16 8 4 4294967295)

@@ -1,48 +1,30 @@
 -- Laws of the failed nodes that a text names. Assumes nothing.
+use Rattle.std.specs.Prelude.{Option, Some, None}
 use Prim.Native.Nat.{ℕ, zero, suc, ◌≤◌, ◌<◌}
 use mathlib.Core.Path.{◌≡◌, refl, sym, ap, ◌∙◌}
 use mathlib.Core.Bool.{Bool, true, false, not}
 use mathlib.Core.List.{List}
 use native.Mathlib.Omega.{arith}
 use lib.ListN.{length}
-use borrow.Author.Tests.{le-leb, lt-leb, not-true, not-false}
-use Rattle.model.specs.Memory.{add_node}
-use Rattle.text.specs.Ascii.{ascii}
-use Rattle.script.specs.Words.{first_word, behind_word, wordless, starts}
+use borrow.Author.Tests.{not-true, not-false}
+use Rattle.script.specs.Words.{first_word, behind_word, wordless}
 use Rattle.script.specs.Numbers.{decimal_of}
-use Rattle.script.specs.Failed.{add_number, add_words, failed_in, failed_of}
-use Rattle.script.specs.declared.numbers.Number.{Number}
-use Rattle.script.specs.declared.numbers.Number.TheVariants as number
+use Rattle.script.specs.Failed.{add_number, add_words, failed_in}
 use Rattle.script.proofs.Cuts.{word_takes}
-
--- ---- one number more
-
-module _ (failed u : ℕ) where
-  pub number_low : u < 1 → failed ≡ add_number failed u
-  unfolding add_number
-  number_low l = simp (lt-leb 1 u l)
-
-  pub number_high : 64 < u → failed ≡ add_number failed u
-  unfolding add_number
-  number_high l = simp (le-leb 1 u (omega arith), lt-leb u 64 l)
-
-  pub number_added : (r : ℕ) → 1 ≤ u → u ≤ 64 → r ≡ add_node failed u → r ≡ add_number failed u
-  unfolding add_number
-  number_added r l g e = simp (le-leb 1 u l, le-leb u 64 g) e
 
 -- ---- the words of a text, one after another
 
-none_left : (n : ℕ) (text : List ℕ) (failed : ℕ) → wordless text ≡ true → add_words n text failed ≡ number.Is failed
+none_left : (n : ℕ) (text : List ℕ) (failed : ℕ) → wordless text ≡ true → add_words n text failed ≡ Some failed
 unfolding add_words
 none_left zero text failed h = refl
 none_left (suc n) text failed h = rw h
 
 module _ (n : ℕ) (text : List ℕ) (failed : ℕ) (h : wordless text ≡ false) where
-  no_number : decimal_of (first_word text) ≡ number.Not → add_words (suc n) text failed ≡ number.Not
+  no_number : decimal_of (first_word text) ≡ None → add_words (suc n) text failed ≡ None
   unfolding add_words
   no_number q = rw (h, q)
 
-  next_number : (u : ℕ) → decimal_of (first_word text) ≡ number.Is u
+  next_number : (u : ℕ) → decimal_of (first_word text) ≡ Some u
       → add_words (suc n) text failed ≡ add_words n (behind_word text) (add_number failed u)
   unfolding add_words
   next_number u q = rw (h, q)
@@ -70,13 +52,13 @@ all_words (suc n) (suc m) text failed l g =
     refl
     (λ u (t : length (behind_word text) < length text). all_words n m (behind_word text) (add_number failed u) (omega arith) (omega arith))
   where
-    go : (b : Bool) (x : Number) → wordless text ≡ b → decimal_of (first_word text) ≡ x
+    go : (b : Bool) (x : Option ℕ) → wordless text ≡ b → decimal_of (first_word text) ≡ x
         → ((u : ℕ) → length (behind_word text) < length text
         → add_words n (behind_word text) (add_number failed u) ≡ add_words m (behind_word text) (add_number failed u))
         → add_words (suc n) text failed ≡ add_words (suc m) text failed
     go true x h q more = none_left (suc n) text failed h ∙ sym (none_left (suc m) text failed h)
-    go false number.Not h q more = no_number n text failed h q ∙ sym (no_number m text failed h q)
-    go false (number.Is u) h q more = next_number n text failed h u q ∙ more u (word_takes text h) ∙ sym (next_number m text failed h u q)
+    go false None h q more = no_number n text failed h q ∙ sym (no_number m text failed h q)
+    go false (Some u) h q more = next_number n text failed h u q ∙ more u (word_takes text h) ∙ sym (next_number m text failed h u q)
 
 -- ---- the code's loop, whose set so far is `failed` with `rest` still to read; b, w, x, s and r are what it has computed
 
@@ -86,7 +68,7 @@ failed_holds text = refl
 
 module _ (text : List ℕ) (failed : ℕ) (rest : List ℕ) (e : failed_in text ≡ add_words (length rest) rest failed) (b : Bool)
     (p : b ≡ wordless rest) where
-  pub failed_ends : not b ≡ false → number.Is failed ≡ failed_in text
+  pub failed_ends : not b ≡ false → Some failed ≡ failed_in text
   failed_ends h = sym (e ∙ none_left (length rest) rest failed (sym p ∙ not-false b h))
 
   module _ (h : not b ≡ true) where
@@ -96,41 +78,20 @@ module _ (text : List ℕ) (failed : ℕ) (rest : List ℕ) (e : failed_in text 
     pub rest_shorter : (r : List ℕ) → r ≡ behind_word rest → length r < length rest
     rest_shorter r q = rw q (word_takes rest a_word)
 
-    module _ (w : List ℕ) (x : Number) (q : w ≡ first_word rest) (d : x ≡ decimal_of w) where
+    module _ (w : List ℕ) (x : Option ℕ) (q : w ≡ first_word rest) (d : x ≡ decimal_of w) where
       read : decimal_of (first_word rest) ≡ x
       read = ap decimal_of (sym q) ∙ sym d
 
       more : failed_in text ≡ add_words (suc (length rest)) rest failed
       more = e ∙ all_words (length rest) (suc (length rest)) rest failed (omega arith) (omega arith)
 
-      pub failed_leaves : x ≡ number.Not → number.Not ≡ failed_in text
+      pub failed_leaves : x ≡ None → None ≡ failed_in text
       failed_leaves o = sym (more ∙ no_number (length rest) rest failed a_word (read ∙ o))
 
-      pub failed_goes : (u s : ℕ) (r : List ℕ) → x ≡ number.Is u → s ≡ add_number failed u → r ≡ behind_word rest
+      pub failed_goes : (u s : ℕ) (r : List ℕ) → x ≡ Some u → s ≡ add_number failed u → r ≡ behind_word rest
           → failed_in text ≡ add_words (length r) r s
       failed_goes u s r o f z =
           let l = rest_shorter (behind_word rest) refl in
           more ∙ next_number (length rest) rest failed a_word u (read ∙ o)
           ∙ all_words (length rest) (length (behind_word rest)) (behind_word rest) (add_number failed u) (omega arith) (omega arith)
           ∙ rw (z, f)
-
--- ---- `without` and its numbers
-
-module _ (text : List ℕ) (a : Bool) (p : a ≡ wordless text) where
-  pub failed_none : a ≡ true → number.Is 0 ≡ failed_of text
-  unfolding failed_of
-  failed_none h = rw (sym p ∙ h)
-
-  module _ (h : a ≡ false) (b : Bool) (p₂ : b ≡ starts text (ascii "without")) where
-    pub failed_not : not b ≡ true → number.Not ≡ failed_of text
-    unfolding failed_of
-    failed_not q = rw (sym p ∙ h, sym p₂ ∙ not-true b q)
-
-    module _ (q : not b ≡ false) (r : List ℕ) (d : Bool) (z : r ≡ behind_word text) (p₃ : d ≡ wordless r) where
-      pub failed_bare : d ≡ true → number.Not ≡ failed_of text
-      unfolding failed_of
-      failed_bare o = rw (sym p ∙ h, sym p₂ ∙ not-false b q, ← z, sym p₃ ∙ o)
-
-      pub failed_named : (x : Number) → d ≡ false → x ≡ failed_in r → x ≡ failed_of text
-      unfolding failed_of
-      failed_named x o e = rw (sym p ∙ h, sym p₂ ∙ not-false b q, ← z, sym p₃ ∙ o) e

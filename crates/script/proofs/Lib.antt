@@ -1,8 +1,6 @@
 -- The laws of a line's words, numbers and command.
-pub mod Runs
 pub mod Texts
 pub mod Cuts
 pub mod Values
 pub mod FailedNodes
-pub mod Parsed
 pub mod Examples

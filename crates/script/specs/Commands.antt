@@ -1,24 +1,21 @@
 -- A line of a script as a command.
-use Rattle.std.specs.Prelude.{ℕ, cond, List}
+use Rattle.std.specs.Prelude.{ℕ, cond, List, Option, Some, None}
 use Rattle.calls.specs.declared.Call.TheVariants as call
 use Rattle.text.specs.Ascii.{ascii}
 use Rattle.script.specs.Words.{behind, word, ends, named}
 use Rattle.script.specs.Numbers.{if_number, decimal_of, hexadecimal_of}
 use Rattle.script.specs.Failed.{failed_of}
-use Rattle.script.specs.declared.numbers.Number.{Number}
-use Rattle.script.specs.declared.numbers.Id.{Id}
-use Rattle.script.specs.declared.numbers.Id.TheVariants as ident
 use Rattle.script.specs.declared.command.Command.{Command}
 use Rattle.script.specs.declared.command.Command.TheVariants.{Nothing, Unknown, Call, Fill, Save, Load, Trace, Panel, Table}
 
 -- what is made of a number or an id; where there is none, the line is not understood
 
-abbrev pub of_number : Number → (ℕ → Command) → Command
+abbrev pub of_number : Option ℕ → (ℕ → Command) → Command
 of_number x make = if_number x make Unknown
 
-abbrev pub of_id : Id → (ℕ → Command) → Command
-of_id (ident.Is n) make = make n
-of_id ident.Not make = Unknown
+abbrev pub of_id : Option ℕ → (ℕ → Command) → Command
+of_id (Some n) make = make n
+of_id None make = Unknown
 
 -- the same of word k
 

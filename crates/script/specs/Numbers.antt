@@ -1,10 +1,6 @@
 -- A word as a number. One that the bits do not hold is none: no number is cut off.
-use Rattle.std.specs.Prelude.{ℕ, ◌+◌, ◌*◌, ◌-◌, Bool, true, not, cond, ◌&&◌, List, [], ◌∷◌, ltb, leb}
+use Rattle.std.specs.Prelude.{ℕ, ◌+◌, ◌*◌, ◌-◌, Bool, true, not, cond, ◌&&◌, List, [], ◌∷◌, ltb, leb, Option, Some, None}
 use Rattle.script.specs.Words.{is_empty}
-use Rattle.script.specs.declared.numbers.Number.{Number}
-use Rattle.script.specs.declared.numbers.Number.TheVariants as number
-use Rattle.script.specs.declared.numbers.Id.{Id}
-use Rattle.script.specs.declared.numbers.Id.TheVariants as ident
 
 -- a byte's code is from one to another
 abbrev pub between : ℕ → ℕ → ℕ → Bool
@@ -32,21 +28,21 @@ unfoldable pub value_of : ℕ → List ℕ → ℕ
 value_of base w = value_from base 0 w
 
 -- a word as a number below 2^64 in a base
-unfoldable pub number_of : ℕ → List ℕ → Number
-number_of base w = cond (is_number base w && ltb (value_of base w) 18446744073709551616) (number.Is (value_of base w)) number.Not
+unfoldable pub number_of : ℕ → List ℕ → Option ℕ
+number_of base w = cond (is_number base w && ltb (value_of base w) 18446744073709551616) (Some (value_of base w)) None
 
-abbrev pub decimal_of : List ℕ → Number
+abbrev pub decimal_of : List ℕ → Option ℕ
 decimal_of w = number_of 10 w
 
 -- a word as an id: a number below 2^32 in hexadecimal
-unfoldable pub hexadecimal_of : List ℕ → Id
-hexadecimal_of w = cond (is_number 16 w && ltb (value_of 16 w) 4294967296) (ident.Is (value_of 16 w)) ident.Not
+unfoldable pub hexadecimal_of : List ℕ → Option ℕ
+hexadecimal_of w = cond (is_number 16 w && ltb (value_of 16 w) 4294967296) (Some (value_of 16 w)) None
 
 -- a number with one more digit behind it, where it stays below 2^64
-unfoldable pub with_digit : ℕ → ℕ → ℕ → Number
-with_digit base n d = cond (ltb d base && ltb (n * base + d) 18446744073709551616) (number.Is (n * base + d)) number.Not
+unfoldable pub with_digit : ℕ → ℕ → ℕ → Option ℕ
+with_digit base n d = cond (ltb d base && ltb (n * base + d) 18446744073709551616) (Some (n * base + d)) None
 
 -- what is made of a number, or of none
-abbrev pub if_number : {A : Type 0} → Number → (ℕ → A) → A → A
-if_number (number.Is n) make none = make n
-if_number number.Not make none = none
+abbrev pub if_number : {A : Type 0} → Option ℕ → (ℕ → A) → A → A
+if_number (Some n) make none = make n
+if_number None make none = none

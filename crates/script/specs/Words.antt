@@ -1,5 +1,5 @@
 -- The words of a line. A line is a list of bytes: blanks stand between its words, and a comment ends it.
-use Rattle.std.specs.Prelude.{ℕ, zero, suc, ◌-◌, Bool, true, false, not, cond, ◌&&◌, ◌||◌, List, [], ◌∷◌, length, take, drop, eqb, leb}
+use Rattle.std.specs.Prelude.{ℕ, zero, suc, ◌-◌, Bool, true, false, not, cond, ◌&&◌, ◌||◌, List, [], ◌∷◌, length, take, drop, eqb, leb, position, unwrap_or}
 
 -- a space, a tab or a carriage return
 unfoldable pub is_blank : ℕ → Bool
@@ -14,9 +14,8 @@ unfoldable pub is_hash : ℕ → Bool
 is_hash b = eqb b 35
 
 -- how many bytes stand before the first that passes a test; all, where none does
-unfoldable pub until : (ℕ → Bool) → List ℕ → ℕ
-until test [] = 0
-until test (b ∷ bs) = let more = until test bs in cond (test b) 0 (suc more)
+abbrev pub until : (ℕ → Bool) → List ℕ → ℕ
+until test s = unwrap_or (position test s) (length s)
 
 -- what stands before the first `#`
 unfoldable pub before_comment : List ℕ → List ℕ

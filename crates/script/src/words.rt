@@ -1,87 +1,67 @@
-// The words of a line: blanks stand between them, and a comment ends it. Nothing here asks anything of its caller: a word that is not
-// there is empty.
-ghost use Rattle.std.specs.Prelude.{◌≡◌, ◌≤◌, length};
-ghost use Rattle.script.specs.Words.{is_blank, until, from_word, first_word, behind_word, wordless, starts, after_words, behind, word, ends, named, part};
-ghost use Rattle.script.specs.Marks.{marked};
+// The words of a line: blanks stand between them, and a comment ends it. Nothing here asks
+// anything of its caller: a word that is not there is empty.
+ghost use Rattle.std.specs.Prelude.{◌≡◌, position};
+ghost use Rattle.script.specs.Words.{is_blank, is_solid, is_hash, from_word, first_word, behind_word, wordless, starts, after_words, behind, word, ends, named, part};
 
+#[tactic(auto, unfolding(crate::specs::Words::part))]
 pub fn part(s: &[u8], from: usize, to: usize) -> &[u8]
     ensures { result.now ≡ part s.now from to }
 {
-    if to > s.len() {
-        return &s[..0];
-    }
-    if from > to {
-        return &s[..0];
-    }
-    &s[from..to]
+    s.get(from..to).unwrap_or(&s[..0])
 }
 
+#[tactic(auto, unfolding(crate::specs::Words::is_blank))]
 fn is_blank(b: u8) -> bool
     ensures { result ≡ is_blank b }
 {
-    if b == b' ' {
-        return true;
-    }
-    if b == b'\t' {
-        return true;
-    }
-    b == b'\r'
+    matches!(b, b' ' | b'\t' | b'\r')
 }
 
-// What is looked for in a line: a blank, a byte that is none, or the sign of a comment.
-#[derive(Clone, Copy)]
-enum Mark {
-    Blank,
-    Solid,
-    Hash,
-}
-
-fn has_mark(mark: Mark, b: u8) -> bool
-    ensures { result ≡ marked mark b }
+#[tactic(auto, unfolding(crate::specs::Words::is_solid))]
+fn first_solid(s: &[u8]) -> Option<usize>
+    ensures { result ≡ position is_solid s.now }
 {
-    match mark {
-        Mark::Blank => return is_blank(b),
-        Mark::Solid => return !is_blank(b),
-        Mark::Hash => return b == b'#',
-    }
+    s.iter().position(|b| !is_blank(*b))
 }
 
-// The place of the first byte with this mark; the end where there is none.
-fn until(s: &[u8], mark: Mark) -> usize
-    ensures { (result ≡ until (marked mark) s.now) × (result ≤ length s.now) }
+fn first_blank(s: &[u8]) -> Option<usize>
+    ensures { result ≡ position is_blank s.now }
 {
-    let mut at = 0;
-    while at < s.len() {
-        if has_mark(mark, s[at]) {
-            return at;
-        }
-        at += 1;
-    }
-    at
+    s.iter().position(|b| is_blank(*b))
 }
 
+#[tactic(auto, unfolding(crate::specs::Words::is_hash))]
+fn first_hash(s: &[u8]) -> Option<usize>
+    ensures { result ≡ position is_hash s.now }
+{
+    s.iter().position(|b| *b == b'#')
+}
+
+#[tactic(auto, unfolding(crate::specs::Words::from_word))]
 fn from_word(text: &[u8]) -> &[u8]
     ensures { result.now ≡ from_word text.now }
 {
-    let at = until(text, Mark::Solid);
+    let at = first_solid(text).unwrap_or(text.len());
     &text[at..]
 }
 
 // A text's first word, empty where there is none.
+#[tactic(auto, unfolding(crate::specs::Words::first_word, crate::specs::Words::to_blank))]
 pub fn first_word(text: &[u8]) -> &[u8]
     ensures { result.now ≡ first_word text.now }
 {
     let word = from_word(text);
-    let end = until(word, Mark::Blank);
+    let end = first_blank(word).unwrap_or(word.len());
     &word[..end]
 }
 
 // What stands behind a text's first word.
+#[tactic(auto, unfolding(crate::specs::Words::behind_word, crate::specs::Words::from_blank))]
 pub fn behind_word(text: &[u8]) -> &[u8]
     ensures { result.now ≡ behind_word text.now }
 {
     let word = from_word(text);
-    let at = until(word, Mark::Blank);
+    let at = first_blank(word).unwrap_or(word.len());
     &word[at..]
 }
 
@@ -89,7 +69,7 @@ pub fn behind_word(text: &[u8]) -> &[u8]
 pub fn wordless(text: &[u8]) -> bool
     ensures { result ≡ wordless text.now }
 {
-    first_word(text).len() == 0
+    first_word(text).is_empty()
 }
 
 // The text's first word is this one.
@@ -104,11 +84,8 @@ fn after_words(text: &[u8], k: u64) -> &[u8]
     ensures { result.now ≡ after_words k text.now }
 {
     let mut rest = text;
-    let mut left = k;
-    while left > 0 {
-        let next = behind_word(rest);
-        rest = next;
-        left -= 1;
+    for _ in 0..k {
+        rest = behind_word(rest);
     }
     rest
 }
@@ -117,7 +94,7 @@ fn after_words(text: &[u8], k: u64) -> &[u8]
 pub fn behind(line: &[u8], k: u64) -> &[u8]
     ensures { result.now ≡ behind k line.now }
 {
-    let end = until(line, Mark::Hash);
+    let end = first_hash(line).unwrap_or(line.len());
     after_words(&line[..end], k)
 }
 

@@ -1,3 +1,2 @@
--- The laws of text put together piece by piece.
-pub mod Decimals
-pub mod Pieces
+-- The laws by which std writes what the definitions say.
+pub mod Numerals

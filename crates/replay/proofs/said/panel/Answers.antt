@@ -1,16 +1,17 @@
--- `panel`: refused, or shown on a sound state. Assumes nothing.
-use native.Mathlib.Omega.{arith}
-use Rattle.replay.proofs.Turns.{panel_sound, says_refused, says_shown}
+-- `panel`: the panel of a sound network, or the refusal. Assumes nothing.
+use mathlib.Core.Path.{ap, ◌∙◌}
+use Rattle.answers.specs.Numbers.{number_of}
+use Rattle.replay_panel.specs.PanelText.{panel_text}
+use Rattle.replay_refusals.specs.Refused.{refused_text}
+use Rattle.replay_refusals.specs.declared.Refused.{Refused}
+use Rattle.replay.proofs.Turns.{says_refused, says_shown, written}
 use Rattle.replay.proofs.said.panel.Goals as goal
 
-pub returns-then-r-ne0 : goal.returns-then-r-ne0
-returns-then-r-ne0 c =
-    record { put = search says_refused; upper_bound = omega arith }
+pub returns-in-Ok : goal.returns-in-Ok
+returns-in-Ok g c =
+    let j = c.in-Ok.ensures in
+    written _ _ _ _ _ (ap panel_text j.ok.0 ∙ says_shown _ _ j.refusal) c.write.ensures.bytes
 
-pub put-requires-2 : goal.put-requires-2
-put-requires-2 c =
-    record { sound = panel_sound _ _ c.state_refusal-r.ensures c.if-r-ne0.false; in_bounds = omega arith }
-
-pub returns : goal.returns
-returns c =
-    record { put = search says_shown; upper_bound = omega arith }
+pub returns-in-Err : goal.returns-in-Err
+returns-in-Err g c =
+    written _ _ _ _ _ (ap (λ (x : Refused). refused_text (number_of x.refusal) x.first x.second) c.from-refused.ensures ∙ says_refused _ _ _ c.in-Err.ensures.refusal) c.write-in-Err.ensures.bytes

@@ -1,17 +1,16 @@
--- `table`: refused, or shown on a sound state. Assumes nothing.
-use native.Mathlib.Omega.{arith}
-use Rattle.replay.proofs.Turns.{shows, says_refused, says_shown}
+-- `table`: the table of a node, or the refusal. Assumes nothing.
+use mathlib.Core.Path.{ap, ◌∙◌}
+use Rattle.answers.specs.Numbers.{number_of}
+use Rattle.replay_refusals.specs.Refused.{refused_text}
+use Rattle.replay_refusals.specs.declared.Refused.{Refused}
+use Rattle.replay.proofs.Turns.{says_refused, says_shown, written}
 use Rattle.replay.proofs.said.table.Goals as goal
 
-pub returns-then-r-ne0 : goal.returns-then-r-ne0
-returns-then-r-ne0 c =
-    record { put = search says_refused; upper_bound = omega arith }
+pub returns-in-Ok : goal.returns-in-Ok
+returns-in-Ok g c =
+    let j = c.in-Ok.ensures in
+    written _ _ _ _ _ (rw (j.ok.0, j.ok.1, j.ends.0.0) (says_shown _ _ j.refusal)) c.write.ensures.bytes
 
-pub put-requires-2 : goal.put-requires-2
-put-requires-2 c =
-    let s = shows _ _ _ c.refusal-r.ensures c.if-r-ne0.false in
-    record { sound = s.0; node = s.1; in_bounds = omega arith }
-
-pub returns : goal.returns
-returns c =
-    record { put = search says_shown; upper_bound = omega arith }
+pub returns-in-Err : goal.returns-in-Err
+returns-in-Err g c =
+    written _ _ _ _ _ (ap (λ (x : Refused). refused_text (number_of x.refusal) x.first x.second) c.from-refused.ensures ∙ says_refused _ _ _ c.in-Err.ensures.refusal) c.write-in-Err.ensures.bytes

@@ -1,6 +1,14 @@
--- `verdict`: the words of the public call. Assumes nothing.
-use Rattle.replay_calls.proofs.Ones.{bit_words}
+-- `verdict`: what is said of the public call, or its refusal. Assumes nothing.
+use mathlib.Core.Path.{refl}
+use Rattle.replay_words.specs.Said.{said, taken_text, judged_text}
+use Rattle.replay_calls.proofs.Ones.{refused_shown, refused_says, shown_of}
 use Rattle.replay_calls.proofs.one.verdict.Goals as goal
 
+pub returns-in_err-short : goal.returns-in_err-short
+returns-in_err-short c =
+    record { result_after = refused_shown _ _ c.from_residual.ensures _ _ _ _ c.in_err-short.ensures refl; says = λ d file. refused_says _ _ c.from_residual.ensures _ _ _ }
+
 pub returns : goal.returns
-returns c = search bit_words
+unfolding said taken_text judged_text
+returns c =
+    record { result_after = shown_of _ _ _ _ _ c.in_ok-short.ensures refl; says = λ d file. refl }

@@ -1,6 +1,14 @@
--- `withdraw`: the words of the public call. Assumes nothing.
-use Rattle.replay_calls.proofs.Ones.{words_of}
+-- `withdraw`: what is said of the public call, or its refusal. Assumes nothing.
+use mathlib.Core.Path.{refl}
+use Rattle.replay_words.specs.Said.{said, taken_text}
+use Rattle.replay_calls.proofs.Ones.{refused_shown, refused_says, shown_of}
 use Rattle.replay_calls.proofs.one.withdraw.Goals as goal
 
+pub returns-in_err-withdraw : goal.returns-in_err-withdraw
+returns-in_err-withdraw c =
+    record { result_after = refused_shown _ _ c.from_residual.ensures _ _ _ _ c.in_err-withdraw.ensures refl; says = λ d file. refused_says _ _ c.from_residual.ensures _ _ _ }
+
 pub returns : goal.returns
-returns c = search words_of
+unfolding said taken_text
+returns c =
+    record { result_after = shown_of _ _ _ _ _ c.in_ok-withdraw.ensures refl; says = λ d file. refl }

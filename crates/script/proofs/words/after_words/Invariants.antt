@@ -1,9 +1,7 @@
-use mathlib.Core.Path.{◌≡◌}
+-- what stands behind k words of the text stands behind the words left of the rest
+use Rattle.std.proofs.Common.{◌≡◌, ◌-◌}
 use Rattle.script.specs.Words.{after_words}
 use Rattle.script.proofs.words.after_words.Given as goal
 
-abbrev pub invariant-loop-left : goal.invariant-loop-left
-invariant-loop-left l = after_words l.k l.text ≡ after_words l.left l.rest
-
-abbrev pub decreases-loop-left : goal.decreases-loop-left
-decreases-loop-left l = l.left
+abbrev pub invariant-loop : goal.invariant-loop
+invariant-loop l = after_words l.k l.text ≡ after_words (l.k - l.counter) l.rest

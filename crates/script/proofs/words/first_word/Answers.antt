@@ -3,4 +3,4 @@ use Rattle.script.proofs.Cuts.{first_word_is}
 use Rattle.script.proofs.words.first_word.Goals as goal
 
 pub returns : goal.returns
-returns c = search first_word_is
+returns c = first_word_is _ _ _ c.from_word-word.ensures (cc (c.unwrap_or-end.ensures, c.first_blank.ensures))
