@@ -1,2 +1,3 @@
--- The fill program's output.
+-- The fill program's output, and what it says as text.
 pub mod Lines
+pub mod Reports

@@ -1,13 +1,15 @@
 -- The fill program's output for an image, and what it leaves in its memory (document 02, Ticket 10).
-use Rattle.std.specs.Prelude.{ℕ, ◌+◌, ◌*◌, cond, List, ◌++◌, eqb, get_or}
+use Rattle.std.specs.Prelude.{ℕ, Result, Ok, Err, ◌+◌, ◌*◌, cond, List, ◌++◌, eqb, get_or}
 use Rattle.model.specs.Loops.{join_below}
 use Rattle.model.specs.Memory.{Memory}
 use Rattle.model.specs.Calls.{Outcome, read_call, fill_call}
 use Rattle.state.specs.Lent.{memory}
 use Rattle.text.specs.Ascii.{ascii}
 use Rattle.text.specs.Lines.{labelled, line}
+use Rattle.answers.specs.Numbers.{number_of}
+use Rattle.answers.specs.declared.error.Refusal.{Refusal}
 use Rattle.additions.specs.Listed.{blank}
-use Rattle.image_program.specs.Printed.{answer_text, refused_line, image_text}
+use Rattle.image_program.specs.Printed.{line_one, answer_text, refused_line, image_text}
 
 -- `record` and its numbers: node, level, digit and neighbour
 unfoldable pub record_line : ℕ → ℕ → ℕ → ℕ → List ℕ
@@ -24,6 +26,11 @@ added_lines n list = line (ascii "added ") n ++ join_below n (record_at list)
 -- a filling's answer as text; the list stands at the start of its output
 abbrev pub fill_text : List ℕ → List ℕ → List ℕ
 fill_text answer out = answer_text answer (added_lines (get_or answer 1 0) out)
+
+-- what a filling that answered this is, as text
+abbrev pub done_text : Result ℕ Refusal → List ℕ → List ℕ
+done_text (Ok n) list = line_one 0 ++ added_lines n list
+done_text (Err r) list = line_one (number_of r)
 
 -- the filling of a network that was read
 abbrev pub fills_to : Memory → Outcome

@@ -2,13 +2,12 @@
 // the filled image there, of the version that it was read in.
 #![tactic(auto)]
 
-ghost use Rattle.std.specs.Prelude.{◌≡◌, length};
+ghost use Rattle.std.specs.Prelude.{◌≤◌, length};
 
-mod lines;
+mod added;
+mod judge;
+mod report;
 
-use image_fields::header;
-use input::read_full;
-use state::lent::{STATE_LENGTH, TABLES_LENGTH};
 use std::env::FillError;
 use std::rt::{Env, Files};
 use std::{fs, io, str};
@@ -31,6 +30,16 @@ fn keep(rt: &(impl Env + Files), image: &[u8]) -> bool {
     }
 }
 
+// Puts the image of this version into the memory, and answers its length in bytes, 0 where that is refused.
+fn put_image(state: &[u64], tables: &[u8], version: u64, image: &mut [u8]) -> usize
+    ensures { result ≤ length image.new }
+{
+    match engine::writing::write(state, tables, version, image) {
+        Ok(length) => length,
+        Err(_) => 0,
+    }
+}
+
 // Writes the image of this version to the file that the argument names.
 fn save(
     rt: &(impl Env + Files + Print),
@@ -39,38 +48,27 @@ fn save(
     version: u64,
 ) -> io::Result<()> {
     let mut image = [0u8; 25226];
-    let written = engine::writing::write(state, tables, version, &mut image);
-    let length = written.bytes as usize;
+    let length = put_image(state, tables, version, &mut image);
     if !keep(rt, &image[..length]) {
         rt.write_all(b"the file cannot be written\n")?;
     }
     Ok(())
 }
 
-// The memory for the lines.
-fn room() -> [u8; 524288]
-    ensures { 524288 ≡ length result }
-{
-    [0; 524288]
-}
-
-fn run(rt: &(impl Env + Files + Input + Print), named: bool) -> io::Result<()> {
-    let mut image = [0u8; 65536];
-    let n = read_full(&mut rt.reader(), &mut image);
-    let mut state = [0u64; STATE_LENGTH];
-    let mut tables = [0u8; TABLES_LENGTH];
-    let mut out = room();
-    let printed = lines::lines(&mut state, &mut tables, &image[..n], &mut out);
-    let is_printed = rt.write_all(&out[..printed.end]);
-    if named && printed.refusal == 0 {
-        save(rt, &state, &tables, header::byte(&image, 1) as u64)?;
-    }
-    is_printed
-}
-
 fn main(rt: HostRuntime) -> io::Result<()> {
     if is_given(&rt, 2) {
         return rt.write_all(b"one file at most\n");
     }
-    run(&rt, is_given(&rt, 1))
+    let named = is_given(&rt, 1);
+    judge::judge(
+        &mut rt.stdin(),
+        &mut rt.stdout(),
+        |state, tables, version| {
+            if named {
+                save(&rt, state, tables, version)
+            } else {
+                Ok(())
+            }
+        },
+    )
 }

@@ -1,10 +1,8 @@
--- Line one, and what is printed for an answer and for an image. Assumes nothing.
-use Prim.Native.Nat.{ℕ, ◌≤◌}
-use mathlib.Core.Path.{◌≡◌, sym, ap, subst, ◌∙◌}
-use mathlib.Core.Bool.{cond}
-use mathlib.Core.List.{List, [], ◌∷◌}
-use lib.Dec.{eqb}
-use lib.ListN.{length, get_or, take}
+-- What is printed for a refusal, for an answer and for an image, and what is written by a report. Assumes nothing.
+use Rattle.std.proofs.Common.{ℕ, ◌≡◌, ◌≢◌, ◌<◌, ◌≤◌, ◌^◌, ◌++◌, sym, ap, subst, refl, ◌∙◌, List, [], Bool, length, take, get_or, cond}
+use Rattle.std.specs.Prelude.{Option, Some, IfSome, codes, eqb}
+use Rattle.std.specs.Fmt.{decimal}
+use Rattle.std.specs.Io.KnownBytes.{Appends}
 use borrow.Author.Tests.{eq-eqb, ne_eqb}
 use Rattle.model.specs.Memory.{Memory}
 use Rattle.model.specs.Refusals.{read_refusal}
@@ -12,56 +10,57 @@ use Rattle.model.specs.Calls.{Outcome, taken, read_call}
 use Rattle.model.proofs.Sound.{Sound}
 use Rattle.model.proofs.ReadingIsSound as reading
 use Rattle.model.proofs.Calls.{taken_is, taken_zero}
-use Rattle.putting.specs.Put.{Put}
-use Rattle.putting.proofs.Putting.{put_then}
 use Rattle.text.specs.Ascii.{ascii}
-use Rattle.text.specs.Lines.{line}
+use Rattle.text.specs.Lines.{labelled, line}
+use Rattle.text.specs.Numbers as numbers
+use Rattle.text.proofs.Numerals.{line_is}
+use Rattle.image_program.specs.Answered.{Answered, Reported}
 use Rattle.image_program.specs.Printed.{line_one, answer_text, image_text}
 use Rattle.image_program.proofs.Overlong.{overlong}
 
-pub line_one_put : (n : ℕ) (o p : List ℕ) (e : ℕ) → Put o 0 (line (ascii "refusal ") n) p e → Put o 0 (line_one n) p e
+-- ---- line one
+
+pub line_one_is : (n : ℕ) → n < 2 ^ 64 → codes "refusal " ++ (decimal n ++ codes "\n") ≡ line_one n
 unfolding line_one
-line_one_put n o p e P = P
+line_one_is n h = sym (line_is (ascii "refusal ") n h)
 
--- ---- an answer
+pub no_refusal : codes "refusal 0\n" ≡ line_one 0
+unfolding line_one line labelled numbers.decimal numbers.decimal_within
+no_refusal = refl
 
-module _ (r : ℕ) (fields lines o p : List ℕ) (e : ℕ) where
-  pub answer_refused : (r ≡ 0 → ⊥) → Put o 0 (line_one r) p e → Put o 0 (answer_text (r ∷ fields) lines) p e
+-- ---- an answer with this refusal first
+
+module _ (answer lines : List ℕ) where
+  pub answer_refused : get_or answer 0 0 ≢ 0 → line_one (get_or answer 0 0) ≡ answer_text answer lines
   unfolding answer_text
-  answer_refused h P = rw (ne_eqb r 0 h) P
+  answer_refused n = rw (ne_eqb (get_or answer 0 0) 0 n)
 
-  pub answer_taken : r ≡ 0 → (q : List ℕ) (g : ℕ) → Put o 0 (line_one 0) p e → Put p e lines q g → Put o 0 (answer_text (r ∷ fields) lines) q g
+  pub answer_taken : get_or answer 0 0 ≡ 0 → line_one 0 ++ lines ≡ answer_text answer lines
   unfolding answer_text
-  answer_taken h q g P Q = rw (eq-eqb r 0 h) (put_then o 0 _ p e _ q g P Q)
+  answer_taken z = rw (eq-eqb (get_or answer 0 0) 0 z)
 
--- ---- an image that reading left as memory m₁, with this refusal and place
+-- ---- an image that reading left as memory m₁, with this answer
 
-module _ (m : Memory) (im : List ℕ) (m₁ : Memory) (r place : ℕ) (e : record { memory = m₁; out = []; answer = r ∷ place ∷ [] } ≡ read_call m im) where
-  answered : (read_call m im).answer ≡ r ∷ place ∷ []
-  answered = ap (λ (o : Outcome). o.answer) (sym e)
-
-  number : get_or (read_call m im).answer 0 0 ≡ r
-  number = ap (λ (answer : List ℕ). get_or answer 0 0) answered
-
-  pub memory_read : m₁ ≡ (read_call m im).memory
-  memory_read = ap (λ (o : Outcome). o.memory) e
-
+module _ (m : Memory) (im : List ℕ) (m₁ : Memory) (answer : List ℕ) (e : record { memory = m₁; out = []; answer = answer } ≡ read_call m im) where
   -- what was read is sound
-  pub read_sound : r ≡ 0 → Sound m₁.state m₁.tables
+  pub read_sound : get_or answer 0 0 ≡ 0 → Sound m₁.state m₁.tables
   unfolding read_call taken
   read_sound z =
-      let free : read_refusal m im ≡ 0 = taken_zero m (read_refusal m im) [] _ _ (eq-eqb _ 0 (number ∙ z)) in
-      subst (λ (m : Memory). Sound m.state m.tables) (ap (λ (o : Outcome). o.memory) (sym (taken_is _ _ _ free)) ∙ sym memory_read)
+      let free : read_refusal m im ≡ 0 = taken_zero m (read_refusal m im) [] _ _ (eq-eqb _ 0 (ap (λ (o : Outcome). get_or o.answer 0 0) (sym e) ∙ z)) in
+      subst (λ (m : Memory). Sound m.state m.tables) (ap (λ (o : Outcome). o.memory) (sym (taken_is _ _ _ free)) ∙ ap (λ (o : Outcome). o.memory) (sym e))
       (reading.read_sound m im free)
 
-  module _ (refusal : List ℕ → List ℕ) (text : Memory → List ℕ) (o p : List ℕ) (end : ℕ) where
-    pub image_refused : (r ≡ 0 → ⊥) → Put o 0 (refusal (r ∷ place ∷ [])) p end → Put o 0 (image_text refusal text m im) p end
-    unfolding image_text
-    image_refused h P = rw (number, ne_eqb r 0 h) (subst (λ (answer : List ℕ). Put o 0 (refusal answer) p end) (sym answered) P)
+  module _ (refusal : List ℕ → List ℕ) (text : Memory → List ℕ) where
+    of_outcome : Outcome → List ℕ
+    of_outcome o = cond (eqb (get_or o.answer 0 0) 0) (text o.memory) (refusal o.answer)
 
-    pub image_taken : r ≡ 0 → Put o 0 (text m₁) p end → Put o 0 (image_text refusal text m im) p end
-    unfolding image_text
-    image_taken h P = rw (number, eq-eqb r 0 h) (subst (λ (m : Memory). Put o 0 (text m) p end) memory_read P)
+    pub image_refused : get_or answer 0 0 ≢ 0 → refusal answer ≡ image_text refusal text m im
+    unfolding image_text of_outcome
+    image_refused n = ap (λ (b : Bool). cond b (text m₁) (refusal answer)) (sym (ne_eqb (get_or answer 0 0) 0 n)) ∙ ap of_outcome e
+
+    pub image_taken : get_or answer 0 0 ≡ 0 → text m₁ ≡ image_text refusal text m im
+    unfolding image_text of_outcome
+    image_taken z = ap (λ (b : Bool). cond b (text m₁) (refusal answer)) (sym (eq-eqb (get_or answer 0 0) 0 z)) ∙ ap of_outcome e
 
 -- a program prints for the first 65,536 bytes of an overlong input what the whole of it deserves
 pub overlong_text : (refusal : List ℕ → List ℕ) (text : Memory → List ℕ) (m : Memory) (im : List ℕ) → 65536 ≤ length im
@@ -69,3 +68,13 @@ pub overlong_text : (refusal : List ℕ → List ℕ) (text : Memory → List �
 unfolding image_text
 overlong_text refusal text m im long =
     ap (λ (r : Outcome). cond (eqb (get_or r.answer 0 0) 0) (text r.memory) (refusal r.answer)) (overlong im m long)
+
+-- ---- a report whose output is the text of its image
+
+pub answered_of : {T : Type 0} (text : List ℕ → List ℕ) (reports : List ℕ → T → Type 0) (output : T → Option (List ℕ)) (a b c d : Option (List ℕ))
+    → ((image : List ℕ) (r : T) → reports image r → output r ≡ Some (text image)) → Reported reports output a b c d → Answered text a b c d
+answered_of text reports output a b c d is r =
+    record { image = r.image; taken = r.taken; written = of_some (output r.report) (is r.image r.report r.reported) r.written }
+  where
+    of_some : (o : Option (List ℕ)) → o ≡ Some (text r.image) → IfSome o (Appends c d) → Appends c d (text r.image)
+    of_some o e w = subst (λ o. IfSome o (Appends c d)) e w

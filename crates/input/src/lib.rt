@@ -12,6 +12,7 @@ pub fn read_full<R: Read>(input: &mut R, memory: &mut [u8]) -> usize
     ensures consumed { Consumes (R.remaining input.old) (R.remaining input.new) (take result memory.new) }
 {
     let mut at = 0;
+    // no plainer as a `for`: the place moves by what each read gave
     while at < memory.len() {
         let Ok(n) = input.read(&mut memory[at..]) else {
             break;

@@ -1,2 +1,3 @@
--- The survey program's output.
+-- The survey program's output, and what it says as text.
 pub mod Lines
+pub mod Reports

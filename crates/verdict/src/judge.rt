@@ -1,0 +1,33 @@
+// From an input to an output.
+ghost use Rattle.std.specs.Prelude.{◌≡◌, replicate, OnOk};
+ghost use Rattle.image_program.specs.Answered.{Answered};
+ghost use Rattle.verdict.specs.Lines.{verdict_lines};
+ghost use Rattle.verdict.specs.Reports.{report_text};
+
+use crate::report::{Report, judged, unread};
+use engine::{reading, verdict};
+use state::lent::{STATE_LENGTH, TABLES_LENGTH};
+use std::io;
+use std::io::{Read, Write};
+
+// Reads the image and judges what was read.
+pub fn report(image: &[u8]) -> Report
+    ensures { report_text result ≡ verdict_lines (replicate 520 0) (replicate 32768 0) image.now }
+{
+    let mut state = [0u64; STATE_LENGTH];
+    let mut tables = [0u8; TABLES_LENGTH];
+    if let Err(refused) = reading::read(&mut state, &mut tables, image) {
+        return unread(refused);
+    }
+    match verdict::verdict(&state, &tables) {
+        Err(refusal) => Report::Refused(refusal),
+        Ok(short) => judged(short),
+    }
+}
+
+// Takes an image from the input, and writes its lines and nothing else.
+pub fn judge<R: Read, W: Write>(input: &mut R, output: &mut W) -> io::Result<()>
+    ensures { OnOk result (Answered (verdict_lines (replicate 520 0) (replicate 32768 0)) (R.remaining input.old) (R.remaining input.new) (W.contents output.old) (W.contents output.new)) }
+{
+    image_program::answer(input, output, report)
+}
