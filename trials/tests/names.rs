@@ -25,7 +25,7 @@ fn read(path: &str) -> String {
     fs::read_to_string(&path).unwrap_or_else(|error| panic!("{path}: {error}"))
 }
 
-/// The name and number of a line such as `#define OVERLAY_FULL 11 /* .. */`, or `pub const FULL: u64 = 11;`.
+/// The name and number of a line such as `#define OVERLAY_FULL 11 /* .. */`, or `Full = 11,`.
 fn named(line: &str, before: &str, between: &str) -> Option<(String, u64)> {
     let (name, rest) = line.trim().strip_prefix(before)?.split_once(between)?;
     let digits: String = rest.chars().take_while(char::is_ascii_digit).collect();
@@ -77,10 +77,11 @@ fn the_header_has_the_lengths_of_the_second_engine() {
 
 #[test]
 fn the_proved_code_names_the_refusals_as_the_second_engine_does() {
-    let code = read("crates/answers/src/refusal.rt");
+    let code = read("crates/answers/src/error.rt");
     let names: Vec<_> = code
         .lines()
-        .filter_map(|l| named(l, "pub const ", ": u64 = "))
+        .filter_map(|line| named(line, "", " = "))
+        .map(|(name, number)| (upper(&name), number))
         .collect();
     assert_eq!(names, in_second_engine());
 }
