@@ -177,3 +177,6 @@ module _ (s : List ℕ) (x i S : ℕ) (H : List ℕ) (sh : Sharing s x i S) (w :
         ∙ ap (λ (v : ℕ). eqb (low_digits (id_of s y) i) (low_digits (id_of s x) i) && eqb (digit_of (id_of s y) i) v) e
         ∙ longer (id_of s y) (id_of s x);
   }
+
+pub sharing_ends : (s : List ℕ) (x k i S : ℕ) → Sharing s x k S → k ≤ i → i ≤ k → Sharing s x i S
+sharing_ends s x k i S w l g = subst (λ (k : ℕ). Sharing s x k S) (le_antisymm l g) w

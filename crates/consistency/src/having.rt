@@ -4,8 +4,9 @@ ghost use Rattle.std.specs.Prelude.{◌≡◌, ◌≤◌, ◌<◌, get_or};
 ghost use Rattle.std.specs.Int.Bits.{bit_and};
 ghost use Rattle.model.specs.Loops.{each_below};
 ghost use Rattle.model.specs.Memory as memory;
+ghost use Rattle.model.proofs.Status.{IsNode};
 ghost use Rattle.state.specs.Loaded.{Numbered};
-ghost use Rattle.consistency.specs.NodeSets.{IdsReadable, place, note_at, Having};
+ghost use Rattle.consistency.specs.NodeSets.{IdsReadable, place, note_at, Having, Sharing};
 
 use ident::digit;
 use state::sets::add;
@@ -46,4 +47,20 @@ pub fn among(having: &[u64; 128], nodes: u64, i: usize, j: usize) -> u64
     ensures { result ≡ bit_and nodes (get_or having.now (place i j) 0) }
 {
     nodes & having[16 * i + j]
+}
+
+// Those that share the low i digits of x.
+pub fn sharing(state: &[u64], having: &[u64; 128], x: usize, i: usize) -> u64
+    requires ids_readable { IdsReadable state.now }
+    requires having { Having state.now (memory.node_count state.now) having.now }
+    requires node { IsNode state.now x }
+    requires i_bound { i ≤ memory.digits state.now }
+    ensures { Sharing state.now x i result }
+{
+    let id = record::id(state, x) as u32;
+    let mut nodes = ALL;
+    for k in 0..i {
+        nodes = among(having, nodes, k, digit(id, k));
+    }
+    nodes
 }

@@ -21,7 +21,8 @@ use Rattle.model.proofs.Sound.{standing, Sound, id_fits}
 use Rattle.model.proofs.SoundNodes.{own, suffix_below}
 use Rattle.model.proofs.ReplacingKeepsSound.{Agree, agree_node, agree_id, agree_count}
 use Rattle.model.proofs.Memory.{node_length}
-use Rattle.learning.specs.Learners.{NodeReadable, TableReadable, Learns, LearnsTable}
+use Rattle.learning.specs.declared.learner.Learner.{Learner}
+use Rattle.learning.specs.Learners.{NodeReadable, LearnerOf, TableReadable, Learns, LearnsTable}
 use Rattle.delivery_parts.specs.Delivers.{Delivers, Network, NodesIn, Meets}
 
 -- ---- a node can be read and learned
@@ -29,15 +30,21 @@ use Rattle.delivery_parts.specs.Delivers.{Delivers, Network, NodesIn, Meets}
 pub readable : (s : List ℕ) → Network s → (u : ℕ) → IsNode s u → NodeReadable s u
 readable s n u k = record { long = n.long; first = k.low; last = omega (arith, n.few, k.high); short = n.ids u k }
 
-pub learns : (s : List ℕ) → Network s → (z u : ℕ) → IsNode s z → IsNode s u → u ≢ z → Learns s z u
-learns s n z u nz nu ne =
-    record { deep = n.deep; node = readable s n u nu; suffix = n.apart z u nz nu ne }
+-- r is what the code has for z: the state and the number that it was loaded from are s and z
+module _ (s : List ℕ) (n : Network s) (r : Learner) (z : ℕ) (es : r.state.now ≡ s) (e : r.number ≡ z) (o : LearnerOf r.state.now r) (nz : IsNode s z) where
+  pub learns : (u : ℕ) → IsNode s u → u ≢ z → Learns r.state.now r u
+  learns u nu ne = record {
+    learner = o;
+    deep = rw es n.deep;
+    node = rw es (readable s n u nu);
+    suffix = rw (es, e) (n.apart z u nz nu ne);
+  }
 
-pub learns_table : (s : List ℕ) → Network s → (z : ℕ) (Y : List ℕ) → IsNode s z → NodesIn s Y → LearnsTable s z Y
-learns_table s n z Y nz m = record {
-  long = omega (arith, m.long);
-  nodes = λ p h some other. learns s n z (get_or Y p 0) nz (m.at p h some) other;
-}
+  pub learns_table : (Y : List ℕ) → NodesIn s Y → LearnsTable r.state.now r Y
+  learns_table Y m = record {
+    long = omega (arith, m.long);
+    nodes = λ p h some no. learns (get_or Y p 0) (m.at p h some) (λ q. no (q ∙ sym e));
+  }
 
 pub readable_table : (s : List ℕ) → Network s → (T : List ℕ) → NodesIn s T → TableReadable s T
 readable_table s n T m = record {

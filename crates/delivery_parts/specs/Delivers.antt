@@ -37,6 +37,14 @@ pub record Meets (s t : List ℕ) (x y : ℕ) : Type 0 where
   pub own : NodesIn s (table_of t x)
   pub theirs : NodesIn s (table_of t y)
 
+-- x can gather from z's table
+pub record Gathers (s t : List ℕ) (x z : ℕ) : Type 0 where
+  pub network : Network s
+  pub tables : tables_length ≤ length t
+  pub sender : IsNode s x
+  pub owner : IsNode s z
+  pub nodes : NodesIn s (table_of t z)
+
 -- the table memory after x has learned y's table, and y has learned x
 abbrev pub exchanged : List ℕ → List ℕ → ℕ → ℕ → List ℕ
 exchanged s t x y = with_table (with_table t y (learn s y x (table_of t y))) x (learn_table s x (table_of t y) (table_of t x))

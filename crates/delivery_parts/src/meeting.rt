@@ -3,7 +3,7 @@ ghost use Rattle.std.specs.Prelude.{◌≡◌};
 ghost use Rattle.model.specs.Memory.{table_of, with_table};
 ghost use Rattle.model.specs.Learning as learning;
 ghost use Rattle.model.specs.Join as join;
-ghost use Rattle.delivery_parts.specs.Delivers.{exchanged};
+ghost use Rattle.delivery_parts.specs.Delivers.{Meets, Gathers, exchanged};
 ghost use Rattle.delivery_parts.specs.Pairs.{SamePair};
 
 use crate::pair::Pair;
@@ -12,15 +12,40 @@ use learning::learn::{learn, learn_table};
 use learning::learner::Learner;
 use tables::part;
 
+// x's table after it has learned y's: its own is copied to learn, y's is lent.
+pub fn learned(state: &[u64], tables: &[u8], x: usize, y: usize) -> [u8; 512]
+    requires { Meets state.now tables.now x y }
+    ensures { result ≡ learning.learn_table state.now x (table_of tables.now y) (table_of tables.now x) }
+{
+    let learner = Learner::load(state, x);
+    let mut own = part::copy_in(tables, x);
+    learn_table(&mut own, &learner, part::lent(tables, y));
+    own
+}
+
+// The set with every node of z's table that x is to notify.
+pub fn gather_from(
+    state: &[u64],
+    tables: &[u8],
+    x: usize,
+    z: usize,
+    level: usize,
+    notified: u64,
+    nodes: u64,
+) -> u64
+    requires { Gathers state.now tables.now x z }
+    ensures { result ≡ join.gather state.now x level notified (table_of tables.now z) nodes }
+{
+    let learner = Learner::load(state, x);
+    gather(&learner, level, notified, part::lent(tables, z), nodes)
+}
+
 impl<'a> Pair<'a> {
-    // x's table after it has learned y's: its own is copied to learn, y's is lent.
+    // x's table after it has learned y's.
     pub fn learned(&self) -> [u8; 512]
         ensures { result ≡ learning.learn_table self.now.state.now self.now.x (table_of self.now.tables.now self.now.y) (table_of self.now.tables.now self.now.x) }
     {
-        let learner = Learner::load(self.state, self.x);
-        let mut own = part::copy_in(self.tables, self.x);
-        learn_table(&mut own, &learner, part::lent(self.tables, self.y));
-        own
+        learned(self.state, self.tables, self.x, self.y)
     }
 
     // x learns y's table.
@@ -68,27 +93,15 @@ impl<'a> Pair<'a> {
     pub fn gather_own(&self, level: usize, notified: u64, nodes: u64) -> u64
         ensures { result ≡ join.gather self.now.state.now self.now.x level notified (table_of self.now.tables.now self.now.x) nodes }
     {
-        let learner = Learner::load(self.state, self.x);
-        gather(
-            &learner,
-            level,
-            notified,
-            part::lent(self.tables, self.x),
-            nodes,
-        )
+        let x = self.x;
+        gather_from(self.state, self.tables, x, x, level, notified, nodes)
     }
 
     // The same from y's table.
     pub fn gather_theirs(&self, level: usize, notified: u64, nodes: u64) -> u64
         ensures { result ≡ join.gather self.now.state.now self.now.x level notified (table_of self.now.tables.now self.now.y) nodes }
     {
-        let learner = Learner::load(self.state, self.x);
-        gather(
-            &learner,
-            level,
-            notified,
-            part::lent(self.tables, self.y),
-            nodes,
-        )
+        let (x, y) = (self.x, self.y);
+        gather_from(self.state, self.tables, x, y, level, notified, nodes)
     }
 }

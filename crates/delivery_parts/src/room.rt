@@ -4,6 +4,7 @@ ghost use Rattle.model.specs.Memory.{table_of};
 ghost use Rattle.model.specs.Nodes.{suffix_of};
 ghost use Rattle.model.specs.Join as join;
 ghost use Rattle.model.specs.Join.{room_at_suffix, first_at_suffix, attach_level};
+ghost use Rattle.learning.specs.Learners.{LearnerOf};
 ghost use Rattle.delivery_parts.specs.Delivers.{Level};
 
 use crate::request::Request;
@@ -13,7 +14,8 @@ use tables::{entry, part};
 
 // y's entry for x at level i, (i, digit i of x), is not full.
 fn has_room(sender: &Learner<'_>, theirs: &[u8], i: usize) -> bool
-    requires { Level sender.now.state.now theirs.now i }
+    requires learner_of { LearnerOf sender.now.state.now sender.now }
+    requires level { Level sender.now.state.now theirs.now i }
     ensures { result ≡ join.has_room sender.now.state.now theirs.now sender.now.number i }
 {
     let size = entry::size(theirs, sender.depth, i, digit(sender.id, i));

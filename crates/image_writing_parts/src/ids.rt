@@ -14,15 +14,8 @@ pub fn header(network: &Network<'_>, version: u8, out: &mut [u8]) -> usize
 {
     // `as`: the value is proved to fit, and `u8::try_from` would answer an error that cannot come.
     let s = network.settings();
-    let head = [
-        4,
-        version,
-        s.base as u8,
-        s.digits as u8,
-        s.depth as u8,
-        s.nodes as u8,
-    ];
-    putting::piece(out, 0, &head)
+    let at = putting::four(out, 0, 4, version, s.base as u8, s.digits as u8);
+    putting::two(out, at, s.depth as u8, s.nodes as u8)
 }
 
 // Each id in four bytes, the low byte first.

@@ -12,6 +12,7 @@ use Rattle.model.proofs.Bools.{parts}
 use Rattle.model.proofs.Loops.{each_step, each_ends}
 use Rattle.model.proofs.TableSteps.{place_empty, place_own, place_learns}
 use Rattle.state.specs.Loaded.{Numbered}
+use Rattle.learning.specs.declared.learner.Learner.{Learner}
 use Rattle.learning.specs.Learners.{ReadableUnless, TableReadable, Learns, LearnsTable}
 
 module _ (T : List ℕ) (long : 512 ≤ length T) (p : ℕ) where
@@ -26,30 +27,31 @@ module _ (T : List ℕ) (long : 512 ≤ length T) (p : ℕ) where
 
 -- ---- learning
 
-module _ (s : List ℕ) (x : ℕ) (Y : List ℕ) (m : LearnsTable s x Y) (p : ℕ) where
-  pub learns_place : p < length (take 512 Y) → get_or (take 512 Y) p 0 ≢ 0 → get_or (take 512 Y) p 0 ≢ x → Learns s x (get_or (take 512 Y) p 0)
+module _ (s : List ℕ) (r : Learner) (Y : List ℕ) (m : LearnsTable s r Y) (p : ℕ) where
+  pub learns_place : p < length (take 512 Y) → get_or (take 512 Y) p 0 ≢ 0 → get_or (take 512 Y) p 0 ≢ r.number
+      → Learns s r (get_or (take 512 Y) p 0)
   learns_place l some other =
       let e : get_or (take 512 Y) p 0 ≡ get_or Y p 0 = place_is Y m.long p l in
-      subst (Learns s x) (sym e) (m.nodes p (within Y m.long p l) (λ q. some (e ∙ q)) (λ q. other (e ∙ q)))
+      subst (Learns s r) (sym e) (m.nodes p (within Y m.long p l) (λ q. some (e ∙ q)) (λ q. other (e ∙ q)))
 
-  module _ (a T : List ℕ) (e : T ≡ each_below p (learn_place s x Y) a) where
+  module _ (a T : List ℕ) (e : T ≡ each_below p (learn_place s r.number Y) a) where
     module _ (l : p < length (take 512 Y)) where
-      pub step_empty : get_or (take 512 Y) p 0 ≡ 0 → T ≡ each_below (p + 1) (learn_place s x Y) a
-      step_empty z = each_step p _ a T T e (place_empty s x Y p T (sym (place_is Y m.long p l) ∙ z))
+      pub step_empty : get_or (take 512 Y) p 0 ≡ 0 → T ≡ each_below (p + 1) (learn_place s r.number Y) a
+      step_empty z = each_step p _ a T T e (place_empty s r.number Y p T (sym (place_is Y m.long p l) ∙ z))
 
-      pub step_own : get_or (take 512 Y) p 0 ≡ x → T ≡ each_below (p + 1) (learn_place s x Y) a
-      step_own z = each_step p _ a T T e (place_own s x Y p T (sym (place_is Y m.long p l) ∙ z))
+      pub step_own : get_or (take 512 Y) p 0 ≡ r.number → T ≡ each_below (p + 1) (learn_place s r.number Y) a
+      step_own z = each_step p _ a T T e (place_own s r.number Y p T (sym (place_is Y m.long p l) ∙ z))
 
-      pub step_learns : (T' : List ℕ) → get_or (take 512 Y) p 0 ≢ 0 → get_or (take 512 Y) p 0 ≢ x → T' ≡ learn s x (get_or (take 512 Y) p 0) T
-          → T' ≡ each_below (p + 1) (learn_place s x Y) a
+      pub step_learns : (T' : List ℕ) → get_or (take 512 Y) p 0 ≢ 0 → get_or (take 512 Y) p 0 ≢ r.number → T' ≡ learn s r.number (get_or (take 512 Y) p 0) T
+          → T' ≡ each_below (p + 1) (learn_place s r.number Y) a
       step_learns T' some other f =
           let q : get_or (take 512 Y) p 0 ≡ get_or Y p 0 = place_is Y m.long p l in
           each_step p _ a T T' e
-          (place_learns s x Y p T T' (λ z. some (q ∙ z)) (λ z. other (q ∙ z)) (f ∙ ap (λ (u : ℕ). learn s x u T) q))
+          (place_learns s r.number Y p T T' (λ z. some (q ∙ z)) (λ z. other (q ∙ z)) (f ∙ ap (λ (u : ℕ). learn s r.number u T) q))
 
-    pub learned_all : p ≤ length (take 512 Y) → length (take 512 Y) ≤ p → T ≡ learn_table s x Y a
+    pub learned_all : p ≤ length (take 512 Y) → length (take 512 Y) ≤ p → T ≡ learn_table s r.number Y a
     unfolding learn_table
-    learned_all l g = let d = done Y m.long p l g in each_ends 512 (learn_place s x Y) a p T e d.0 d.1
+    learned_all l g = let d = done Y m.long p l g in each_ends 512 (learn_place s r.number Y) a p T e d.0 d.1
 
 -- ---- gathering
 

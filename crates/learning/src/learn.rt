@@ -26,7 +26,7 @@ fn floor(state: &[u64], u: usize) -> u64
 
 // At level i, which is not below u's floor.
 fn learn_at(own: &mut [u8; 512], learner: &Learner<'_>, u: usize, i: usize)
-    requires { LearnsAt learner.now.state.now u i }
+    requires { LearnsAt learner.now.state.now learner.now.depth u i }
     ensures { own.new ≡ learning.learn_at learner.now.state.now u i own.old }
 {
     let depth = learner.depth;
@@ -39,7 +39,7 @@ fn learn_at(own: &mut [u8; 512], learner: &Learner<'_>, u: usize, i: usize)
 
 // The learner learns u. Levels below the floor change nothing, so the loop starts there.
 pub fn learn(own: &mut [u8; 512], learner: &Learner<'_>, u: usize)
-    requires { Learns learner.now.state.now learner.now.number u }
+    requires { Learns learner.now.state.now learner.now u }
     ensures { own.new ≡ learning.learn learner.now.state.now learner.now.number u own.old }
 {
     let floor = floor(learner.state, u) as usize;
@@ -52,7 +52,7 @@ pub fn learn(own: &mut [u8; 512], learner: &Learner<'_>, u: usize)
 // The learner learns each node of a table but itself, in the order of level, digit and slot, which
 // is that of the places. theirs is the answering node's table, a part of the lent table memory.
 pub fn learn_table(own: &mut [u8; 512], learner: &Learner<'_>, theirs: &[u8])
-    requires { LearnsTable learner.now.state.now learner.now.number theirs.now }
+    requires { LearnsTable learner.now.state.now learner.now theirs.now }
     ensures { own.new ≡ learning.learn_table learner.now.state.now learner.now.number theirs.now own.old }
 {
     for u in &theirs[..512] {

@@ -1,8 +1,7 @@
 // The node whose table it is, and what it compares other nodes by, loaded once from the state.
 ghost use Rattle.std.specs.Prelude.{◌≡◌};
-ghost use Rattle.model.specs.Memory as memory;
 ghost use Rattle.model.specs.Nodes.{suffix_of};
-ghost use Rattle.learning.specs.Learners.{NodeReadable};
+ghost use Rattle.learning.specs.Learners.{NodeReadable, LearnerOf};
 
 use ident::common_suffix;
 use state::{record, settings};
@@ -14,9 +13,6 @@ pub struct Learner<'a> {
     pub id: u32,
     pub digits: usize,
     pub depth: usize,
-    ghost id_is: { id ≡ memory.id_of state.now number },
-    ghost digits_is: { digits ≡ memory.digits state.now },
-    ghost depth_is: { depth ≡ memory.depth state.now },
 }
 
 impl<'a> Learner<'a> {
@@ -24,6 +20,7 @@ impl<'a> Learner<'a> {
         requires { NodeReadable state.now x }
         ensures number { result.number ≡ x }
         ensures state { result.state.now ≡ state.now }
+        ensures learner_of { LearnerOf result.state.now result }
     {
         let s = settings::load(state);
         Learner {
@@ -37,7 +34,8 @@ impl<'a> Learner<'a> {
 
     // The common suffix of the learner and node u.
     pub fn suffix(&self, u: usize) -> usize
-        requires { NodeReadable self.now.state.now u }
+        requires learner_of { LearnerOf self.now.state.now self.now }
+        requires node_readable { NodeReadable self.now.state.now u }
         ensures { result ≡ suffix_of self.now.state.now self.now.number u }
     {
         common_suffix(self.digits, self.id, record::id(self.state, u) as u32)

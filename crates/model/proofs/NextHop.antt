@@ -4,7 +4,7 @@ use mathlib.Core.Path.{◌≡◌, refl, sym, ap, subst, ◌∙◌}
 use mathlib.Core.Logic.{◌≢◌}
 use mathlib.Core.Bool.{Bool, true, false, not}
 use mathlib.Core.List.{List}
-use native.Mathlib.Nat.{lt_of_not-le}
+use native.Mathlib.Nat.{le_refl, lt_of_not-le}
 use native.Mathlib.Decide.{dec_lt}
 use native.Mathlib.Omega.{arith}
 use lib.ListN.{length, get_or, get_or-eq_default}
@@ -13,10 +13,10 @@ use Rattle.model.specs.Loops.{first_below}
 use Rattle.model.specs.Ids.{digit_of}
 use Rattle.model.specs.Memory.{base, digits, depth, id_of, is_attached, has_node, table_of}
 use Rattle.model.specs.Tables.{slot_place, first_of}
-use Rattle.model.specs.Nodes.{suffix_of}
+use Rattle.model.specs.Nodes.{suffix_of, qualifies}
 use Rattle.model.specs.Lookup.{hop_entry, NextHop, frontmost, next_hop}
 use Rattle.model.specs.Consistency.{neighbors}
-use Rattle.model.proofs.Ids.{next_hop_lem, valid_digit}
+use Rattle.model.proofs.Ids.{next_hop_lem, valid_digit, qualified_of}
 use Rattle.model.proofs.Loops.{first_le, first_before, first_holds, first_unique, first_same}
 use Rattle.model.proofs.Sets.{has_none}
 use Rattle.model.proofs.Memory.{table_length}
@@ -124,6 +124,10 @@ module _ (s t : List ℕ) (S : Sound s t) (u z : ℕ) (nu : IsNode s u) (nz : Is
     next_hop_lem (digits s) (id_of s u) (id_of s (get_or (hop_entry s t u z) k 0)) (id_of s z) level_below
         (entry_qualifies s t S u level digit nu level_below digit_below k h),
   )
+
+  -- z itself qualifies for it
+  pub to_qualifies : qualifies s u (suffix_of s u z) (digit_of (id_of s z) (suffix_of s u z)) z ≡ true
+  to_qualifies = qualified_of (digits s) (id_of s u) (id_of s z) level digit (le_refl level) refl
 
   module _ (failed : ℕ) where
     -- a next hop stands in the entry

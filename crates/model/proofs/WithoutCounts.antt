@@ -1,16 +1,18 @@
 -- The state with both counts of every node at zero, word by word. Assumes nothing.
 use Prim.Native.Nat.{ℕ, zero, suc, ◌+◌, ◌*◌, ◌<◌}
-use mathlib.Core.Path.{◌≡◌, refl, ap, ◌∙◌}
+use mathlib.Core.Path.{◌≡◌, refl, sym, ap, ◌∙◌}
 use mathlib.Core.Logic.{◌≢◌, ◌⊎◌, inl, inr, ⊎_elim}
 use mathlib.Core.List.{List}
 use native.Mathlib.Decide.{ℕ_discrete}
 use native.Mathlib.Omega.{arith}
 use lib.ListN.{length, get_or, set, length-set}
-use lib.Seq.{get_or-set_same, get_or-set_other}
+use lib.Seq.{set-get_or, get_or-set_same, get_or-set_other}
 use Rattle.model.specs.Loops.{each_below}
 use Rattle.model.specs.Memory.{node_count}
 use Rattle.model.specs.Image.{zero_counts, without_counts}
 use Rattle.model.proofs.Loops.{each_keeps}
+use Rattle.model.proofs.Status.{IsNode}
+use Rattle.model.proofs.NodeCounts.{Fresh}
 
 -- word p is a count of node k + 1
 abbrev pub IsCount : ℕ → ℕ → Type 0
@@ -68,3 +70,17 @@ module _ (s : List ℕ) where
   pub without_zero : (k p : ℕ) → k < node_count s → IsCount k p → p < length s → get_or (without_counts s) p 0 ≡ 0
   unfolding without_counts
   without_zero = cleared (node_count s)
+
+  -- where nothing is counted, nothing changes
+  pub without_same : ((x : ℕ) → IsNode s x → Fresh s x) → without_counts s ≡ s
+  unfolding without_counts
+  without_same h =
+      each_keeps (λ (l : List ℕ). l ≡ s) (node_count s) zero_counts s refl
+      (λ k l m e.
+      let f : Fresh s (k + 1) = h (k + 1) (record { low = omega arith; high = omega (arith, m) }) in
+      ap (zero_counts k) e
+      ∙ ap (λ (u : List ℕ). set u (8 * (k + 1) + 7) 0) (stays (8 * (k + 1) + 6) f.0)
+      ∙ stays (8 * (k + 1) + 7) f.1)
+    where
+      stays : (p : ℕ) → get_or s p 0 ≡ 0 → set s p 0 ≡ s
+      stays p e = ap (set s p) (sym e) ∙ set-get_or s p 0

@@ -11,7 +11,7 @@ pub fn judge(state: &[u64], tables: &[u8], out: &[u8]) -> Result<(), Refusal>
     ensures { answered result ≡ fill_refusal (memory state.now tables.now) out.now }
 {
     let network = judged(state, tables)?;
-    if !all_in_system(&network) {
+    if !all_in_system(network.state) {
         return Err(Refusal::JoinInFlight);
     }
     if filling::measure::exceeds(&network, out.len()) {

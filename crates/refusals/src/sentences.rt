@@ -7,12 +7,13 @@ ghost use Rattle.model.proofs.Status.{IsNode};
 ghost use Rattle.state.specs.Lent.{memory};
 ghost use Rattle.answers.specs.Numbers.{answered};
 ghost use Rattle.answers.specs.declared.error.Refusal.TheVariants.{NoSuchNode};
+ghost use Rattle.refusals.specs.Refused.{NodesPlaced};
 
 use answers::error::Refusal;
 use network::network::Network;
 use soundness::sound;
 use state::status::Status;
-use state::{lent, record};
+use state::{lent, record, settings};
 
 // 1, memory that is too short, and 2, a state that is not sound.
 pub fn judged<'a>(state: &'a [u64], tables: &'a [u8]) -> Result<Network<'a>, Refusal>
@@ -40,8 +41,10 @@ pub fn node(network: &Network<'_>, x: u64) -> Result<usize, Refusal>
 }
 
 // Not 15: every node is in system.
-pub(crate) fn all_in_system(network: &Network<'_>) -> bool
-    ensures { result ≡ all_nodes network.now.state.now (is_in_system network.now.state.now) }
+pub fn all_in_system(state: &[u64]) -> bool
+    requires { NodesPlaced state.now }
+    ensures { result ≡ all_nodes state.now (is_in_system state.now) }
 {
-    (1..network.nodes() + 1).all(|x| record::status(network.state, x) == Status::IN_SYSTEM)
+    let nodes = settings::load(state).nodes;
+    (1..nodes + 1).all(|x| record::status(state, x) == Status::IN_SYSTEM)
 }

@@ -13,7 +13,7 @@ pub fn judge<'a>(state: &'a [u64], tables: &'a [u8]) -> Result<Network<'a>, Refu
     ensures ok { IfOk result (λ n. (n.state.now ≡ state.now) × (n.tables.now ≡ tables.now)) }
 {
     let network = judged(state, tables)?;
-    if !all_in_system(&network) {
+    if !all_in_system(network.state) {
         return Err(Refusal::JoinInFlight);
     }
     Ok(network)

@@ -13,7 +13,7 @@ use network::network::Network;
 fn can_hold(network: &Network<'_>, version: u64) -> bool
     ensures { not result ≡ (not (has_joins version) && some_not_in_system network.now.state.now) }
 {
-    image_writing::has_joins(version) || all_in_system(network)
+    image_writing::has_joins(version) || all_in_system(network.state)
 }
 
 pub fn judge<'a>(

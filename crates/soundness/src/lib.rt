@@ -54,11 +54,13 @@ fn nodes_next(state: &[u64], tables: &[u8], s: Settings) -> bool
     ensures { result ≡ nodes_sound state.now tables.now }
 {
     soundness_ids::valid(state, s)
-        && checked_next(&Checked {
-            words: state,
+        && checked_next(
+            &Checked {
+                words: state,
+                settings: s,
+            },
             tables,
-            settings: s,
-        })
+        )
 }
 
 // The statuses, and the counts, which lean on them.
@@ -70,11 +72,12 @@ fn statuses_and_counts(state: &Checked<'_>) -> bool
 }
 
 // What leans on valid ids.
-fn checked_next(state: &Checked<'_>) -> bool
-    ensures { result ≡ checked_sound state.now.words.now state.now.tables.now }
+fn checked_next(state: &Checked<'_>, tables: &[u8]) -> bool
+    requires { tables_length ≤ length tables.now }
+    ensures { result ≡ checked_sound state.now.words.now tables.now }
 {
     soundness_ids::different(state)
-        && soundness_tables::all(state)
+        && soundness_tables::all(state, tables)
         && statuses_and_counts(state)
-        && unused::all(state)
+        && unused::all(state, tables)
 }

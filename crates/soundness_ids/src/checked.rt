@@ -1,7 +1,5 @@
-// Lent memory of which a check knows that it is long enough, that the settings and the number of
+// A lent state of which a check knows that it is long enough, that the settings and the number of
 // nodes are in range, and that the ids are valid.
-ghost use Rattle.std.specs.Prelude.{◌≤◌, length};
-ghost use Rattle.model.specs.Memory.{tables_length};
 ghost use Rattle.state.specs.Loaded.{SettingsOf};
 ghost use Rattle.state.specs.Checked.{Identified};
 
@@ -10,9 +8,7 @@ use state::settings::Settings;
 #[derive(Clone, Copy)]
 pub struct Checked<'a> {
     pub words: &'a [u64],
-    pub tables: &'a [u8],
     pub settings: Settings,
     ghost identified: { Identified words.now },
     ghost settings_of: { SettingsOf words.now settings },
-    ghost long: { tables_length ≤ length tables.now },
 }

@@ -26,21 +26,16 @@ fn is_in_system(node: &Member<'_>) -> bool
 }
 
 // The rules of the status of node x; a number above 3 is no status.
-#[tactic(auto, unfolding(model::specs::Sound::status_sound, model::specs::Sound::copying_sound, model::specs::Sound::waiting_sound))]
+#[tactic(auto, unfolding(model::specs::Sound::status_sound))]
 fn is_sound(state: &Checked<'_>, x: usize) -> bool
     requires { IsNode state.now.words.now x }
     ensures { result ≡ status_sound state.now.words.now x }
 {
     let node = state.member(x);
-    let target = node.node.target as usize;
     match node.node.status {
         Status::IN_SYSTEM => is_in_system(&node),
-        Status::COPYING => joining::asks_node(&node)
-            && state.is_in_system(target)
-            && joining::is_at_rest(&node),
-        Status::WAITING => joining::asks_node(&node)
-            && state.is_attached(target)
-            && joining::is_at_rest(&node),
+        Status::COPYING => joining::copying(&node),
+        Status::WAITING => joining::waiting(&node),
         Status::NOTIFYING => soundness_notifying::sound(&node),
         _ => false,
     }

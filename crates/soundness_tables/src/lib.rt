@@ -1,7 +1,8 @@
 // The rules of the tables: document 01, "Identifiers and tables". Each node's table is handed on as one run of the lent table memory.
 #![tactic(auto)]
 
-ghost use Rattle.std.specs.Prelude.{◌≡◌};
+ghost use Rattle.std.specs.Prelude.{◌≡◌, ◌≤◌, length};
+ghost use Rattle.model.specs.Memory.{tables_length};
 ghost use Rattle.model.specs.Sound.{table_sound, has_sound_table};
 ghost use Rattle.model.specs.Nodes.{all_nodes};
 ghost use Rattle.model.proofs.Status.{IsNode};
@@ -27,20 +28,22 @@ fn is_table_sound(table: &MemberTable<'_>) -> bool
     levels::all(table) && zero::all_zero(&table.bytes[a..512])
 }
 
-fn has_sound_table(state: &Checked<'_>, x: usize) -> bool
-    requires { IsNode state.now.words.now x }
-    ensures { result ≡ has_sound_table state.now.words.now state.now.tables.now x }
+fn has_sound_table(state: &Checked<'_>, tables: &[u8], x: usize) -> bool
+    requires tables_length_in_bounds { tables_length ≤ length tables.now }
+    requires node { IsNode state.now.words.now x }
+    ensures { result ≡ has_sound_table state.now.words.now tables.now x }
 {
     let table = MemberTable {
         owner: state.member(x),
-        bytes: part::lent(state.tables, x),
+        bytes: part::lent(tables, x),
     };
     is_table_sound(&table)
 }
 
-pub fn all(state: &Checked<'_>) -> bool
+pub fn all(state: &Checked<'_>, tables: &[u8]) -> bool
+    requires { tables_length ≤ length tables.now }
     ensures { let s = state.now.words.now in
-        result ≡ all_nodes s (has_sound_table s state.now.tables.now) }
+        result ≡ all_nodes s (has_sound_table s tables.now) }
 {
-    (1..state.settings.nodes + 1).all(|x| has_sound_table(state, x))
+    (1..state.settings.nodes + 1).all(|x| has_sound_table(state, tables, x))
 }

@@ -7,4 +7,4 @@ use Rattle.soundness_tables.proofs.all.Goals as goal
 pub returns : goal.returns
 returns c =
     let state = c.args.state.now in
-    all_of_nodes _ _ _ _ (has_sound_table state.words.now state.tables.now) _ c.all.ensures.ran state.settings_of.nodes (λ x b q k. search rules)
+    all_of_nodes _ _ _ _ (has_sound_table state.words.now c.args.tables.now) _ c.all.ensures.ran state.settings_of.nodes (λ x b q k. search rules)

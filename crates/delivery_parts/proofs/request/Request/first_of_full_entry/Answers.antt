@@ -21,4 +21,4 @@ returns-clause-room c = search full_none
 pub returns-clause-full : goal.returns-clause-full
 returns-clause-full c =
     full_some _ _ _ _ _ _ c.load-sender.ensures.state c.load-sender.ensures.number _ c.suffix-suffix.ensures _ c.lent-theirs.ensures.0
-    _ c.has_room.ensures c.if-has_room.false _ _ c.load-sender.result.id_is c.digit.ensures.0 _ c.first.ensures.first
+    _ c.has_room.ensures c.if-has_room.false _ _ c.load-sender.ensures.learner_of.id c.digit.ensures.0 _ c.first.ensures.first
