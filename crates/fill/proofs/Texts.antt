@@ -1,7 +1,6 @@
--- The program's text is that of its definition. Assumes nothing.
-use Rattle.std.proofs.Common.{ℕ, ◌≡◌, ◌≢◌, ◌<◌, ◌≤◌, ◌+◌, ◌*◌, ◌^◌, arith, ap, sym, subst, ◌∙◌, refl, List, [], ◌∷◌, ◌++◌, append_assoc, append-nil, get_or, drop, length, length-append, Result, Ok, Err}
-use Rattle.std.specs.Prelude.{codes, IfOk}
-use Rattle.std.specs.Fmt.{decimal}
+-- Lines put together piece by piece, and the answers they show. Assumes nothing.
+use Rattle.std.proofs.Common.{ℕ, ◌≡◌, ◌≢◌, ◌≤◌, ◌+◌, ◌*◌, arith, ap, sym, subst, ◌∙◌, refl, List, [], ◌∷◌, get_or, drop, length, length-append, Result, Ok, Err}
+use Rattle.std.specs.Prelude.{IfOk}
 use borrow.Author.Tests.{eq-eqb, ne_eqb}
 use Rattle.model.specs.Loops.{join_below}
 use Rattle.model.specs.Memory.{Memory}
@@ -10,57 +9,39 @@ use Rattle.model.specs.Refusals.{write_refusal}
 use Rattle.model.specs.Calls.{Outcome, refused_at, refused, taken, read_call, fill_call, write_call}
 use Rattle.model.proofs.Calls.{either_end}
 use Rattle.model.proofs.Fields.{additions_fit}
-use Rattle.model.proofs.Loops.{join_step}
 use Rattle.answers.specs.Numbers.{number_of, answered}
 use Rattle.answers.specs.Fields.{number_fields}
 use Rattle.answers.specs.declared.error.Refusal.{Refusal}
 use Rattle.answers.proofs.Errors.{numbered_from_one}
 use Rattle.engine.specs.Outcomes.{leaves, writes}
+use Rattle.putting.specs.Put.{Put}
+use Rattle.putting.proofs.Putting.{put_then, four_pieces, pieces_goes}
 use Rattle.text.specs.Ascii.{ascii}
 use Rattle.text.specs.Lines.{labelled, line}
-use Rattle.text.proofs.Numerals.{labelled_is, line_is}
 use Rattle.additions.specs.declared.Addition.{Addition}
 use Rattle.additions.specs.Listed.{blank, AdditionOf}
 use Rattle.image_program.proofs.Printing.{answer_refused, answer_taken}
 use Rattle.fill.specs.Lines.{record_line, record_at, added_lines, fill_text, done_text, fills_to, fill_of, read_and_filled}
 
--- ---- what is written of a list
+-- ---- each piece behind the one before it
 
--- a label, a number and what stands behind them
-piece : (label : List ℕ) (n : ℕ) (rest : List ℕ) → n < 2 ^ 64 → label ++ (decimal n ++ rest) ≡ labelled label n ++ rest
-piece label n rest h = sym (append_assoc label (decimal n) rest) ∙ ap (λ l. l ++ rest) (sym (labelled_is label n h))
-
-abbrev pub written : Addition → List ℕ
-written a =
-    codes "record " ++ (decimal a.node ++ (codes " " ++ (decimal a.level ++ (codes " " ++ (decimal a.digit ++ (codes " " ++ (decimal a.neighbor ++ codes "\n")))))))
-
-record_is : (a : Addition) → a.node < 2 ^ 64 → a.level < 2 ^ 64 → a.digit < 2 ^ 64 → a.neighbor < 2 ^ 64
-    → written a ≡ record_line a.node a.level a.digit a.neighbor
+pub record_line_put : (x i j y : ℕ) (o : List ℕ) (a : ℕ) (p : List ℕ) (e : ℕ) (q : List ℕ) (g : ℕ) (r : List ℕ) (h : ℕ) (v : List ℕ) (k : ℕ)
+    → Put o a (labelled (ascii "record ") x) p e → Put p e (labelled (ascii " ") i) q g → Put q g (labelled (ascii " ") j) r h
+    → Put r h (line (ascii " ") y) v k → Put o a (record_line x i j y) v k
 unfolding record_line
-record_is a h i j k =
-    piece (codes "record ") a.node _ h
-    ∙ ap (λ l. labelled (ascii "record ") a.node ++ l)
-    (piece (codes " ") a.level _ i
-    ∙ ap (λ l. labelled (ascii " ") a.level ++ l)
-    (piece (codes " ") a.digit _ j ∙ ap (λ l. labelled (ascii " ") a.digit ++ l) (sym (line_is (ascii " ") a.neighbor k))))
+record_line_put x i j y o a p e q g r h v k P Q R W = four_pieces o a _ p e _ q g P Q _ r h _ v k R W
 
-module _ (list : List ℕ) where
-  pub none_yet : (n : ℕ) → n < 2 ^ 64 → codes "added " ++ (decimal n ++ codes "\n") ≡ line (ascii "added ") n ++ join_below 0 (record_at list)
-  unfolding join_below
-  none_yet n h = sym (line_is (ascii "added ") n h) ∙ sym (append-nil (line (ascii "added ") n))
+module _ (o : List ℕ) (a : ℕ) (p : List ℕ) (e : ℕ) (q : List ℕ) (g : ℕ) where
+  -- one record more of the list
+  pub record_goes : (list : List ℕ) (r : ℕ) (b : Addition) → AdditionOf list r b → Put o a (join_below r (record_at list)) p e
+      → Put p e (record_line b.node b.level b.digit b.neighbor) q g → Put o a (join_below (r + 1) (record_at list)) q g
+  record_goes list r b is P Q =
+      let same : record_line b.node b.level b.digit b.neighbor ≡ record_at list r = cc (is.node, is.level, is.digit, is.neighbor) in
+      pieces_goes (record_at list) o a r p e q g P (subst (λ (l : List ℕ). Put p e l q g) same Q)
 
-  -- a record more
-  pub records_go : (n k : ℕ) (a : Addition) → AdditionOf list k a → a.node < 2 ^ 64 → a.level < 2 ^ 64 → a.digit < 2 ^ 64 → a.neighbor < 2 ^ 64
-      → (line (ascii "added ") n ++ join_below k (record_at list)) ++ written a ≡ line (ascii "added ") n ++ join_below (k + 1) (record_at list)
-  records_go n k a is h i j l =
-      let same : record_line a.node a.level a.digit a.neighbor ≡ record_at list k = cc (is.node, is.level, is.digit, is.neighbor) in
-      append_assoc (line (ascii "added ") n) (join_below k (record_at list)) (written a)
-      ∙ ap (λ l. line (ascii "added ") n ++ l)
-      (join_step k (record_at list) _ _ refl (ap (λ l. join_below k (record_at list) ++ l) (record_is a h i j l ∙ same)))
-
-  pub records_end : (n k : ℕ) → k ≡ n → line (ascii "added ") n ++ join_below k (record_at list) ≡ added_lines n list
+  pub added_put : (n : ℕ) (list : List ℕ) → Put o a (line (ascii "added ") n) p e → Put p e (join_below n (record_at list)) q g → Put o a (added_lines n list) q g
   unfolding added_lines
-  records_end n k e = ap (λ k. line (ascii "added ") n ++ join_below k (record_at list)) e
+  added_put n list P Q = put_then o a _ p e _ q g P Q
 
 -- ---- what a filling answers
 
@@ -110,9 +91,9 @@ module _ (m m₁ : Memory) (im answer : List ℕ) (e : leaves m₁ answer ≡ re
 
 -- ---- what is written fits its memory
 
-pub image_within : (m : Memory) (v : ℕ) (out out₁ : List ℕ) (n : ℕ) → writes m out₁ (0 ∷ n ∷ []) ≡ write_call m v out → n ≤ length out₁
+pub image_within : (m : Memory) (v : ℕ) (out out₁ : List ℕ) (r n : ℕ) → writes m out₁ (r ∷ n ∷ []) ≡ write_call m v out → n ≤ length out₁
 unfolding write_call refused_at taken
-image_within m v out out₁ n e =
+image_within m v out out₁ r n e =
     subst (λ (o : Outcome). get_or o.answer 1 0 ≤ length o.out) (sym e)
     (either_end (λ (o : Outcome). get_or o.answer 1 0 ≤ length o.out) (write_refusal m v out) (refused m out 1) _ (λ nz. omega arith)
     (λ z. let im : List ℕ = image_of v m.state m.tables in omega (arith, length-append im (drop (length im) out))))

@@ -1,7 +1,6 @@
--- What is printed for a refusal, for an answer and for an image, and what is written by a report. Assumes nothing.
-use Rattle.std.proofs.Common.{ℕ, ◌≡◌, ◌≢◌, ◌<◌, ◌≤◌, ◌^◌, ◌++◌, sym, ap, subst, refl, ◌∙◌, List, [], Bool, length, take, get_or, cond}
-use Rattle.std.specs.Prelude.{Option, Some, IfSome, codes, eqb}
-use Rattle.std.specs.Fmt.{decimal}
+-- Line one, what is printed for an answer and for an image, and what is written by a report. Assumes nothing.
+use Rattle.std.proofs.Common.{ℕ, ◌≡◌, ◌≢◌, ◌≤◌, ◌++◌, sym, ap, subst, ◌∙◌, List, [], Bool, length, take, get_or, cond}
+use Rattle.std.specs.Prelude.{Option, Some, IfSome, eqb}
 use Rattle.std.specs.Io.KnownBytes.{Appends}
 use borrow.Author.Tests.{eq-eqb, ne_eqb}
 use Rattle.model.specs.Memory.{Memory}
@@ -10,23 +9,18 @@ use Rattle.model.specs.Calls.{Outcome, taken, read_call}
 use Rattle.model.proofs.Sound.{Sound}
 use Rattle.model.proofs.ReadingIsSound as reading
 use Rattle.model.proofs.Calls.{taken_is, taken_zero}
+use Rattle.putting.specs.Put.{Put}
 use Rattle.text.specs.Ascii.{ascii}
-use Rattle.text.specs.Lines.{labelled, line}
-use Rattle.text.specs.Numbers as numbers
-use Rattle.text.proofs.Numerals.{line_is}
+use Rattle.text.specs.Lines.{line}
 use Rattle.image_program.specs.Answered.{Answered, Reported}
 use Rattle.image_program.specs.Printed.{line_one, answer_text, image_text}
 use Rattle.image_program.proofs.Overlong.{overlong}
 
--- ---- line one
+-- ---- line one, and a text put at the start of a room
 
-pub line_one_is : (n : ℕ) → n < 2 ^ 64 → codes "refusal " ++ (decimal n ++ codes "\n") ≡ line_one n
+pub line_one_put : (n : ℕ) (o p : List ℕ) (e : ℕ) → Put o 0 (line (ascii "refusal ") n) p e → Put o 0 (line_one n) p e
 unfolding line_one
-line_one_is n h = sym (line_is (ascii "refusal ") n h)
-
-pub no_refusal : codes "refusal 0\n" ≡ line_one 0
-unfolding line_one line labelled numbers.decimal numbers.decimal_within
-no_refusal = refl
+line_one_put n o p e P = P
 
 -- ---- an answer with this refusal first
 
@@ -42,12 +36,15 @@ module _ (answer lines : List ℕ) where
 -- ---- an image that reading left as memory m₁, with this answer
 
 module _ (m : Memory) (im : List ℕ) (m₁ : Memory) (answer : List ℕ) (e : record { memory = m₁; out = []; answer = answer } ≡ read_call m im) where
+  pub memory_read : m₁ ≡ (read_call m im).memory
+  memory_read = ap (λ (o : Outcome). o.memory) e
+
   -- what was read is sound
   pub read_sound : get_or answer 0 0 ≡ 0 → Sound m₁.state m₁.tables
   unfolding read_call taken
   read_sound z =
       let free : read_refusal m im ≡ 0 = taken_zero m (read_refusal m im) [] _ _ (eq-eqb _ 0 (ap (λ (o : Outcome). get_or o.answer 0 0) (sym e) ∙ z)) in
-      subst (λ (m : Memory). Sound m.state m.tables) (ap (λ (o : Outcome). o.memory) (sym (taken_is _ _ _ free)) ∙ ap (λ (o : Outcome). o.memory) (sym e))
+      subst (λ (m : Memory). Sound m.state m.tables) (ap (λ (o : Outcome). o.memory) (sym (taken_is _ _ _ free)) ∙ sym memory_read)
       (reading.read_sound m im free)
 
   module _ (refusal : List ℕ → List ℕ) (text : Memory → List ℕ) where

@@ -4,7 +4,6 @@ use Rattle.std.proofs.lemmas.List.{length-drop}
 use lib.Seq.{take_all}
 use native.Mathlib.Decide.{dec_lt}
 use borrow.Author.Tests.{lt-ltb}
-use Rattle.std.proofs.Math.ListN.{drop_of_length-le}
 use Rattle.std.specs.Prelude.{Option, None, Some, unwrap_or, position, nat_lt}
 use Rattle.std.specs.List.{before_first, after_first, position_or_len}
 use Rattle.model.specs.Memory.{Memory}

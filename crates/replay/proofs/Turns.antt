@@ -1,20 +1,21 @@
 -- What one line does to the network, and what is said of it. Assumes nothing.
-use Prim.Native.Nat.{ℕ, ◌*◌, ◌≤◌, ◌<◌, ◌^◌}
+use Prim.Native.Nat.{ℕ, ◌*◌, ◌≤◌}
 use mathlib.Core.Path.{◌≡◌, refl, sym, ap, subst, ◌∙◌}
-use mathlib.Core.List.{List, [], ◌++◌}
+use mathlib.Core.List.{List}
 use lib.ListN.{length, get_or}
-use borrow.Author.Tests.{eq-eqb, ne_eqb}
-use Rattle.std.specs.Prelude.{Option, None, Some, Result, OnOk, codes}
-use Rattle.std.specs.Fmt.{decimal}
+use borrow.Author.Tests.{ne_eqb}
+use native.Mathlib.Omega.{arith}
+use Rattle.std.specs.Prelude.{Option, Result, OnOk}
 use Rattle.std.specs.Io.KnownBytes.{Appends}
-use Rattle.std.proofs.Common.{append-nil, append_assoc}
 use Rattle.model.specs.Memory.{Memory}
 use Rattle.model.specs.Run as book
 use Rattle.model.specs.Run.{step, after}
 use Rattle.model.proofs.Fields.{additions_fit}
+use Rattle.putting.specs.Put.{Put}
+use Rattle.putting.proofs.Putting.{put_none, put_then}
+use Rattle.text.proofs.Pieces.{by_key}
 use Rattle.text.specs.Ascii.{ascii}
 use Rattle.text.specs.Lines.{labelled}
-use Rattle.text.proofs.Numerals.{labelled_is}
 use Rattle.answers.specs.Numbers.{number_of}
 use Rattle.answers.specs.declared.error.Refusal.{Refusal}
 use Rattle.answers.proofs.Errors.{numbered_from_one}
@@ -43,6 +44,10 @@ module _ (m m₁ : Memory) (s : Said) (c : book.Call) (e : shown m₁ s ≡ play
   pub played_words : (call : Call) (d : ℕ) (file : List ℕ) → Says d file call s → words_of s ≡ said d file call (padded (step m c).answer)
   played_words call d file f = f ∙ ap (said d file call) played_answer
 
+  pub played_put : (call : Call) (d : ℕ) (file o p : List ℕ) (g : ℕ) → Says d file call s → Put o 0 (words_of s) p g
+      → Put o 0 (said d file call (padded (step m c).answer)) p g
+  played_put call d file o p g f P = by_key (λ text. text) _ _ (sym (played_words call d file f)) o 0 p g P
+
 -- what was written, by another name
 pub written : {T E : Type 0} (r : Result T E) (o p : Option (List ℕ)) (t u : List ℕ) → t ≡ u → OnOk r (Appends o p t) → OnOk r (Appends o p u)
 written r o p t u e h = subst (λ (t : List ℕ). OnOk r (Appends o p t)) e h
@@ -65,22 +70,19 @@ says_shown number text q = rw (sym q) refl
 
 -- ---- a line that is no command
 
-pub unknown_is : (number : ℕ) → number < 2 ^ 64 → codes "line " ++ (decimal number ++ codes ": not understood\n") ≡ unknown_said number
+pub unknown_put : (number : ℕ) (o : List ℕ) (p : List ℕ) (g : ℕ) (q : List ℕ) (h : ℕ) → Put o 0 (labelled (ascii "line ") number) p g
+    → Put p g (ascii ": not understood\n") q h → Put o 0 (unknown_said number) q h
 unfolding unknown_said
-unknown_is number h = simp (append_assoc, labelled_is (ascii "line ") number h)
+unknown_put number o p g q h P Q = put_then o 0 _ p g _ q h P Q
 
 -- ---- the command decides
-
-nothing_more : (o : Option (List ℕ)) → Appends o o []
-nothing_more None = _
-nothing_more (Some l) = sym (append-nil l)
 
 module _ (m : Memory) (number : ℕ) (command : Command) where
   leaves : (c : Command) → command ≡ c → (m₁ : Memory) → m₁ ≡ command_after m c → m₁ ≡ command_after m command
   leaves c e m₁ f = f ∙ ap (command_after m) (sym e)
 
-  says_nothing : (c : Command) → command ≡ c → [] ≡ command_said m number c → (o : Option (List ℕ)) → Appends o o (command_said m number command)
-  says_nothing c e f o = subst (Appends o o) (f ∙ ap (command_said m number) (sym e)) (nothing_more o)
+  says : (c : Command) → command ≡ c → (o p : List ℕ) (g : ℕ) → Put o 0 (command_said m number c) p g → Put o 0 (command_said m number command) p g
+  says c e o p g P = subst (λ (c : Command). Put o 0 (command_said m number c) p g) (sym e) P
 
   pub nothing_leaves : command ≡ is.Nothing → m ≡ command_after m command
   nothing_leaves e = leaves is.Nothing e m refl
@@ -97,18 +99,18 @@ module _ (m : Memory) (number : ℕ) (command : Command) where
   pub trace_leaves : command ≡ is.Trace → m ≡ command_after m command
   trace_leaves e = leaves is.Trace e m refl
 
-  module _ (o : Option (List ℕ)) where
-    pub nothing_says : command ≡ is.Nothing → Appends o o (command_said m number command)
-    nothing_says e = says_nothing is.Nothing e refl o
+  module _ (o : List ℕ) where
+    pub nothing_says : command ≡ is.Nothing → Put o 0 (command_said m number command) o 0
+    nothing_says e = says is.Nothing e o o 0 (put_none o 0 (omega arith))
 
-    pub fill_says : command ≡ is.Fill → Appends o o (command_said m number command)
-    fill_says e = says_nothing is.Fill e refl o
+    pub fill_says : command ≡ is.Fill → Put o 0 (command_said m number command) o 0
+    fill_says e = says is.Fill e o o 0 (put_none o 0 (omega arith))
 
-    pub save_says : (v : ℕ) → command ≡ is.Save v → Appends o o (command_said m number command)
-    save_says v e = says_nothing (is.Save v) e refl o
+    pub save_says : (v : ℕ) → command ≡ is.Save v → Put o 0 (command_said m number command) o 0
+    save_says v e = says (is.Save v) e o o 0 (put_none o 0 (omega arith))
 
-    pub load_says : command ≡ is.Load → Appends o o (command_said m number command)
-    load_says e = says_nothing is.Load e refl o
+    pub load_says : command ≡ is.Load → Put o 0 (command_said m number command) o 0
+    load_says e = says is.Load e o o 0 (put_none o 0 (omega arith))
 
-    pub trace_says : command ≡ is.Trace → Appends o o (command_said m number command)
-    trace_says e = says_nothing is.Trace e refl o
+    pub trace_says : command ≡ is.Trace → Put o 0 (command_said m number command) o 0
+    trace_says e = says is.Trace e o o 0 (put_none o 0 (omega arith))

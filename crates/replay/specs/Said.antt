@@ -42,6 +42,18 @@ command_said m number Trace = []
 command_said m number Panel = panel_said m
 command_said m number (Table x) = table_said m x
 
+-- how many bytes that is at most
+abbrev pub most_said : Command → ℕ
+most_said Nothing = 0
+most_said Unknown = 42
+most_said (Call c) = 943
+most_said Fill = 0
+most_said (Save version) = 0
+most_said Load = 0
+most_said Trace = 0
+most_said Panel = 7168
+most_said (Table x) = 16384
+
 -- the network after such a line
 abbrev pub command_after : Memory → Command → Memory
 command_after m Nothing = m

@@ -2,9 +2,9 @@
 ghost use Rattle.state.specs.Lent.{memory};
 ghost use Rattle.replay.specs.Script.{Saved, FilePlayed};
 
+use crate::said;
 use calls::Call;
 use input::read_full;
-use replay_calls::one;
 use replay_words::said::Said;
 use script::words::part;
 use std::io::Write;
@@ -35,16 +35,18 @@ pub fn save<W: Write>(
 {
     let none = [0u8; 0];
     let mut image = [0u8; 65536];
-    let said = one::play(state, tables, &none, &mut image, Call::Write(version));
-    if let Said::Saved(bytes) = said {
+    let mut words = [0u8; 943];
+    let call = Call::Write(version);
+    let played = said::played(state, tables, &none, &mut image, call, &mut words);
+    if let Said::Saved(bytes) = played.said {
         if keep(rt, path, part(&image, 0, bytes as usize)).is_none() {
-            return write!(output, "save: the file cannot be written\n");
+            return output.write_all(b"save: the file cannot be written\n");
         }
     }
-    write!(output, "{said}")
+    output.write_all(&words[..played.end])
 }
 
-// Plays the call of what the file holds, of at most 65,536 bytes; where it cannot be opened, says so of the command of this name.
+// Plays the call of what the file holds, of at most 65,536 bytes; where it cannot be opened, writes `unread`.
 pub fn play<W: Write>(
     rt: &impl Files,
     output: &mut W,
@@ -52,16 +54,17 @@ pub fn play<W: Write>(
     tables: &mut [u8],
     path: &[u8],
     call: Call,
-    name: &str,
+    unread: &[u8],
 ) -> io::Result<()>
     ensures { FilePlayed call (memory state.old tables.old) (memory state.new tables.new) }
 {
     let Some(mut opened) = opened(rt, path) else {
-        return write!(output, "{name}: the file cannot be read\n");
+        return output.write_all(unread);
     };
     let mut none = [0u8; 0];
     let mut file = [0u8; 65536];
     let n = read_full(&mut opened, &mut file);
-    let said = one::play(state, tables, &file[..n], &mut none, call);
-    write!(output, "{said}")
+    let mut words = [0u8; 943];
+    let played = said::played(state, tables, &file[..n], &mut none, call, &mut words);
+    output.write_all(&words[..played.end])
 }

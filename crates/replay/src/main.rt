@@ -60,16 +60,15 @@ fn lines<W: Write>(
     printed
 }
 
-// Memory for a script, of which one that fills it is not played: the check computes a value of this
-// size that stands in a larger body.
-fn room() -> [u8; 1048576]
-    ensures { 1048576 ≡ length result }
+// Memory for a script or for the lines of a list: the check computes a value of a fixed size that stands in a larger body.
+fn room<const N: usize>() -> [u8; N]
+    ensures { N ≡ length result }
 {
-    [0; 1048576]
+    [0; N]
 }
 
 fn main(rt: HostRuntime) -> io::Result<()> {
-    let mut script = room();
+    let mut script = room::<1048576>(); // one that fills it is not played
     let n = read_full(&mut rt.stdin(), &mut script);
     if n == 1048576 {
         return rt.write_all(b"the script is longer than 1048575 bytes\n");

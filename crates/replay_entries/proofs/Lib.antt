@@ -1,2 +1,2 @@
 -- The laws of entries in words.
-pub mod Written
+pub mod Texts

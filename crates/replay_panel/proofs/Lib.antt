@@ -1,2 +1,2 @@
--- The laws by which the words of the panel meet their definition.
-pub mod Written
+-- The laws by which a node's record in words meets its definition.
+pub mod Pieces

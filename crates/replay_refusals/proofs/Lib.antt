@@ -1,2 +1,2 @@
 -- The laws of a refusal in words.
-pub mod Written
+pub mod Texts

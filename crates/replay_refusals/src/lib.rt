@@ -1,17 +1,24 @@
 // A refusal in words: what `replay` says of its number and of the answer's next two fields.
 #![tactic(auto)]
 
-ghost use Rattle.std.specs.Prelude.{Some, ◌≡◌};
+ghost use Rattle.std.specs.Prelude.{Some, [], ◌≡◌, ◌+◌, ◌≤◌, ℕ, MatchOption, length};
 ghost use Rattle.answers.specs.Numbers.{number_of};
-ghost use Rattle.replay_refusals.specs.Refused.{sentence as sentence_text, place_text, refused_text};
+ghost use Rattle.putting.specs.Put.{Put};
+ghost use Rattle.replay_refusals.specs.Refused.{sentence as sentence_text, path_text, place_text, refused_text};
 
 use answers::error::{ImageRefused, Refusal, TraceRefused};
+use putting::piece;
 use std::fmt;
+
+const NO_SUCH_NODE: u64 = Refusal::NoSuchNode as u64;
+
+const STEP_NOT_ALLOWED: u64 = Refusal::StepNotAllowed as u64;
 
 // The sentence of a refusal: of an own entry it says at place 0 that it has no record.
 #[tactic(auto, unfolding(crate::specs::Refused::sentence, crate::specs::Refused::sentence_to_8, crate::specs::Refused::sentence_from_9, crate::specs::Refused::sentence_from_17, crate::specs::Refused::own_entry))]
 fn sentence(refusal: Refusal, place: u64) -> &'static str
-    ensures { result.now ≡ sentence_text (number_of refusal) place }
+    ensures value { result.now ≡ sentence_text (number_of refusal) place }
+    ensures upper_bound { length result.now ≤ 80 }
 {
     match refusal {
         Refusal::ShortMemory => "the lent memory is too short",
@@ -47,29 +54,88 @@ fn sentence(refusal: Refusal, place: u64) -> &'static str
     }
 }
 
-// What a refusal is about; nothing, where first is 0.
-#[derive(Clone, Copy)]
-struct About {
-    refusal: Refusal,
-    first: u64,
-    second: u64,
+// The refusal of a number; none where no sentence is of it.
+#[tactic(auto, unfolding(crate::specs::Refused::sentence, crate::specs::Refused::sentence_to_8, crate::specs::Refused::sentence_from_9, crate::specs::Refused::sentence_from_17))]
+fn of_number(number: u64) -> Option<Refusal>
+    ensures { MatchOption result ((place : ℕ) → sentence_text number place ≡ []) (λ r. number_of r ≡ number) }
+{
+    match number {
+        1 => Some(Refusal::ShortMemory),
+        2 => Some(Refusal::Unsound),
+        3 => Some(Refusal::NotAnImage),
+        4 => Some(Refusal::ImageVersion),
+        5 => Some(Refusal::BadSetting),
+        6 => Some(Refusal::ImageCounts),
+        7 => Some(Refusal::BadId),
+        8 => Some(Refusal::IdTaken),
+        9 => Some(Refusal::NoSuchNode),
+        10 => Some(Refusal::RecordOrder),
+        11 => Some(Refusal::Full),
+        12 => Some(Refusal::GatewayNotInSystem),
+        13 => Some(Refusal::NotOutstanding),
+        14 => Some(Refusal::Held),
+        15 => Some(Refusal::JoinInFlight),
+        16 => Some(Refusal::ShortOutput),
+        17 => Some(Refusal::RecordNeighbor),
+        18 => Some(Refusal::OwnEntry),
+        19 => Some(Refusal::NotHighest),
+        20 => Some(Refusal::HasAttached),
+        21 => Some(Refusal::HasFailed),
+        22 => Some(Refusal::TraceCounts),
+        23 => Some(Refusal::StepNotAllowed),
+        24 => Some(Refusal::UnsoundImage),
+        _ => None,
+    }
 }
 
-impl fmt::Display for About {
-    ghost output = { λ a. Some (place_text (number_of a.refusal) a.first a.second) };
-
-    fn fmt<W: fmt::Write>(&self, f: &mut fmt::Formatter<W>) -> fmt::Result {
-        let first = self.first;
-        let second = self.second;
-        if first == 0 {
-            return Ok(());
-        }
-        match self.refusal {
-            Refusal::NoSuchNode => write!(f, " at path {first}, place {second}"),
-            Refusal::StepNotAllowed => write!(f, " at path {first}, step {second}"),
-            _ => write!(f, " at record {first}"),
-        }
+// The sentence of a number, of which one that is no refusal's has no words.
+fn sentence_of(number: u64, place: u64) -> &'static str
+    ensures value { result.now ≡ sentence_text number place }
+    ensures upper_bound { length result.now ≤ 80 }
+{
+    match of_number(number) {
+        Some(refusal) => sentence(refusal, place),
+        None => "",
     }
+}
+
+// A path, and a place or step of it.
+fn in_path(out: &mut [u8], at: usize, label: &[u8], path: u64, k: u64) -> usize
+    requires { at + length label.now + 49 ≤ length out.old }
+    ensures put { Put out.old at (path_text label.now path k) out.new result }
+    ensures upper_bound { result ≤ at + length label.now + 49 }
+{
+    let end = text::labelled(out, at, b" at path ", path);
+    text::labelled(out, end, label, k)
+}
+
+// What the refusal is about; nothing, where first is 0.
+fn at_place(out: &mut [u8], at: usize, number: u64, first: u64, second: u64) -> usize
+    requires { at + 57 ≤ length out.old }
+    ensures put { Put out.old at (place_text number first second) out.new result }
+    ensures upper_bound { result ≤ at + 57 }
+{
+    if first == 0 {
+        return at;
+    }
+    match number {
+        NO_SUCH_NODE => in_path(out, at, b", place ", first, second),
+        STEP_NOT_ALLOWED => in_path(out, at, b", step ", first, second),
+        _ => text::labelled(out, at, b" at record ", first),
+    }
+}
+
+// Puts the refusal's line at the start of out, and answers how many bytes it has.
+pub fn put(out: &mut [u8], number: u64, first: u64, second: u64) -> usize
+    requires { 168 ≤ length out.old }
+    ensures put { Put out.old 0 (refused_text number first second) out.new result }
+    ensures upper_bound { result ≤ 168 }
+{
+    let place = text::labelled(out, 0, b"refused ", number);
+    let colon = at_place(out, place, number, first, second);
+    let words = piece(out, colon, b": ");
+    let end = piece(out, words, sentence_of(number, first).as_bytes());
+    piece(out, end, b"\n")
 }
 
 // A refusal as a line, with the answer's next two fields.
@@ -84,14 +150,10 @@ impl fmt::Display for Refused {
     ghost output = { λ r. Some (refused_text (number_of r.refusal) r.first r.second) };
 
     fn fmt<W: fmt::Write>(&self, f: &mut fmt::Formatter<W>) -> fmt::Result {
+        let mut room = [0; 168];
         let number = u64::from(self.refusal);
-        let about = About {
-            refusal: self.refusal,
-            first: self.first,
-            second: self.second,
-        };
-        let sentence = sentence(self.refusal, self.first);
-        write!(f, "refused {number}{about}: {sentence}\n")
+        let end = put(&mut room, number, self.first, self.second);
+        text::shown(&room[..end], f)
     }
 }
 

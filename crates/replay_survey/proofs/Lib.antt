@@ -1,3 +1,3 @@
 -- The laws by which a survey in words meets its definition.
 pub mod Pairs
-pub mod Written
+pub mod Pieces

@@ -1,14 +1,16 @@
-// A survey in words.
+// A survey in words, in lent memory.
 #![tactic(auto)]
 
-ghost use Rattle.std.specs.Prelude.{Some};
+ghost use Rattle.std.specs.Prelude.{Some, ◌≤◌, length};
+ghost use Rattle.putting.specs.Put.{Put};
 ghost use Rattle.replay_survey.specs.SurveyText.{survey_said};
 ghost use Rattle.replay_survey.specs.Showable.{Few, Showable, Pairs};
 
-use crate::bar::Bar;
+use crate::lines::{hops, lost};
+use putting::piece;
 use std::fmt;
 
-mod bar;
+pub mod lines;
 
 fn all_pairs(counts: [u64; 9]) -> u64
     requires { Few counts }
@@ -19,6 +21,20 @@ fn all_pairs(counts: [u64; 9]) -> u64
         pairs += count;
     }
     pairs
+}
+
+// Puts the words of the survey at the start of out, and answers how many bytes they are.
+pub fn put(out: &mut [u8], digits: usize, counts: [u64; 9]) -> usize
+    requires showable { Showable digits counts }
+    requires in_bounds { 943 ≤ length out.old }
+    ensures put { Put out.old 0 (survey_said digits counts) out.new result }
+    ensures upper_bound { result ≤ 943 }
+{
+    let pairs = all_pairs(counts);
+    let second = text::labelled(out, 0, b"survey: ", pairs);
+    let third = piece(out, second, b" pairs\n");
+    let fourth = hops(out, third, digits, counts, pairs);
+    lost(out, fourth, counts, pairs)
 }
 
 // A line of how many pairs there are, one for each number of hops, and one for the lost pairs.
@@ -33,17 +49,8 @@ impl fmt::Display for Survey {
     ghost output = { λ s. Some (survey_said s.digits s.counts) };
 
     fn fmt<W: fmt::Write>(&self, f: &mut fmt::Formatter<W>) -> fmt::Result {
-        let counts = self.counts;
-        let pairs = all_pairs(counts);
-        write!(f, "survey: {pairs} pairs\n")?;
-        for k in 0..self.digits {
-            let hops = k + 1;
-            let count = counts[k];
-            let bar = Bar { count, pairs };
-            write!(f, "  hops {hops} {count:>4}{bar}\n")?;
-        }
-        let count = counts[8];
-        let bar = Bar { count, pairs };
-        write!(f, "  lost   {count:>4}{bar}\n")
+        let mut room = [0; 943];
+        let end = put(&mut room, self.digits, self.counts);
+        text::shown(&room[..end], f)
     }
 }

@@ -1,2 +1,2 @@
 -- The laws by which a node's table in words meets its definition.
-pub mod Written
+pub mod Pieces

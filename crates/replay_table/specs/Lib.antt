@@ -1,2 +1,3 @@
 -- What the contracts of a node's table in words cite.
 pub mod TableText
+pub mod Shape

@@ -1,2 +1,2 @@
--- The laws by which what is said of a call meets its definition.
-pub mod Written
+-- The laws of words.
+pub mod Words

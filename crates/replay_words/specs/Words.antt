@@ -1,24 +1,14 @@
 -- What is said of a call, by the value that holds it.
 use Rattle.std.specs.Prelude.{ℕ, cond, List, [], ◌∷◌}
-use Rattle.model.specs.Join.{kind_copied, kind_sent_on, kind_attached, kind_notified}
 use Rattle.answers.specs.Numbers.{number_of}
 use Rattle.answers.specs.Fields.{taken_fields, short_fields}
-use Rattle.answers.specs.declared.delivery.Kind.{Kind}
-use Rattle.answers.specs.declared.delivery.Kind.TheVariants.{Copied, SentOn, Attached, Notified}
 use Rattle.text.specs.Ascii.{ascii}
 use Rattle.text.specs.Lines.{line}
 use Rattle.replay_survey.specs.SurveyText.{survey_said}
 use Rattle.replay_refusals.specs.Refused.{refused_text}
-use Rattle.replay_words.specs.Said.{bytes_text, kind_text, deliver_text, lookup_text, judged_text, additions_text, paths_text}
+use Rattle.replay_words.specs.Said.{bytes_text, deliver_text, lookup_text, judged_text, additions_text, paths_text}
 use Rattle.replay_words.specs.declared.said.Said.{Said}
 use Rattle.replay_words.specs.declared.said.Said.TheVariants.{Refused, Founded, Loaded, Begun, Withdrawn, Delivered, LookedUp, Surveyed, Judged, Filled, Saved, Traced, Sound}
-
--- what a delivery was
-abbrev pub kind_words : Kind → List ℕ
-kind_words Copied = kind_text kind_copied 0
-kind_words SentOn = kind_text kind_sent_on 0
-kind_words (Attached level) = kind_text kind_attached level
-kind_words Notified = kind_text kind_notified 0
 
 -- the words of an answer are those of its fields behind refusal 0
 abbrev pub words_of : Said → List ℕ

@@ -1,4 +1,5 @@
-// What `replay` says of an answer.
+// What `replay` says of an answer, put into lent memory.
 #![tactic(auto)]
 
+pub mod answer;
 pub mod said;

@@ -1,17 +1,19 @@
 // What is said of a call: that it was refused, or its answer.
-ghost use Rattle.std.specs.Prelude.{Some, [], ◌∷◌, ◌≡◌, cond, eqb};
-ghost use Rattle.answers.specs.Fields.{short_fields};
-ghost use Rattle.replay_words.specs.Said.{settled_text, end_text, lookup_text, judged_text};
-ghost use Rattle.replay_words.specs.Words.{kind_words, words_of};
+ghost use Rattle.std.specs.Prelude.{Some, [], ◌∷◌, ◌≤◌, cond, length};
+ghost use Rattle.answers.specs.Fields.{taken_fields, short_fields};
+ghost use Rattle.answers.specs.Numbers.{number_of};
+ghost use Rattle.putting.specs.Put.{Put};
+ghost use Rattle.replay_refusals.specs.Refused.{refused_text};
+ghost use Rattle.replay_words.specs.Said.{deliver_text, lookup_text, judged_text};
+ghost use Rattle.replay_words.specs.Words.{words_of};
 
+use crate::answer;
 use answers::delivery::{Delivery, Kind};
 use answers::lookup::Lookup;
 use answers::verdict::ShortEntry;
-use replay_entries::Entry;
 use replay_refusals::Refused;
 use replay_survey::Survey;
 use std::fmt;
-use text::Line;
 
 #[derive(Clone, Copy)]
 pub enum Said {
@@ -37,89 +39,70 @@ pub enum Said {
     Sound,
 }
 
-// What a delivery was.
-#[derive(Clone, Copy)]
-struct KindWords(Kind);
+fn refused(out: &mut [u8], refused: Refused) -> usize
+    requires { 168 ≤ length out.old }
+    ensures put { Put out.old 0 (refused_text (number_of refused.refusal) refused.first refused.second) out.new result }
+    ensures upper_bound { result ≤ 168 }
+{
+    let number = u64::from(refused.refusal);
+    replay_refusals::put(out, number, refused.first, refused.second)
+}
 
-impl fmt::Display for KindWords {
-    ghost output = { λ k. Some (kind_words k.0) };
-
-    #[tactic(auto, unfolding(crate::specs::Said::kind_text))]
-    fn fmt<W: fmt::Write>(&self, f: &mut fmt::Formatter<W>) -> fmt::Result {
-        match self.0 {
-            Kind::Copied => write!(f, "deliver: copied"),
-            Kind::SentOn => write!(f, "deliver: sent on"),
-            Kind::Attached(level) => write!(f, "deliver: attached at level {level}"),
-            Kind::Notified => write!(f, "deliver: notified"),
-        }
+fn delivered(out: &mut [u8], delivery: Delivery) -> usize
+    requires { 57 ≤ length out.old }
+    ensures put { Put out.old 0 (deliver_text (0 ∷ taken_fields delivery)) out.new result }
+    ensures upper_bound { result ≤ 57 }
+{
+    let settled = u64::from(delivery.settled);
+    match delivery.kind {
+        Kind::Copied => answer::delivered(out, 1, 0, settled),
+        Kind::SentOn => answer::delivered(out, 2, 0, settled),
+        Kind::Attached(level) => answer::delivered(out, 3, level, settled),
+        Kind::Notified => answer::delivered(out, 4, 0, settled),
     }
 }
 
-// Whether the sender settled.
-#[tactic(auto, unfolding(crate::specs::Said::settled_text))]
-fn settled(settled: bool) -> &'static str
-    ensures { result.now ≡ settled_text (cond settled 1 0) }
+fn looked_up(out: &mut [u8], lookup: Lookup) -> usize
+    requires { 69 ≤ length out.old }
+    ensures put { Put out.old 0 (lookup_text (0 ∷ cond lookup.arrived 1 0 ∷ lookup.hops ∷ lookup.last ∷ [])) out.new result }
+    ensures upper_bound { result ≤ 69 }
 {
-    if settled { ", settled\n" } else { "\n" }
-}
-
-#[tactic(auto, unfolding(crate::specs::Said::end_text))]
-fn ended(arrived: bool) -> &'static str
-    ensures { result.now ≡ end_text (cond arrived 1 0) }
-{
-    if arrived {
-        "lookup: arrived at "
-    } else {
-        "lookup: lost at "
-    }
-}
-
-// What a number is a number of: one, or any other number.
-fn noun(n: u64, one: &'static str, many: &'static str) -> &'static str
-    ensures { result.now ≡ cond (eqb n 1) one.now many.now }
-{
-    if n == 1 { one } else { many }
-}
-
-// Where a lookup ended, and in how many hops.
-#[derive(Clone, Copy)]
-struct Walk {
-    arrived: bool,
-    hops: u64,
-    last: u64,
-}
-
-impl fmt::Display for Walk {
-    ghost output = { λ w. Some (lookup_text (0 ∷ cond w.arrived 1 0 ∷ w.hops ∷ w.last ∷ [])) };
-
-    fn fmt<W: fmt::Write>(&self, f: &mut fmt::Formatter<W>) -> fmt::Result {
-        let end = ended(self.arrived);
-        let last = self.last;
-        let hops = self.hops;
-        let noun = noun(hops, " hop\n", " hops\n");
-        write!(f, "{end}{last} in {hops}{noun}")
-    }
+    let arrived = u64::from(lookup.arrived);
+    answer::looked_up(out, arrived, lookup.hops as u64, lookup.last as u64)
 }
 
 // The first entry that falls short, if there is one.
-#[derive(Clone, Copy)]
-struct Verdict(Option<ShortEntry>);
+fn judged(out: &mut [u8], entry: Option<ShortEntry>) -> usize
+    requires { 82 ≤ length out.old }
+    ensures put { Put out.old 0 (judged_text (0 ∷ short_fields entry)) out.new result }
+    ensures upper_bound { result ≤ 82 }
+{
+    match entry {
+        None => answer::judged(out, 1, 0, 0, 0),
+        Some(e) => answer::judged(out, 0, e.node as u64, e.level as u64, e.digit as u64),
+    }
+}
 
-impl fmt::Display for Verdict {
-    ghost output = { λ v. Some (judged_text (0 ∷ short_fields v.0)) };
-
-    fn fmt<W: fmt::Write>(&self, f: &mut fmt::Formatter<W>) -> fmt::Result {
-        match self.0 {
-            None => write!(f, "verdict: consistent\n"),
-            Some(short) => {
-                let entry = Entry {
-                    node: short.node as u64,
-                    level: short.level as u64,
-                    digit: short.digit as u64,
-                };
-                write!(f, "verdict: {entry} falls short\n")
-            }
-        }
+// Puts the words at the start of out, and answers how many bytes they are.
+pub fn put(out: &mut [u8], said: Said) -> usize
+    requires { 943 ≤ length out.old }
+    ensures put { Put out.old 0 (words_of said) out.new result }
+    ensures upper_bound { result ≤ 943 }
+{
+    match said {
+        Said::Refused(refusal) => refused(out, refusal),
+        Said::Founded => answer::founded(out),
+        Said::Loaded(n) => answer::loaded(out, n),
+        Said::Begun(node) => answer::begun(out, node),
+        Said::Withdrawn(node) => answer::withdrawn(out, node),
+        Said::Delivered(delivery) => delivered(out, delivery),
+        Said::LookedUp(lookup) => looked_up(out, lookup),
+        Said::Surveyed(survey) => replay_survey::put(out, survey.digits, survey.counts),
+        Said::Judged(entry) => judged(out, entry),
+        Said::Filled(n) => answer::filled(out, n),
+        Said::Saved(n) => answer::saved(out, n),
+        Said::Traced(n) => answer::traced(out, n),
+        Said::Sound => answer::sound(out),
     }
 }
 
@@ -127,48 +110,8 @@ impl fmt::Display for Said {
     ghost output = { λ s. Some (words_of s) };
 
     fn fmt<W: fmt::Write>(&self, f: &mut fmt::Formatter<W>) -> fmt::Result {
-        match *self {
-            Said::Refused(refused) => write!(f, "{refused}"),
-            Said::Founded => write!(f, "found: node 1\n"),
-            Said::Loaded(bytes) => write!(f, "load: {bytes} bytes\n"),
-            Said::Begun(n) => {
-                let label = "begin: node ";
-                let line = Line { label, n };
-                write!(f, "{line}")
-            }
-            Said::Withdrawn(n) => {
-                let label = "withdraw: node ";
-                let line = Line { label, n };
-                write!(f, "{line}")
-            }
-            Said::Delivered(delivery) => {
-                let kind = KindWords(delivery.kind);
-                let end = settled(delivery.settled);
-                write!(f, "{kind}{end}")
-            }
-            Said::LookedUp(lookup) => {
-                let walk = Walk {
-                    arrived: lookup.arrived,
-                    hops: lookup.hops as u64,
-                    last: lookup.last as u64,
-                };
-                write!(f, "{walk}")
-            }
-            Said::Surveyed(survey) => write!(f, "{survey}"),
-            Said::Judged(short) => {
-                let verdict = Verdict(short);
-                write!(f, "{verdict}")
-            }
-            Said::Filled(additions) => {
-                let noun = noun(additions, " addition\n", " additions\n");
-                write!(f, "fill: {additions}{noun}")
-            }
-            Said::Saved(bytes) => write!(f, "save: {bytes} bytes\n"),
-            Said::Traced(paths) => {
-                let noun = noun(paths, " path accepted\n", " paths accepted\n");
-                write!(f, "trace: {paths}{noun}")
-            }
-            Said::Sound => write!(f, "sound: the state is sound\n"),
-        }
+        let mut room = [0; 943];
+        let end = put(&mut room, *self);
+        text::shown(&room[..end], f)
     }
 }

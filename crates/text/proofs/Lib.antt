@@ -1,2 +1,3 @@
--- The laws by which std writes what the definitions say.
-pub mod Numerals
+-- The laws of text put together piece by piece.
+pub mod Decimals
+pub mod Pieces

@@ -1,7 +1,5 @@
--- The program's text is that of its definition. Assumes nothing.
-use Rattle.std.proofs.Common.{ℕ, Bool, true, false, cond, ◌≡◌, ◌≢◌, ◌<◌, ◌^◌, ap, ap₂, sym, ◌∙◌, refl, List, [], ◌∷◌, ◌++◌, append_assoc, append-nil}
-use Rattle.std.specs.Prelude.{codes}
-use Rattle.std.specs.Fmt.{decimal}
+-- Lines put together piece by piece, and the answers they show. Assumes nothing.
+use Rattle.std.proofs.Common.{ℕ, Bool, true, false, cond, ◌≡◌, ◌≢◌, ap, sym, ◌∙◌, refl, List, [], ◌∷◌, ◌++◌, append-nil}
 use Rattle.model.specs.Memory.{Memory}
 use Rattle.model.specs.Calls.{Outcome, verdict_call}
 use Rattle.answers.specs.Numbers.{number_of}
@@ -9,12 +7,12 @@ use Rattle.answers.specs.declared.error.Refusal.{Refusal}
 use Rattle.answers.specs.declared.error.Refusal.TheVariants.{ShortMemory, Unsound, NotAnImage, ImageVersion, BadSetting, ImageCounts, BadId, IdTaken, NoSuchNode, RecordOrder, Full, GatewayNotInSystem, NotOutstanding, Held, JoinInFlight, ShortOutput, RecordNeighbor, OwnEntry, NotHighest, HasAttached, HasFailed, TraceCounts, StepNotAllowed, UnsoundImage}
 use Rattle.answers.proofs.Errors.{numbered_from_one}
 use Rattle.engine.specs.Outcomes.{leaves}
+use Rattle.putting.specs.Put.{Put}
+use Rattle.putting.proofs.Putting.{four_pieces}
 use Rattle.text.specs.Ascii.{ascii}
 use Rattle.text.specs.Lines.{labelled, line}
-use Rattle.text.specs.Numbers as numbers
-use Rattle.text.proofs.Numerals.{labelled_is, line_is}
 use Rattle.image_program.specs.Printed.{line_one}
-use Rattle.image_program.proofs.Printing.{line_one_is, no_refusal, answer_refused, answer_taken}
+use Rattle.image_program.proofs.Printing.{answer_refused, answer_taken}
 use Rattle.verdict.specs.Lines.{line_two, fields_line, verdict_text, verdict_of, about_record, refused_lines}
 use Rattle.verdict.specs.Reports.{report_text}
 use Rattle.verdict.specs.declared.report.Report.TheVariants.{Refused}
@@ -47,47 +45,33 @@ about_no_record TraceCounts a b c = refl
 about_no_record StepNotAllowed a b c = refl
 about_no_record UnsoundImage a b c = refl
 
--- ---- what is written of a report
+-- ---- a report put together piece by piece
 
-module _ (n place : ℕ) (h : n < 2 ^ 64) where
+pub line_two_put : (c x i j : ℕ) (o : List ℕ) (a : ℕ) (p : List ℕ) (e : ℕ) (q : List ℕ) (g : ℕ) (r : List ℕ) (h : ℕ) (w : List ℕ) (k : ℕ)
+    → Put o a (labelled (ascii "consistent ") c) p e → Put p e (labelled (ascii " at ") x) q g
+    → Put q g (labelled (ascii " ") i) r h → Put r h (line (ascii " ") j) w k → Put o a (line_two c x i j) w k
+unfolding line_two
+line_two_put c x i j o a p e q g r h w k P Q R W = four_pieces o a _ p e _ q g P Q _ r h _ w k R W
+
+-- ---- what a report says
+
+-- a refused reading: line one alone, or the place behind it
+module _ (n place : ℕ) where
   abbrev lines_if : Bool → List ℕ
   lines_if b = line_one n ++ cond b (line (ascii "record ") place) []
 
-  pub record_is : place < 2 ^ 64 → true ≡ about_record n
-      → codes "refusal " ++ (decimal n ++ (codes "\nrecord " ++ (decimal place ++ codes "\n"))) ≡ refused_lines (n ∷ place ∷ [])
+  pub record_is : true ≡ about_record n → line_one n ++ line (ascii "record ") place ≡ refused_lines (n ∷ place ∷ [])
   unfolding refused_lines
-  record_is k e =
-      ap (λ l. codes "refusal " ++ l) (sym (append_assoc (decimal n) (codes "\n") (codes "record " ++ (decimal place ++ codes "\n"))))
-      ∙ ap₂ ◌++◌ (line_one_is n h) (sym (line_is (ascii "record ") place k)) ∙ ap lines_if e
+  record_is e = ap lines_if e
 
-  pub no_record_is : false ≡ about_record n → codes "refusal " ++ (decimal n ++ codes "\n") ≡ refused_lines (n ∷ place ∷ [])
+  pub no_record_is : false ≡ about_record n → line_one n ≡ refused_lines (n ∷ place ∷ [])
   unfolding refused_lines
-  no_record_is e = line_one_is n h ∙ sym (append-nil (line_one n)) ∙ ap lines_if e
+  no_record_is e = sym (append-nil (line_one n)) ∙ ap lines_if e
 
-pub yes_is : codes "refusal 0\nconsistent 1 at 0 0 0\n" ≡ line_one 0 ++ line_two 1 0 0 0
-unfolding line_one line_two line labelled numbers.decimal numbers.decimal_within
-yes_is = refl
-
-no : codes "consistent 0" ≡ labelled (ascii "consistent ") 0
-unfolding labelled numbers.decimal numbers.decimal_within
-no = refl
-
-pub short_is : (x i j : ℕ) → x < 2 ^ 64 → i < 2 ^ 64 → j < 2 ^ 64
-    → codes "refusal 0\nconsistent 0 at " ++ (decimal x ++ (codes " " ++ (decimal i ++ (codes " " ++ (decimal j ++ codes "\n"))))) ≡ line_one 0 ++ line_two 0 x i j
-unfolding line_two
-short_is x i j a b c =
-    ap₂ (λ l m. l ++ (codes "consistent 0" ++ m)) no_refusal
-    (ap (λ m. codes " at " ++ (decimal x ++ m))
-    (ap (λ m. codes " " ++ (decimal i ++ m)) (sym (line_is (ascii " ") j c)) ∙ sym (append_assoc (codes " ") (decimal i) _) ∙ ap (λ l. l ++ line (ascii " ") j) (sym (labelled_is (ascii " ") i b)))
-    ∙ sym (append_assoc (codes " at ") (decimal x) _) ∙ ap (λ l. l ++ (labelled (ascii " ") i ++ line (ascii " ") j)) (sym (labelled_is (ascii " at ") x a)))
-    ∙ ap (λ l. line_one 0 ++ (l ++ (labelled (ascii " at ") x ++ (labelled (ascii " ") i ++ line (ascii " ") j)))) no
-
--- ---- what the verdict answers on m
-
+-- what the verdict answers on m
 module _ (m : Memory) where
-  pub unjudged : (r : Refusal) → number_of r < 2 ^ 64 → leaves m (number_of r ∷ 0 ∷ 0 ∷ 0 ∷ 0 ∷ []) ≡ verdict_call m → report_text (Refused r) ≡ verdict_of m
-  unjudged r h e =
-      line_one_is (number_of r) h ∙ answer_refused (number_of r ∷ 0 ∷ 0 ∷ 0 ∷ 0 ∷ []) _ (numbered_from_one r) ∙ ap (λ (o : Outcome). verdict_text o.answer) e
+  pub unjudged : (r : Refusal) → leaves m (number_of r ∷ 0 ∷ 0 ∷ 0 ∷ 0 ∷ []) ≡ verdict_call m → report_text (Refused r) ≡ verdict_of m
+  unjudged r e = answer_refused (number_of r ∷ 0 ∷ 0 ∷ 0 ∷ 0 ∷ []) _ (numbered_from_one r) ∙ ap (λ (o : Outcome). verdict_text o.answer) e
 
   pub judged : (fields : List ℕ) → leaves m (0 ∷ fields) ≡ verdict_call m → line_one 0 ++ fields_line fields ≡ verdict_of m
   judged fields e = answer_taken (0 ∷ fields) _ refl ∙ ap (λ (o : Outcome). verdict_text o.answer) e

@@ -1,17 +1,18 @@
 -- `panel`: the panel of a sound network, or the refusal. Assumes nothing.
-use mathlib.Core.Path.{ap, ◌∙◌}
-use Rattle.answers.specs.Numbers.{number_of}
+use native.Mathlib.Omega.{arith}
+use mathlib.Core.Path.{sym, ap, ◌∙◌}
 use Rattle.replay_panel.specs.PanelText.{panel_text}
 use Rattle.replay_refusals.specs.Refused.{refused_text}
-use Rattle.replay_refusals.specs.declared.Refused.{Refused}
-use Rattle.replay.proofs.Turns.{says_refused, says_shown, written}
+use Rattle.text.proofs.Pieces.{by_key}
+use Rattle.replay.proofs.Turns.{says_refused, says_shown}
 use Rattle.replay.proofs.said.panel.Goals as goal
 
 pub returns-in-Ok : goal.returns-in-Ok
-returns-in-Ok g c =
+returns-in-Ok c =
     let j = c.in-Ok.ensures in
-    written _ _ _ _ _ (ap panel_text j.ok.0 ∙ says_shown _ _ j.refusal) c.write.ensures.bytes
+    record { put = by_key (λ text. text) _ _ (sym (ap panel_text j.ok.0 ∙ says_shown _ _ j.refusal)) _ _ _ _ c.put.ensures.put; upper_bound = omega arith }
 
 pub returns-in-Err : goal.returns-in-Err
-returns-in-Err g c =
-    written _ _ _ _ _ (ap (λ (x : Refused). refused_text (number_of x.refusal) x.first x.second) c.from-refused.ensures ∙ says_refused _ _ _ c.in-Err.ensures.refusal) c.write-in-Err.ensures.bytes
+returns-in-Err c =
+    let said = ap (λ number. refused_text number 0 0) c.from.ensures ∙ says_refused _ _ _ c.in-Err.ensures.refusal in
+    record { put = by_key (λ text. text) _ _ (sym said) _ _ _ _ c.put-in-Err.ensures.put; upper_bound = omega arith }

@@ -1,7 +1,8 @@
--- `unknown`: two pieces and a number. Assumes nothing.
-use Rattle.std.proofs.Common.{rules}
-use Rattle.replay.proofs.Turns.{unknown_is, written}
+-- `unknown`: two pieces. Assumes nothing.
+use native.Mathlib.Omega.{arith}
+use Rattle.replay.proofs.Turns.{unknown_put}
 use Rattle.replay.proofs.said.unknown.Goals as goal
 
 pub returns : goal.returns
-returns g c = written _ _ _ _ _ (unknown_is c.args.number (search rules)) c.write.ensures.bytes
+returns c =
+    record { put = search unknown_put; upper_bound = omega (arith, c.piece.ensures.ends) }

@@ -1,12 +1,7 @@
-use Rattle.std.proofs.Common.{rules}
+-- `fmt`: what was put is what is written. Assumes nothing.
 use Rattle.std.proofs.Output.{has_written_of_eq}
-use Rattle.replay_panel.proofs.Written.{record_is}
+use Rattle.text.proofs.Pieces.{put_shown}
 use Rattle.replay_panel.proofs.record.RecordDisplay.fmt.Goals as goal
 
 pub returns-clause-writes : goal.returns-clause-writes
-returns-clause-writes g c =
-    let at = c.args.self.now in
-    λ p ok.
-    has_written_of_eq _ _ _ _ _
-    (record_is at.network.state.now at.network.tables.now at.x c.record-node.result _ at.network.sound at.node c.record-node.ensures c.settings-digits.ensures.digits)
-    (search rules)
+returns-clause-writes g c = λ p ok. has_written_of_eq _ _ _ _ _ (put_shown _ _ _ _ c.put-end.ensures.put) (c.shown.ensures p ok)
