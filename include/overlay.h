@@ -34,7 +34,7 @@ extern "C" {
 /* ---- version: of this header and of the archive that comes with it; CHANGES.md has a section for each */
 
 #define OVERLAY_VERSION_MAJOR 1
-#define OVERLAY_VERSION_MINOR 12
+#define OVERLAY_VERSION_MINOR 13
 
 /* ---- lengths */
 
